@@ -1,0 +1,127 @@
+-- Laws of fields and of how a text begins. Assumes nothing.
+use mathlib.Core.Path.{_≡_, refl, sym, ap, _∙_}
+use mathlib.Core.Bool.{Bool, true, false, _||_}
+use mathlib.Core.List.{List, [], _∷_, _++_, append-nil, append-assoc}
+use Prim.Native.Nat.{ℕ, zero, suc, _+_, _≤_, _<_}
+use native.Mathlib.Numerals.{add-one}
+use native.Mathlib.Omega.{arith}
+use borrow.Author.Tests.{eq-eqb, ne-eqb, eqb-true}
+use lib.Dec.{eqb}
+use lib.ListN.{length, take, drop, getD, length-append, drop-of-length-le}
+use lib.Seq.{drop-cons, take-suc, take-all}
+use Rattle.text.specs.Quoted.{tab, feed}
+use Rattle.text.specs.Field.{fieldOf, begins, agreed}
+
+-- ---- a byte at the start
+
+pub begins-at : (b : ℕ) (t : List ℕ) (i : ℕ) → i < length t → begins b (drop i t) ≡ eqb (getD t i 0) b
+begins-at b t i h = rw (drop-cons t i 0)
+
+pub begins-past : (b : ℕ) (t : List ℕ) → length t ≡ 0 → begins b t ≡ false
+begins-past b [] h = refl
+begins-past b (c ∷ t) h = absurd (omega arith)
+
+pub begins-head : (b : ℕ) (t : List ℕ) → 0 < length t → begins b t ≡ eqb (getD t 0 0) b
+begins-head b [] h = absurd (omega arith)
+begins-head b (c ∷ t) h = refl
+
+pub begins-some : (b : ℕ) (t : List ℕ) → begins b t ≡ true → 0 < length t
+begins-some b [] e = absurd (mathlib.Core.Bool.true≢false (sym e))
+begins-some b (c ∷ t) e = omega arith
+
+-- a text that begins with b is b and the rest
+pub begins-cons : (b : ℕ) (t : List ℕ) → begins b t ≡ true → t ≡ b ∷ drop 1 t
+begins-cons b [] e = absurd (mathlib.Core.Bool.true≢false (sym e))
+begins-cons b (c ∷ t) e = ap (λ (x : ℕ). x ∷ t) (eqb-true c b e)
+
+-- ---- the field, walked byte by byte
+
+field-stop : (b : ℕ) (t : List ℕ) → (eqb b tab || eqb b feed) ≡ true → fieldOf (b ∷ t) ≡ []
+unfolding fieldOf
+field-stop b t e = rw (e, fieldOf)
+
+field-more : (b : ℕ) (t : List ℕ) → (eqb b tab || eqb b feed) ≡ false → fieldOf (b ∷ t) ≡ b ∷ fieldOf t
+unfolding fieldOf
+field-more b t e = rw (e, fieldOf)
+
+-- the field is what was passed and the field of what is left
+abbrev pub Walked : List ℕ → ℕ → Type 0
+Walked t i = fieldOf t ≡ take i t ++ fieldOf (drop i t)
+
+module _ (t : List ℕ) (i : ℕ) where
+  pub walked-stop : i < length t → Walked t i → (eqb (getD t i 0) tab || eqb (getD t i 0) feed) ≡ true → take i t ≡ fieldOf t
+  walked-stop h w e = sym (w ∙ rw (drop-cons t i 0, field-stop (getD t i 0) (drop (suc i) t) e, append-nil))
+
+  pub walked-more : i < length t → Walked t i → (eqb (getD t i 0) tab || eqb (getD t i 0) feed) ≡ false → Walked t (i + 1)
+  walked-more h w e = w ∙ rw (add-one, drop-cons t i 0, take-suc t i 0, append-assoc, field-more (getD t i 0) (drop (suc i) t) e)
+
+  pub walked-end : length t ≤ i → Walked t i → t ≡ fieldOf t
+  unfolding fieldOf
+  walked-end h w = sym (w ∙ rw (take-all i t, drop-of-length-le t {i = i} h, append-nil))
+
+-- ---- the field and what stands after it
+
+pub field-split : (t : List ℕ) → fieldOf t ++ drop (length (fieldOf t)) t ≡ t
+unfolding fieldOf
+field-split [] = refl
+field-split (b ∷ t) = go (eqb b tab || eqb b feed) refl (field-split t)
+  where
+    go : (u : Bool) → (eqb b tab || eqb b feed) ≡ u → fieldOf t ++ drop (length (fieldOf t)) t ≡ t → fieldOf (b ∷ t) ++ drop (length (fieldOf (b ∷ t))) (b ∷ t) ≡ b ∷ t
+    go true e ih = rw (field-stop b t e)
+    go false e ih = rw (field-more b t e) (ap (λ (l : List ℕ). b ∷ l) ih)
+
+pub field-most : (t : List ℕ) → length (fieldOf t) ≤ length t
+field-most t = omega (arith, length-append (fieldOf t) (drop (length (fieldOf t)) t), ap length (field-split t))
+
+-- ---- how far a tag and a text agree
+
+-- a tag that agrees whole stands at the text's start
+pub agreed-whole : (s t : List ℕ) → agreed s t ≡ length s → t ≡ s ++ drop (length s) t
+unfolding agreed
+agreed-whole [] t e = refl
+agreed-whole (a ∷ s) [] e = absurd (omega arith)
+agreed-whole (a ∷ s) (b ∷ t) e = go (eqb b a) refl e (agreed-whole s t)
+  where
+    go : (u : Bool) → eqb b a ≡ u → (elim u [ true ↦ suc (agreed s t) | false ↦ 0 ]) ≡ suc (length s) → (agreed s t ≡ length s → t ≡ s ++ drop (length s) t) → b ∷ t ≡ a ∷ (s ++ drop (length s) t)
+    go true w d ih =
+        let q : b ≡ a = eqb-true b a w in
+        let r : t ≡ s ++ drop (length s) t = ih (omega arith) in
+        ap (λ (x : ℕ). x ∷ t) q ∙ ap (λ (x : List ℕ). a ∷ x) r
+    go false w d ih = absurd (omega arith)
+
+-- and a text that starts with the tag agrees whole
+pub agreed-self : (s t : List ℕ) → agreed s (s ++ t) ≡ length s
+unfolding agreed
+agreed-self [] t = refl
+agreed-self (a ∷ s) t = rw (eq-eqb a a refl, agreed) (ap suc (agreed-self s t))
+
+pub agreed-fits : (s t : List ℕ) → agreed s t ≤ length t
+unfolding agreed
+agreed-fits [] t = omega arith
+agreed-fits (a ∷ s) [] = omega arith
+agreed-fits (a ∷ s) (b ∷ t) = go (eqb b a) (agreed-fits s t)
+  where
+    go : (u : Bool) → agreed s t ≤ length t → (elim u [ true ↦ suc (agreed s t) | false ↦ 0 ]) ≤ suc (length t)
+    go true ih = omega arith
+    go false ih = omega arith
+
+agreed-nil : (s : List ℕ) → agreed s [] ≡ 0
+unfolding agreed
+agreed-nil [] = refl
+agreed-nil (a ∷ s) = refl
+
+module _ (s t : List ℕ) (i : ℕ) where
+  pub agreed-past : length t ≤ i → agreed (drop i s) (drop i t) ≡ 0
+  agreed-past h = rw (drop-of-length-le t {i = i} h) (agreed-nil (drop i s))
+
+  pub agreed-done : length s ≤ i → agreed (drop i s) (drop i t) ≡ 0
+  unfolding agreed
+  agreed-done h = rw (drop-of-length-le s {i = i} h)
+
+  pub agreed-differs : i < length s → i < length t → (getD t i 0 ≡ getD s i 0 → ⊥) → agreed (drop i s) (drop i t) ≡ 0
+  unfolding agreed
+  agreed-differs h l n = rw (drop-cons s i 0, drop-cons t i 0, ne-eqb (getD t i 0) (getD s i 0) n, agreed)
+
+  pub agreed-more : i < length s → i < length t → getD t i 0 ≡ getD s i 0 → agreed (drop i s) (drop i t) ≡ suc (agreed (drop (i + 1) s) (drop (i + 1) t))
+  unfolding agreed
+  agreed-more h l e = rw (add-one i, drop-cons s i 0, drop-cons t i 0, eq-eqb (getD t i 0) (getD s i 0) e, agreed)

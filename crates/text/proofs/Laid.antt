@@ -1,0 +1,50 @@
+-- Bytes laid into a lent slice, one piece after the other. Assumes nothing.
+use mathlib.Core.Path.{_≡_, refl, sym, ap, _∙_}
+use mathlib.Core.List.{List, [], _∷_, _++_}
+use Prim.Native.Nat.{ℕ, _+_, _-_, _/_, _%_, _≤_, _<_}
+use native.Mathlib.Omega.{arith}
+use native.Mathlib.Nat.{add-zero}
+use lib.ListN.{length, take, drop, set, length-append}
+use lib.Seq.{sets}
+use Rattle.text.specs.Number.{digitsOf}
+use Rattle.text.specs.Line.{Laid}
+use Rattle.text.proofs.Stores.{sets-append, sets-out, rest-part, part-sets}
+use Rattle.text.proofs.Number.{digits-small, digits-more}
+
+pub laid-none : (o : List ℕ) (at : ℕ) → Laid [] o at at o
+laid-none o at = record { end = sym (add-zero at); laid = refl }
+
+-- a piece after a piece
+pub laid-more : {bs ds o₀ o₁ o : List ℕ} {at mid r : ℕ} → Laid bs o₀ at mid o₁ → Laid ds o₁ mid r o → Laid (bs ++ ds) o₀ at r o
+laid-more {bs} {ds} {o₀} {o₁} {o} {at} {mid} {r} p q =
+    record {
+      end = omega (arith, p .end, q .end, length-append bs ds);
+      laid = q .laid ∙ rw (p .laid, p .end, ← sets-append o₀ at bs ds);
+    }
+
+pub laid-byte : (o : List ℕ) (at b : ℕ) → Laid (b ∷ []) o at (at + 1) (set o at b)
+laid-byte o at b = record { end = refl; laid = refl }
+
+-- bytes laid from the start
+pub laid-start : (bs o o₁ : List ℕ) → o₁ ≡ sets o 0 bs → Laid bs o 0 (length bs) o₁
+laid-start bs o o₁ e = record { end = omega arith; laid = e }
+
+-- bytes laid into the part from `at` on, seen from the whole
+pub laid-part : (bs o ys : List ℕ) (at r : ℕ) → Laid bs (take (length o - at) (drop at o)) 0 r ys → Laid bs o at (at + r) (take at o ++ (ys ++ drop (length o - at) (drop at o)))
+laid-part bs o ys at r p =
+    let e : ys ≡ sets (drop at o) 0 bs = p .laid ∙ rw (rest-part o at) in
+    record { end = omega (arith, p .end); laid = rw e (part-sets o at bs) }
+
+-- bytes past the end, which leave the whole as it was
+pub laid-past : (bs o ys : List ℕ) (at r : ℕ) → length o ≤ at → Laid bs [] 0 r ys → Laid bs o at (at + r) (ys ++ o)
+laid-past bs o ys at r h p =
+    let e : ys ≡ [] = p .laid ∙ sets-out [] 0 bs (omega arith) in
+    record { end = omega (arith, p .end); laid = rw (e, sets-out o at bs h) }
+
+-- ---- a number
+
+pub laid-digit : (n : ℕ) (o₀ o : List ℕ) → n < 10 → o ≡ set o₀ 0 (48 + n) → Laid (digitsOf n) o₀ 0 1 o
+laid-digit n o₀ o h e = record { end = rw (digits-small n h); laid = e ∙ rw (digits-small n h) }
+
+pub laid-digits : (n : ℕ) (o₀ o₁ o : List ℕ) (mid : ℕ) → 10 ≤ n → Laid (digitsOf (n / 10)) o₀ 0 mid o₁ → o ≡ set o₁ mid (48 + n % 10) → Laid (digitsOf n) o₀ 0 (mid + 1) o
+laid-digits n o₀ o₁ o mid h p e = rw (digits-more n h, e) (laid-more p (laid-byte o₁ mid (48 + n % 10)))

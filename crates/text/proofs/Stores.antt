@@ -1,0 +1,50 @@
+-- Runs of stores into a lent slice, `sets` of lib.Seq, where what would go past the end is dropped. Assumes nothing.
+use mathlib.Core.Path.{_≡_, refl, sym, ap, _∙_}
+use mathlib.Core.List.{List, [], _∷_, _++_, append-nil}
+use Prim.Native.Nat.{ℕ, zero, suc, _+_, _-_, _≤_, _<_}
+use native.Mathlib.Nat.{add-zero, add-suc, suc-add}
+use native.Mathlib.Omega.{arith}
+use native.Mathlib.Numerals.{add-one}
+use lib.ListN.{length, getD, take, drop, set, length-drop, take-append-drop, drop-of-length-le}
+use lib.Seq.{sets, take-all, set-out, take-suc, length-take-le, take-set-le, drop-set-add}
+
+pub sets-append : (l : List ℕ) (i : ℕ) (xs ys : List ℕ) → sets l i (xs ++ ys) ≡ sets (sets l i xs) (i + length xs) ys
+sets-append l i [] ys = rw add-zero
+sets-append l i (x ∷ xs) ys = sets-append (set l i x) (suc i) xs ys ∙ rw (add-suc, ← suc-add)
+
+-- one store more
+pub sets-snoc : (l : List ℕ) (i : ℕ) (xs : List ℕ) (y : ℕ) → set (sets l i xs) (i + length xs) y ≡ sets l i (xs ++ (y ∷ []))
+sets-snoc l i xs y = sym (sets-append l i xs (y ∷ []))
+
+-- a copying loop's turn
+pub sets-take : (l s : List ℕ) (i : ℕ) → i < length s → set (sets l 0 (take i s)) i (getD s i 0) ≡ sets l 0 (take (i + 1) s)
+sets-take l s i h =
+    let e : i ≡ 0 + length (take i s) = omega (arith, length-take-le i s (omega arith)) in
+    ap (λ (k : ℕ). set (sets l 0 (take i s)) k (getD s i 0)) e ∙ sets-snoc l 0 (take i s) (getD s i 0) ∙ rw (add-one i, take-suc s i 0)
+
+pub sets-out : (l : List ℕ) (i : ℕ) (xs : List ℕ) → length l ≤ i → sets l i xs ≡ l
+sets-out l i [] h = refl
+sets-out l i (x ∷ xs) h = rw (set-out l i x h) (sets-out l (suc i) xs (omega arith))
+
+-- the stores into the part from n on, seen from the whole
+pub drop-sets : (l : List ℕ) (n i : ℕ) (xs : List ℕ) → drop n (sets l (n + i) xs) ≡ sets (drop n l) i xs
+drop-sets l n i [] = refl
+drop-sets l n i (x ∷ xs) = rw (← add-suc n i) (drop-sets (set l (n + i) x) n (suc i) xs ∙ rw (drop-set-add n l i x))
+
+pub take-sets : (l : List ℕ) (n i : ℕ) (xs : List ℕ) → n ≤ i → take n (sets l i xs) ≡ take n l
+take-sets l n i [] h = refl
+take-sets l n i (x ∷ xs) h = take-sets (set l i x) n (suc i) xs (omega arith) ∙ take-set-le n l i x h
+
+-- ---- parts, as the code lends them
+
+-- the part of t from a on
+pub rest-part : (t : List ℕ) (a : ℕ) → take (length t - a) (drop a t) ≡ drop a t
+rest-part t a = take-all (length t - a) (drop a t) (omega (arith, length-drop a t))
+
+-- what comes back of a `&mut` part from a on, when bs were stored from its start
+pub part-sets : (o : List ℕ) (a : ℕ) (bs : List ℕ) → take a o ++ (sets (drop a o) 0 bs ++ drop (length o - a) (drop a o)) ≡ sets o a bs
+part-sets o a bs =
+    let e : drop (length o - a) (drop a o) ≡ [] = drop-of-length-le (drop a o) {i = length o - a} (omega (arith, length-drop a o)) in
+    let d : drop a (sets o a bs) ≡ sets (drop a o) 0 bs = ap (λ (k : ℕ). drop a (sets o k bs)) (sym (add-zero a)) ∙ drop-sets o a 0 bs in
+    let h : a ≤ a = omega arith in
+    rw (e, append-nil, ← d, ← take-sets o a a bs h, take-append-drop)

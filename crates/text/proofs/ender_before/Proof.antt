@@ -1,0 +1,17 @@
+-- `ender_before` meets its contract. Assumes nothing.
+use borrow.Author.Tests.{eq-eqb, ne-eqb}
+use native.Mathlib.Omega.{arith}
+use borrow.Author.Needs.{needs}
+use Rattle.text.proofs.ender_before.Statement.{statement}
+use Rattle.text.proofs.ender_before.Tie as tie
+use Rattle.text.proofs.ender_before.Reads as reads
+use Rattle.text.proofs.ender_before.Lts as lts
+
+returns : tie.Need-returns
+returns c = simp (eq-eqb _ _ (c .if1 .taken))
+
+returns-2 : tie.Need-returns-2
+returns-2 c = simp (ne-eqb _ _ (c .if1 .left))
+
+pub ender-before-spec : {M : Type 1} → statement M
+ender-before-spec = tie.close (tie.spec returns returns-2)

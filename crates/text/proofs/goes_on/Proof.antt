@@ -1,0 +1,20 @@
+-- `goes_on` meets its contract. Assumes nothing.
+use native.Mathlib.Omega.{arith}
+use borrow.Author.Needs.{needs}
+use Rattle.text.proofs.goes_on.Statement.{statement}
+use Rattle.text.proofs.goes_on.Tie as tie
+use Rattle.text.proofs.goes_on.Reads as reads
+use Rattle.text.proofs.goes_on.Lts as lts
+use Rattle.text.proofs.is_digit.Reads as is-digit-reads
+
+is-digit-requires : tie.Need-is-digit-requires
+is-digit-requires c κs = search needs
+
+returns : tie.Need-returns
+returns c = simp (← c .before .is-digit .ensures, c .if1 .taken)
+
+returns-2 : tie.Need-returns-2
+returns-2 c = simp (← c .before .is-digit .ensures, c .if1 .left)
+
+pub goes-on-spec : {M : Type 1} → statement M
+goes-on-spec = tie.close (tie.spec is-digit-requires returns returns-2)

@@ -1,0 +1,21 @@
+-- `is_dash` meets its contract. Assumes nothing.
+use borrow.Author.Tests.{eq-eqb, ne-eqb}
+use native.Mathlib.Omega.{arith}
+use borrow.Author.Needs.{needs}
+use Rattle.text.proofs.is_dash.Statement.{statement}
+use Rattle.text.proofs.is_dash.Tie as tie
+use Rattle.text.proofs.is_dash.Reads as reads
+use Rattle.text.proofs.is_dash.Lts as lts
+use Rattle.text.proofs.starts.Reads as starts-reads
+
+starts-requires : tie.Need-starts-requires
+starts-requires c κs = search needs
+
+returns : tie.Need-returns
+returns c = simp (eq-eqb _ _ (c .before .if1 .taken), ← c .starts .ensures)
+
+returns-2 : tie.Need-returns-2
+returns-2 c = simp (ne-eqb _ _ (c .if1 .left))
+
+pub is-dash-spec : {M : Type 1} → statement M
+is-dash-spec = tie.close (tie.spec starts-requires returns returns-2)

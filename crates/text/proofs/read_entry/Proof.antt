@@ -1,0 +1,117 @@
+-- `read_entry` meets its contract. Assumes nothing.
+use mathlib.Core.Path.{_≡_, sym, ap, _∙_}
+use Prim.Native.Nat.{_≤_}
+use lib.ListN.{length}
+use Rattle.text.specs.Field.{begins}
+use Rattle.text.specs.Limit.{limit}
+use Rattle.text.proofs.Field.{field-most}
+use Rattle.text.proofs.Limit.{within-high}
+use Rattle.text.proofs.Stores.{rest-part}
+use Rattle.text.proofs.Entry.{dash-some, dash-ended, dash-unended, no-number, unended, outside, taken}
+use native.Mathlib.Omega.{arith}
+use borrow.Author.Needs.{needs}
+use Rattle.text.proofs.read_entry.Statement.{statement}
+use Rattle.text.proofs.read_entry.Tie as tie
+use Rattle.text.proofs.read_entry.Reads as reads
+use Rattle.text.proofs.read_entry.Lts as lts
+use Rattle.text.proofs.find_field.Reads as find-field-reads
+use Rattle.text.proofs.is_dash.Reads as is-dash-reads
+use Rattle.text.proofs.is_within.Reads as is-within-reads
+use Rattle.text.proofs.read_number.Reads as read-number-reads
+use Rattle.text.proofs.starts.Reads as starts-reads
+
+is-dash-requires : tie.Need-is-dash-requires
+is-dash-requires c κs = search needs
+
+sub-starts : tie.Need-sub-starts
+sub-starts c = omega (arith, dash-some (c .before .before .before .args .rule) (c .before .before .before .args .text .now) (sym (c .before .is-dash .ensures) ∙ c .if1 .taken))
+
+part-starts-start : tie.Need-part-starts-start
+part-starts-start c = omega (arith, dash-some (c .before .before .before .args .rule) (c .before .before .before .args .text .now) (sym (c .before .is-dash .ensures) ∙ c .if1 .taken))
+
+part-starts-end : tie.Need-part-starts-end
+part-starts-end c = search needs
+
+starts-requires : tie.Need-starts-requires
+starts-requires c κs = search needs
+
+returns : tie.Need-returns
+returns c = sym (dash-ended (limit (c .before .before .before .before .before .before .args .low) (c .before .before .before .before .before .before .args .high) (c .before .before .before .before .before .before .args .rule)) (c .before .before .before .before .before .before .args .last) (c .before .before .before .before .before .before .args .ender) (c .before .before .before .before .before .before .args .text .now) (sym (c .before .before .before .before .is-dash .ensures) ∙ c .before .before .before .if1 .taken) (sym (ap (begins (c .before .before .before .before .before .before .args .ender)) (rest-part (c .before .before .before .before .before .before .args .text .now) 1)) ∙ sym (c .before .starts .ensures) ∙ c .if2 .taken))
+
+returns-2 : tie.Need-returns-2
+returns-2 c = sym (dash-unended (limit (c .before .before .before .before .before .before .args .low) (c .before .before .before .before .before .before .args .high) (c .before .before .before .before .before .before .args .rule)) (c .before .before .before .before .before .before .args .last) (c .before .before .before .before .before .before .args .ender) (c .before .before .before .before .before .before .args .text .now) (sym (c .before .before .before .before .is-dash .ensures) ∙ c .before .before .before .if1 .taken) (sym (ap (begins (c .before .before .before .before .before .before .args .ender)) (rest-part (c .before .before .before .before .before .before .args .text .now) 1)) ∙ sym (c .before .starts .ensures) ∙ c .if2 .left))
+
+find-field-requires : tie.Need-find-field-requires
+find-field-requires c κs = search needs
+
+read-number-requires : tie.Need-read-number-requires
+read-number-requires c κs = search needs
+
+enum-known-at : tie.Need-enum-known-at
+enum-known-at c = search needs
+
+enum-known-n : tie.Need-enum-known-n
+enum-known-n c = search needs
+
+sub-starts-2 : tie.Need-sub-starts-2
+sub-starts-2 c = omega (arith, field-most (c .before .before .before .before .before .before .before .before .args .text .now), ap length (c .before .before .before .before .find-field .ensures))
+
+part-starts-start-2 : tie.Need-part-starts-start-2
+part-starts-start-2 c = omega (arith, field-most (c .before .before .before .before .before .before .before .before .args .text .now), ap length (c .before .before .before .before .find-field .ensures))
+
+part-starts-end-2 : tie.Need-part-starts-end-2
+part-starts-end-2 c = search needs
+
+starts-requires-2 : tie.Need-starts-requires-2
+starts-requires-2 c κs = search needs
+
+is-within-requires : tie.Need-is-within-requires
+is-within-requires c κs = search needs
+
+cast-t27 : tie.Need-cast-t27
+cast-t27 c = 
+    let a = c .before .before .before .before .before .before .before .before .before .before .before .before .before .args in
+    let h : c .before .before .before .before .before .before .n .given .0 .0 ≤ a .high = within-high (limit (a .low) (a .high) (a .rule)) (a .last) (c .before .before .before .before .before .before .n .given .0 .0) (sym (c .before .is-within .ensures) ∙ c .if4 .taken) in
+    omega arith
+
+add-t28 : tie.Need-add-t28
+add-t28 c = search needs
+
+returns-3 : tie.Need-returns-3
+returns-3 c = sym (no-number (limit (c .before .before .before .before .before .before .before .before .args .low) (c .before .before .before .before .before .before .before .before .args .high) (c .before .before .before .before .before .before .before .before .args .rule)) (c .before .before .before .before .before .before .before .before .args .last) (c .before .before .before .before .before .before .before .before .args .ender) (c .before .before .before .before .before .before .before .before .args .text .now) (c .before .before .before .before .find-field .result .now) (c .before .before .before .before .find-field .ensures) (sym (c .before .before .before .before .before .before .is-dash .ensures) ∙ c .before .before .before .before .before .if1 .left) (sym (c .before .before .before .read-number .ensures) ∙ c .before .at .given .1))
+
+returns-4 : tie.Need-returns-4
+returns-4 c = sym (taken (limit (c .before .before .before .before .before .before .before .before .before .before .before .before .before .args .low) (c .before .before .before .before .before .before .before .before .before .before .before .before .before .args .high) (c .before .before .before .before .before .before .before .before .before .before .before .before .before .args .rule)) (c .before .before .before .before .before .before .before .before .before .before .before .before .before .args .last) (c .before .before .before .before .before .before .before .before .before .before .before .before .before .args .ender) (c .before .before .before .before .before .before .before .before .before .before .before .before .before .args .text .now) (c .before .before .before .before .before .before .before .before .before .find-field .result .now) (c .before .before .before .before .before .before .before .before .before .find-field .ensures) (sym (c .before .before .before .before .before .before .before .before .before .before .before .is-dash .ensures) ∙ c .before .before .before .before .before .before .before .before .before .before .if1 .left) (c .before .before .before .before .before .before .n .given .0 .0) (sym (c .before .before .before .before .before .before .before .before .read-number .ensures) ∙ c .before .before .before .before .before .before .n .given .1) (sym (ap (begins (c .before .before .before .before .before .before .before .before .before .before .before .before .before .args .ender)) (rest-part (c .before .before .before .before .before .before .before .before .before .before .before .before .before .args .text .now) _)) ∙ sym (c .before .before .before .starts2 .ensures) ∙ c .before .before .if3 .taken) (sym (c .before .is-within .ensures) ∙ c .if4 .taken))
+
+returns-5 : tie.Need-returns-5
+returns-5 c = sym (outside (limit (c .before .before .before .before .before .before .before .before .before .before .before .before .before .args .low) (c .before .before .before .before .before .before .before .before .before .before .before .before .before .args .high) (c .before .before .before .before .before .before .before .before .before .before .before .before .before .args .rule)) (c .before .before .before .before .before .before .before .before .before .before .before .before .before .args .last) (c .before .before .before .before .before .before .before .before .before .before .before .before .before .args .ender) (c .before .before .before .before .before .before .before .before .before .before .before .before .before .args .text .now) (c .before .before .before .before .before .before .before .before .before .find-field .result .now) (c .before .before .before .before .before .before .before .before .before .find-field .ensures) (sym (c .before .before .before .before .before .before .before .before .before .before .before .is-dash .ensures) ∙ c .before .before .before .before .before .before .before .before .before .before .if1 .left) (c .before .before .before .before .before .before .n .given .0 .0) (sym (c .before .before .before .before .before .before .before .before .read-number .ensures) ∙ c .before .before .before .before .before .before .n .given .1) (sym (ap (begins (c .before .before .before .before .before .before .before .before .before .before .before .before .before .args .ender)) (rest-part (c .before .before .before .before .before .before .before .before .before .before .before .before .before .args .text .now) _)) ∙ sym (c .before .before .before .starts2 .ensures) ∙ c .before .before .if3 .taken) (sym (c .before .is-within .ensures) ∙ c .if4 .left))
+
+returns-6 : tie.Need-returns-6
+returns-6 c = sym (unended (limit (c .before .before .before .before .before .before .before .before .before .before .before .args .low) (c .before .before .before .before .before .before .before .before .before .before .before .args .high) (c .before .before .before .before .before .before .before .before .before .before .before .args .rule)) (c .before .before .before .before .before .before .before .before .before .before .before .args .last) (c .before .before .before .before .before .before .before .before .before .before .before .args .ender) (c .before .before .before .before .before .before .before .before .before .before .before .args .text .now) (c .before .before .before .before .before .before .before .find-field .result .now) (c .before .before .before .before .before .before .before .find-field .ensures) (sym (c .before .before .before .before .before .before .before .before .before .is-dash .ensures) ∙ c .before .before .before .before .before .before .before .before .if1 .left) (c .before .before .before .before .n .given .0 .0) (sym (c .before .before .before .before .before .before .read-number .ensures) ∙ c .before .before .before .before .n .given .1) (sym (ap (begins (c .before .before .before .before .before .before .before .before .before .before .before .args .ender)) (rest-part (c .before .before .before .before .before .before .before .before .before .before .before .args .text .now) _)) ∙ sym (c .before .starts2 .ensures) ∙ c .if3 .left))
+
+pub read-entry-spec : {M : Type 1} → statement M
+read-entry-spec =
+    tie.close
+    (tie.spec
+    is-dash-requires
+    sub-starts
+    part-starts-start
+    part-starts-end
+    starts-requires
+    returns
+    returns-2
+    find-field-requires
+    read-number-requires
+    enum-known-at
+    enum-known-n
+    sub-starts-2
+    part-starts-start-2
+    part-starts-end-2
+    starts-requires-2
+    is-within-requires
+    cast-t27
+    add-t28
+    returns-3
+    returns-4
+    returns-5
+    returns-6)

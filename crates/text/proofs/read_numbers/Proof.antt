@@ -1,0 +1,161 @@
+-- `read_numbers` meets its contract. Assumes nothing.
+use mathlib.Core.Bool.{cond}
+use lib.Dec.{eqb}
+use lib.Seq.{length-sets}
+use Rattle.text.specs.Quoted.{tab, feed}
+use Rattle.text.specs.Line.{readEntry}
+use mathlib.Core.Path.{_≡_, refl, sym, ap, _∙_}
+use Prim.Native.Nat.{ℕ, _-_, _/_}
+use lib.ListN.{length}
+use Rattle.text.proofs.Reading.{State, start, done, fault-in, step-in, fault, step}
+use Rattle.text.proofs.Stores.{rest-part}
+use native.Mathlib.Omega.{arith}
+use borrow.Author.Needs.{needs}
+use Rattle.text.proofs.read_numbers.Statement.{statement}
+use Rattle.text.proofs.read_numbers.Tie as tie
+use Rattle.text.proofs.read_numbers.Reads as reads
+use Rattle.text.proofs.read_numbers.Lts as lts
+use Rattle.text.proofs.ender_before.Reads as ender-before-reads
+use Rattle.text.proofs.read_entry.Reads as read-entry-reads
+use Rattle.text.proofs.store_number.Reads as store-number-reads
+
+abbrev Inv-loop : tie.InvT-loop
+Inv-loop table text out₀ count k₀ last₀ at₀ out k last at = State table text out₀ out k last at × (count ≡ length table / 3)
+
+abbrev μ-loop : tie.MeasureT-loop
+μ-loop table text out₀ count k₀ last₀ at₀ out k last at = count - k
+
+loop-holds : tie.Need-loop-holds Inv-loop μ-loop
+loop-holds c = (start _ _ _, refl)
+
+sub-ender-before : tie.Need-sub-ender-before Inv-loop μ-loop
+sub-ender-before c = search needs
+
+sub-ender-before-2 : tie.Need-sub-ender-before-2 Inv-loop μ-loop
+sub-ender-before-2 c = search needs
+
+ender-before-requires : tie.Need-ender-before-requires Inv-loop μ-loop
+ender-before-requires c κs = search needs
+
+mul-read-entry : tie.Need-mul-read-entry Inv-loop μ-loop
+mul-read-entry c = search needs
+
+mul-read-entry-2 : tie.Need-mul-read-entry-2 Inv-loop μ-loop
+mul-read-entry-2 c = search needs
+
+shared-slice-read-read-entry : tie.Need-shared-slice-read-read-entry Inv-loop μ-loop
+shared-slice-read-read-entry c = search needs
+
+mul-read-entry-3 : tie.Need-mul-read-entry-3 Inv-loop μ-loop
+mul-read-entry-3 c = search needs
+
+add-read-entry : tie.Need-add-read-entry Inv-loop μ-loop
+add-read-entry c = search needs
+
+mul-read-entry-4 : tie.Need-mul-read-entry-4 Inv-loop μ-loop
+mul-read-entry-4 c = search needs
+
+shared-slice-read-read-entry-2 : tie.Need-shared-slice-read-read-entry-2 Inv-loop μ-loop
+shared-slice-read-read-entry-2 c = search needs
+
+mul-read-entry-5 : tie.Need-mul-read-entry-5 Inv-loop μ-loop
+mul-read-entry-5 c = search needs
+
+add-read-entry-2 : tie.Need-add-read-entry-2 Inv-loop μ-loop
+add-read-entry-2 c = search needs
+
+mul-read-entry-6 : tie.Need-mul-read-entry-6 Inv-loop μ-loop
+mul-read-entry-6 c = search needs
+
+shared-slice-read-read-entry-3 : tie.Need-shared-slice-read-read-entry-3 Inv-loop μ-loop
+shared-slice-read-read-entry-3 c = search needs
+
+sub-read-entry : tie.Need-sub-read-entry Inv-loop μ-loop
+sub-read-entry c = search needs
+
+part-read-entry-start : tie.Need-part-read-entry-start Inv-loop μ-loop
+part-read-entry-start c = search needs
+
+part-read-entry-end : tie.Need-part-read-entry-end Inv-loop μ-loop
+part-read-entry-end c = search needs
+
+read-entry-requires : tie.Need-read-entry-requires Inv-loop μ-loop
+read-entry-requires c κs = search needs
+
+enum-known-refusal : tie.Need-enum-known-refusal Inv-loop μ-loop
+enum-known-refusal c = search needs
+
+add-t34 : tie.Need-add-t34 Inv-loop μ-loop
+add-t34 c = 
+    let h = fault-in (c .before .before .before .before .before .before .before .before .before .before .loop .inv .0) (omega (arith, c .before .before .before .before .before .before .before .before .before .before .loop .inv .1, c .before .before .before .before .before .before .before .before .before .loop-test .taken)) (c .before .before .before .before .before .before .before .before .ender-before .result) (c .before .before .before .before .before .before .before .before .ender-before .ensures ∙ ap (λ (n : ℕ). cond (eqb (n - c .before .before .before .before .before .before .before .before .before .before .loop .k - 1) 0) feed tab) (c .before .before .before .before .before .before .before .before .before .before .loop .inv .1)) (sym (ap (readEntry _ _ _) (rest-part (c .before .before .before .before .before .before .before .before .before .before .before .before .before .before .args .text .now) (c .before .before .before .before .before .before .before .before .before .before .loop .at))) ∙ sym (c .before .before .before .read-entry .ensures) ∙ c .before .refusal .given .1) in
+    omega arith
+
+same-length : tie.Need-same-length Inv-loop μ-loop
+same-length c = ap length (c .before .before .before .before .before .before .before .before .before .before .loop .inv .0 .stored) ∙ simp length-sets
+
+returns : tie.Need-returns Inv-loop μ-loop
+returns c = fault (c .before .before .before .before .before .before .before .before .before .before .loop .inv .0) (omega (arith, c .before .before .before .before .before .before .before .before .before .before .loop .inv .1, c .before .before .before .before .before .before .before .before .before .loop-test .taken)) (c .before .before .before .before .before .before .before .before .ender-before .result) (c .before .before .before .before .before .before .before .before .ender-before .ensures ∙ ap (λ (n : ℕ). cond (eqb (n - c .before .before .before .before .before .before .before .before .before .before .loop .k - 1) 0) feed tab) (c .before .before .before .before .before .before .before .before .before .before .loop .inv .1)) (sym (ap (readEntry _ _ _) (rest-part (c .before .before .before .before .before .before .before .before .before .before .before .before .before .before .args .text .now) (c .before .before .before .before .before .before .before .before .before .before .loop .at))) ∙ sym (c .before .before .before .read-entry .ensures) ∙ c .before .refusal .given .1)
+
+enum-known-n : tie.Need-enum-known-n Inv-loop μ-loop
+enum-known-n c = search needs
+
+store-number-requires : tie.Need-store-number-requires Inv-loop μ-loop
+store-number-requires c κs = search needs
+
+add-at : tie.Need-add-at Inv-loop μ-loop
+add-at c = 
+    let h = step-in (c .before .before .before .before .before .before .before .before .before .before .before .before .before .before .loop .inv .0) (omega (arith, c .before .before .before .before .before .before .before .before .before .before .before .before .before .before .loop .inv .1, c .before .before .before .before .before .before .before .before .before .before .before .before .before .loop-test .taken)) (c .before .before .before .before .before .before .before .before .before .before .before .before .ender-before .result) (c .before .before .before .before .before .before .before .before .before .before .before .before .ender-before .ensures ∙ ap (λ (n : ℕ). cond (eqb (n - c .before .before .before .before .before .before .before .before .before .before .before .before .before .before .loop .k - 1) 0) feed tab) (c .before .before .before .before .before .before .before .before .before .before .before .before .before .before .loop .inv .1)) (sym (ap (readEntry _ _ _) (rest-part (c .before .before .before .before .before .before .before .before .before .before .before .before .before .before .before .before .before .before .args .text .now) (c .before .before .before .before .before .before .before .before .before .before .before .before .before .before .loop .at))) ∙ sym (c .before .before .before .before .before .before .before .read-entry .ensures) ∙ c .before .before .before .before .before .n .given .1) in
+    omega arith
+
+add-k : tie.Need-add-k Inv-loop μ-loop
+add-k c = search needs
+
+loop-less : tie.Need-loop-less Inv-loop μ-loop
+loop-less c = search needs
+
+loop-again : tie.Need-loop-again Inv-loop μ-loop
+loop-again c = (rw (c .before .before .store-number .ensures) (step (c .before .before .before .before .before .before .before .before .before .before .before .before .before .before .loop .inv .0) (omega (arith, c .before .before .before .before .before .before .before .before .before .before .before .before .before .before .loop .inv .1, c .before .before .before .before .before .before .before .before .before .before .before .before .before .loop-test .taken)) (c .before .before .before .before .before .before .before .before .before .before .before .before .ender-before .result) (c .before .before .before .before .before .before .before .before .before .before .before .before .ender-before .ensures ∙ ap (λ (n : ℕ). cond (eqb (n - c .before .before .before .before .before .before .before .before .before .before .before .before .before .before .loop .k - 1) 0) feed tab) (c .before .before .before .before .before .before .before .before .before .before .before .before .before .before .loop .inv .1)) (sym (ap (readEntry _ _ _) (rest-part (c .before .before .before .before .before .before .before .before .before .before .before .before .before .before .before .before .before .before .args .text .now) (c .before .before .before .before .before .before .before .before .before .before .before .before .before .before .loop .at))) ∙ sym (c .before .before .before .before .before .before .before .read-entry .ensures) ∙ c .before .before .before .before .before .n .given .1)), c .before .before .before .before .before .before .before .before .before .before .before .before .before .before .loop .inv .1)
+
+same-length-2 : tie.Need-same-length-2 Inv-loop μ-loop
+same-length-2 c = ap length (c .before .loop .inv .0 .stored) ∙ simp length-sets
+
+returns-2 : tie.Need-returns-2 Inv-loop μ-loop
+returns-2 c = done (c .before .loop .inv .0) (omega (arith, c .before .loop .inv .1, c .loop-test .left))
+
+pub read-numbers-spec : {M : Type 1} → statement M
+read-numbers-spec =
+    tie.close
+    (tie.spec
+    Inv-loop
+    μ-loop
+    loop-holds
+    sub-ender-before
+    sub-ender-before-2
+    ender-before-requires
+    mul-read-entry
+    mul-read-entry-2
+    shared-slice-read-read-entry
+    mul-read-entry-3
+    add-read-entry
+    mul-read-entry-4
+    shared-slice-read-read-entry-2
+    mul-read-entry-5
+    add-read-entry-2
+    mul-read-entry-6
+    shared-slice-read-read-entry-3
+    sub-read-entry
+    part-read-entry-start
+    part-read-entry-end
+    read-entry-requires
+    enum-known-refusal
+    add-t34
+    same-length
+    returns
+    enum-known-n
+    store-number-requires
+    add-at
+    add-k
+    loop-less
+    loop-again
+    same-length-2
+    returns-2)

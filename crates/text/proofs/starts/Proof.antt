@@ -1,0 +1,21 @@
+-- `starts` meets its contract. Assumes nothing.
+use Rattle.text.proofs.Field.{begins-past, begins-head}
+use mathlib.Core.Path.{sym}
+use native.Mathlib.Omega.{arith}
+use borrow.Author.Needs.{needs}
+use Rattle.text.proofs.starts.Statement.{statement}
+use Rattle.text.proofs.starts.Tie as tie
+use Rattle.text.proofs.starts.Reads as reads
+use Rattle.text.proofs.starts.Lts as lts
+
+shared-slice-read-result : tie.Need-shared-slice-read-result
+shared-slice-read-result c = search needs
+
+returns : tie.Need-returns
+returns c = sym (begins-past (c .before .args .b) (c .before .args .text .now) (c .if1 .taken))
+
+returns-2 : tie.Need-returns-2
+returns-2 c = sym (begins-head (c .before .before .args .b) (c .before .before .args .text .now) (omega arith))
+
+pub starts-spec : {M : Type 1} → statement M
+starts-spec = tie.close (tie.spec shared-slice-read-result returns returns-2)

@@ -1,0 +1,66 @@
+-- 01, The sheet: the limits of a number, as the table gives them: "low..high", "not above" the number before it, or "`-`" where there is none.
+-- The reader, the writer and the register's check go by these alone. Assumes nothing: these are definitions.
+use Prim.Native.Nat.{ℕ}
+use mathlib.Core.Bool.{Bool, true, false, _&&_, _||_, cond}
+use mathlib.Core.List.{List, [], _∷_}
+use lib.Dec.{eqb, leb, ltb}
+
+pub record Limit : Type 0 where
+  pub low : ℕ
+  pub high : ℕ
+  pub rule : ℕ
+
+-- the three rules, by the number that stands for each in the code's tables
+abbrev pub plain : ℕ
+plain = 0
+
+abbrev pub orNone : ℕ
+orNone = 1
+
+abbrev pub capped : ℕ
+capped = 2
+
+abbrev pub limit : ℕ → ℕ → ℕ → Limit
+limit low high rule = record { low = low; high = high; rule = rule }
+
+-- low..high
+abbrev pub between : ℕ → ℕ → Limit
+between low high = limit low high plain
+
+-- low..high, or none, for which 0 stands among the numbers and `-` in a text
+abbrev pub betweenOrNone : ℕ → ℕ → Limit
+betweenOrNone low high = limit low high orNone
+
+-- low..high, and not above the number before it
+abbrev pub betweenCapped : ℕ → ℕ → Limit
+betweenCapped low high = limit low high capped
+
+-- whether n is none: a 0 where 0 stands for none
+abbrev pub isNone : Limit → ℕ → Bool
+isNone l n = eqb (l .rule) orNone && eqb n 0
+
+-- what the rule asks beyond low..high, of n after last
+abbrev pub byRule : ℕ → ℕ → ℕ → Bool
+byRule rule last n = cond (eqb rule orNone) (ltb 0 n) (cond (eqb rule capped) (leb n last) true)
+
+-- whether n, written in digits after the number last, is within the limit
+abbrev pub within : Limit → ℕ → ℕ → Bool
+within l last n = leb (l .low) n && (leb n (l .high) && byRule (l .rule) last n)
+
+-- whether n may stand after last, none included
+abbrev pub holds : Limit → ℕ → ℕ → Bool
+holds l last n = isNone l n || within l last n
+
+-- whether there are as many numbers as limits, and each may stand after the one before it
+unfoldable pub allHold : List Limit → ℕ → List ℕ → Bool
+allHold [] last [] = true
+allHold [] last (n ∷ ns) = false
+allHold (l ∷ ls) last [] = false
+allHold (l ∷ ls) last (n ∷ ns) = holds l last n && allHold ls n ns
+
+-- the code's table: three numbers a limit
+unfoldable pub limitsOf : List ℕ → List Limit
+limitsOf [] = []
+limitsOf (low ∷ []) = []
+limitsOf (low ∷ high ∷ []) = []
+limitsOf (low ∷ high ∷ rule ∷ table) = limit low high rule ∷ limitsOf table
