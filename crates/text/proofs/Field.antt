@@ -36,11 +36,11 @@ begins-cons b (c ∷ t) e = ap (λ (x : ℕ). x ∷ t) (eqb-true c b e)
 
 -- ---- the field, walked byte by byte
 
-field-stop : (b : ℕ) (t : List ℕ) → (eqb b tab || eqb b feed) ≡ true → fieldOf (b ∷ t) ≡ []
+pub field-stop : (b : ℕ) (t : List ℕ) → (eqb b tab || eqb b feed) ≡ true → fieldOf (b ∷ t) ≡ []
 unfolding fieldOf
 field-stop b t e = rw (e, fieldOf)
 
-field-more : (b : ℕ) (t : List ℕ) → (eqb b tab || eqb b feed) ≡ false → fieldOf (b ∷ t) ≡ b ∷ fieldOf t
+pub field-more : (b : ℕ) (t : List ℕ) → (eqb b tab || eqb b feed) ≡ false → fieldOf (b ∷ t) ≡ b ∷ fieldOf t
 unfolding fieldOf
 field-more b t e = rw (e, fieldOf)
 

@@ -7,3 +7,4 @@ pub mod Entry
 pub mod Reading
 pub mod Laid
 pub mod Writing
+pub mod RoundTrip

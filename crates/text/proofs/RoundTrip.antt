@@ -1,0 +1,266 @@
+-- What is written reads back, and what is read is what would be written: a number with its ending byte, numbers, a line, of any form. Assumes nothing.
+use mathlib.Core.Path.{_≡_, refl, sym, ap, _∙_}
+use mathlib.Core.Bool.{Bool, true, false, _&&_, _||_, cond, and-false}
+use mathlib.Core.List.{List, [], _∷_, _++_, append-nil, append-assoc}
+use Prim.Native.Nat.{ℕ, zero, suc, _+_, _/_, _%_, _≤_, _<_}
+use native.Mathlib.Nat.{add-zero}
+use native.Mathlib.Omega.{arith}
+use borrow.Author.Tests.{eq-eqb, ne-eqb, lt-ltb, eqb-true, eqb-false, ltb-true, ltb-false}
+use lib.Dec.{eqb, leb, ltb}
+use lib.ListN.{length, drop, length-append}
+use lib.Seq.{drop-append-seam, drop-drop, drop-at}
+use Rattle.text.specs.declared.NumberRead.{NumberRead}
+use Rattle.text.specs.declared.NumberRead.the-variants.{Value, Malformed}
+use Rattle.text.specs.declared.EntryRead.{EntryRead}
+use Rattle.text.specs.declared.EntryRead.the-variants.{Number, Misread}
+use Rattle.text.specs.declared.LineRead.{LineRead}
+use Rattle.text.specs.declared.LineRead.the-variants.{Taken, Fault}
+use Rattle.text.specs.Quoted.{tab, feed, dash}
+use Rattle.text.specs.Field.{fieldOf, begins, agreed}
+use Rattle.text.specs.Number.{elevenDigits, numberOf, digitsOf}
+use Rattle.text.specs.Limit.{Limit, orNone, capped, isNone, within, holds, allHold}
+use Rattle.text.specs.Line.{Line, Reading, shift, after, ender, onEntry, judged, readDash, readEntry, readNumbers, readLine, entryText, numbersText, lineText}
+use Rattle.text.proofs.Field.{begins-cons, field-split, field-stop, field-more, agreed-whole, agreed-self}
+use Rattle.text.proofs.Number.{both-hold, digits-small, digits-more, read-writes, written-reads}
+use Rattle.text.proofs.Limit.{within-high}
+use Rattle.text.proofs.Entry.{dash-ended, taken}
+use Rattle.text.proofs.Reading.{line-tagged, line-untagged}
+
+-- ---- a text led by another
+
+-- x stands at the start of t, and is k bytes long
+pub record Led (x t : List ℕ) (k : ℕ) : Type 0 where
+  pub start : t ≡ x ++ drop k t
+  pub count : k ≡ length x
+
+pub led-none : (t : List ℕ) → Led [] t 0
+led-none t = record { start = refl; count = refl }
+
+pub led-more : {x y t : List ℕ} {j k : ℕ} → Led x t j → Led y (drop j t) k → Led (x ++ y) t (j + k)
+led-more {x} {y} {t} {j} {k} p q =
+    record {
+      start = p .start ∙ ap (λ (z : List ℕ). x ++ z) (q .start ∙ rw (drop-drop k j t)) ∙ sym (append-assoc x y (drop (j + k) t));
+      count = omega (arith, p .count, q .count, length-append x y);
+    }
+
+-- ---- limits
+
+some : (u : Bool) (n : ℕ) (x : Bool) → cond u (ltb 0 n) x ≡ true → (u && eqb n 0) ≡ false
+some true n x e = let h = ltb-true 0 n e in ne-eqb n 0 (omega arith)
+some false n x e = refl
+
+-- a number within its limit is not none
+pub within-some : (l : Limit) (last n : ℕ) → within l last n ≡ true → isNone l n ≡ false
+within-some l last n e = some (eqb (l .rule) orNone) n (cond (eqb (l .rule) capped) (leb n last) true) (both-hold (leb n (l .high)) _ (both-hold (leb (l .low) n) _ e .1) .1)
+
+-- what may stand is none, or is within
+pub holds-within : (l : Limit) (last n : ℕ) → holds l last n ≡ true → isNone l n ≡ false → within l last n ≡ true
+holds-within l last n e d = rw d at e
+
+within-holds : (l : Limit) (last n : ℕ) → within l last n ≡ true → holds l last n ≡ true
+within-holds l last n e = rw (within-some l last n e, e)
+
+none-zero : (l : Limit) (n : ℕ) → isNone l n ≡ true → n ≡ 0
+none-zero l n e = eqb-true n 0 (both-hold (eqb (l .rule) orNone) (eqb n 0) e .1)
+
+-- the limits take numbers of at most ten digits
+unfoldable pub narrow : List Limit → Bool
+narrow [] = true
+narrow (l ∷ ls) = ltb (l .high) elevenDigits && narrow ls
+
+holds-small : (l : Limit) (last n : ℕ) → ltb (l .high) elevenDigits ≡ true → holds l last n ≡ true → n < elevenDigits
+holds-small l last n w e = go (isNone l n) refl
+  where
+    go : (u : Bool) → isNone l n ≡ u → n < elevenDigits
+    go true d = let z = none-zero l n d in omega arith
+    go false d = let h = within-high l last n (holds-within l last n e d) in let k = ltb-true (l .high) elevenDigits w in omega arith
+
+-- ---- digits hold no tab, no line feed and no dash
+
+field-digits-in : (k n : ℕ) (r : List ℕ) → n < k → fieldOf (digitsOf n ++ r) ≡ digitsOf n ++ fieldOf r
+field-digits-in zero n r h = absurd (omega arith)
+field-digits-in (suc k) n r h = go (ltb n 10) refl (λ (m : 10 ≤ n). field-digits-in k (n / 10) ((48 + n % 10) ∷ r) (omega arith))
+  where
+    one : (d : ℕ) (r : List ℕ) → 11 ≤ d → fieldOf (d ∷ r) ≡ d ∷ fieldOf r
+    one d r h = field-more d r (rw (ne-eqb d tab (omega arith), ne-eqb d feed (omega arith)))
+
+    go : (u : Bool) → ltb n 10 ≡ u → (10 ≤ n → fieldOf (digitsOf (n / 10) ++ ((48 + n % 10) ∷ r)) ≡ digitsOf (n / 10) ++ fieldOf ((48 + n % 10) ∷ r)) → fieldOf (digitsOf n ++ r) ≡ digitsOf n ++ fieldOf r
+    go true w ih = rw (digits-small n (ltb-true n 10 w)) (one (48 + n) r (omega arith))
+    go false w ih =
+        let m = ltb-false n 10 w in
+        rw (digits-more n m, append-assoc (digitsOf (n / 10)) ((48 + n % 10) ∷ []) r, append-assoc (digitsOf (n / 10)) ((48 + n % 10) ∷ []) (fieldOf r))
+        (ih m ∙ ap (λ (x : List ℕ). digitsOf (n / 10) ++ x) (one (48 + n % 10) r (omega arith)))
+
+pub field-digits : (n : ℕ) (r : List ℕ) → fieldOf (digitsOf n ++ r) ≡ digitsOf n ++ fieldOf r
+field-digits n r = field-digits-in (suc n) n r (omega arith)
+
+no-dash-in : (k n : ℕ) (r : List ℕ) → n < k → begins dash (digitsOf n ++ r) ≡ false
+no-dash-in zero n r h = absurd (omega arith)
+no-dash-in (suc k) n r h = go (ltb n 10) refl (λ (m : 10 ≤ n). no-dash-in k (n / 10) ((48 + n % 10) ∷ r) (omega arith))
+  where
+    go : (u : Bool) → ltb n 10 ≡ u → (10 ≤ n → begins dash (digitsOf (n / 10) ++ ((48 + n % 10) ∷ r)) ≡ false) → begins dash (digitsOf n ++ r) ≡ false
+    go true w ih = rw (digits-small n (ltb-true n 10 w)) (ne-eqb (48 + n) dash (omega arith))
+    go false w ih = let m = ltb-false n 10 w in rw (digits-more n m, append-assoc) (ih m)
+
+-- ---- a number and the byte that ends it
+
+abbrev pub Ends : ℕ → Type 0
+Ends e = (eqb e tab || eqb e feed) ≡ true
+
+pub ender-ends : (ls : List Limit) → Ends (ender ls)
+ender-ends [] = refl
+ender-ends (l ∷ ls) = refl
+
+module _ (l : Limit) (last e n : ℕ) (rest : List ℕ) (w : Ends e) (h : holds l last n ≡ true) (m : n < elevenDigits) where
+  none-forth : isNone l n ≡ true → readEntry l last e (dash ∷ e ∷ rest) ≡ Number n 2
+  none-forth d =
+      let r : (eqb (l .rule) orNone && true) ≡ true = rw (both-hold (eqb (l .rule) orNone) (eqb n 0) d .0) in
+      let z = none-zero l n d in
+      dash-ended l last e (dash ∷ e ∷ rest) r (eq-eqb e e refl) ∙ rw z
+
+  some-forth : isNone l n ≡ false → readEntry l last e (digitsOf n ++ (e ∷ rest)) ≡ Number n (length (digitsOf n) + 1)
+  some-forth d =
+      let f : digitsOf n ≡ fieldOf (digitsOf n ++ (e ∷ rest)) = sym (field-digits n (e ∷ rest) ∙ rw (field-stop e rest w, append-nil)) in
+      let b : begins e (drop (length (digitsOf n)) (digitsOf n ++ (e ∷ rest))) ≡ true = rw (drop-append-seam (digitsOf n) (e ∷ rest)) (eq-eqb e e refl) in
+      let s : (eqb (l .rule) orNone && begins dash (digitsOf n ++ (e ∷ rest))) ≡ false = rw (no-dash-in (suc n) n (e ∷ rest) (omega arith), and-false) in
+      taken l last e (digitsOf n ++ (e ∷ rest)) (digitsOf n) f s n (written-reads n m) b (holds-within l last n h d)
+
+  pub entry-forth : readEntry l last e (entryText l n ++ (e ∷ rest)) ≡ Number n (length (entryText l n) + 1)
+  entry-forth = go (isNone l n) refl
+    where
+      go : (u : Bool) → isNone l n ≡ u → readEntry l last e (cond u (dash ∷ []) (digitsOf n) ++ (e ∷ rest)) ≡ Number n (length (cond u (dash ∷ []) (digitsOf n)) + 1)
+      go true d = none-forth d
+      go false d = some-forth d
+
+-- what reads as n is what n is written as, and n may stand there
+pub record Back (l : Limit) (last e : ℕ) (t : List ℕ) (n k : ℕ) : Type 0 where
+  pub led : Led (entryText l n ++ (e ∷ [])) t k
+  pub held : holds l last n ≡ true
+
+dash-back : (l : Limit) (last e : ℕ) (t : List ℕ) (n k : ℕ) → (eqb (l .rule) orNone && begins dash t) ≡ true → readDash e t ≡ Number n k → Back l last e t n k
+dash-back l last e t n k d v = go (begins e (drop 1 t)) refl v
+  where
+    go : (u : Bool) → begins e (drop 1 t) ≡ u → cond u (Number 0 2) (Misread 2 1) ≡ Number n k → Back l last e t n k
+    go true b w =
+        let z : 0 ≡ n = cc in
+        let y : 2 ≡ k = cc in
+        let r : isNone l 0 ≡ true = rw (both-hold (eqb (l .rule) orNone) (begins dash t) d .0) in
+        let s : t ≡ dash ∷ e ∷ drop 2 t = begins-cons dash t (both-hold (eqb (l .rule) orNone) (begins dash t) d .1) ∙ ap (λ (x : List ℕ). dash ∷ x) (begins-cons e (drop 1 t) b ∙ rw (drop-drop 1 1 t)) in
+        rw (← z, ← y) (record { led = record { start = rw r s; count = rw r }; held = rw r })
+    go false b w = let z : _≡_ {A = ℕ} 0 1 = cc in absurd (omega arith)
+
+judged-back : (r : NumberRead) (l : Limit) (last e : ℕ) (t : List ℕ) (n k : ℕ) → numberOf (fieldOf t) ≡ r → judged r l last e (length (fieldOf t)) (drop (length (fieldOf t)) t) ≡ Number n k → Back l last e t n k
+judged-back (Malformed at) l last e t n k v w = let z : _≡_ {A = ℕ} 0 1 = cc in absurd (omega arith)
+judged-back (Value m) l last e t n k v w = go (begins e (drop (length (fieldOf t)) t)) refl (within l last m) refl w
+  where
+    j : ℕ
+    j = length (fieldOf t)
+
+    go : (u : Bool) → begins e (drop (length (fieldOf t)) t) ≡ u → (x : Bool) → within l last m ≡ x → cond u (cond x (Number m (length (fieldOf t) + 1)) (Misread 3 0)) (Misread 2 (length (fieldOf t))) ≡ Number n k → Back l last e t n k
+    go true b true i q =
+        let z : m ≡ n = cc in
+        let y : length (fieldOf t) + 1 ≡ k = cc in
+        let f : fieldOf t ≡ digitsOf m = read-writes (fieldOf t) m v in
+        let s : t ≡ fieldOf t ++ (e ∷ drop (length (fieldOf t) + 1) t) = sym (field-split t) ∙ ap (λ (x : List ℕ). fieldOf t ++ x) (begins-cons e (drop (length (fieldOf t)) t) b ∙ rw (drop-drop 1 (length (fieldOf t)) t)) in
+        let r = within-some l last m i in
+        rw (← z, ← y)
+        (record {
+          led = record {
+            start = rw (r, append-assoc, ← f) s;
+            count = rw (r, length-append, f);
+          };
+          held = within-holds l last m i;
+        })
+    go true b false i q = let z : _≡_ {A = ℕ} 0 1 = cc in absurd (omega arith)
+    go false b x i q = let z : _≡_ {A = ℕ} 0 1 = cc in absurd (omega arith)
+
+pub entry-back : (l : Limit) (last e : ℕ) (t : List ℕ) (n k : ℕ) → readEntry l last e t ≡ Number n k → Back l last e t n k
+unfolding readEntry
+entry-back l last e t n k v = go (eqb (l .rule) orNone && begins dash t) refl v
+  where
+    go : (u : Bool) → (eqb (l .rule) orNone && begins dash t) ≡ u
+        → cond u (readDash e t) (judged (numberOf (fieldOf t)) l last e (length (fieldOf t)) (drop (length (fieldOf t)) t)) ≡ Number n k → Back l last e t n k
+    go true d w = dash-back l last e t n k d w
+    go false d w = judged-back (numberOf (fieldOf t)) l last e t n k refl w
+
+-- ---- numbers
+
+abbrev pub got : ℕ → List ℕ → Reading
+got k ns = record { ended = Taken k; numbers = ns }
+
+pub numbers-forth : (ls : List Limit) (last : ℕ) (ns rest : List ℕ) → narrow ls ≡ true → allHold ls last ns ≡ true
+    → readNumbers ls last (numbersText ls ns ++ rest) ≡ got (length (numbersText ls ns)) ns
+unfolding readNumbers numbersText allHold narrow
+numbers-forth [] last [] rest w h = refl
+numbers-forth [] last (n ∷ ns) rest w h = absurd (mathlib.Core.Bool.true≢false (sym h))
+numbers-forth (l ∷ ls) last [] rest w h = absurd (mathlib.Core.Bool.true≢false (sym h))
+numbers-forth (l ∷ ls) last (n ∷ ns) rest w h =
+    let hs = both-hold (holds l last n) (allHold ls n ns) h in
+    let ws = both-hold (ltb (l .high) elevenDigits) (narrow ls) w in
+    let x : List ℕ = entryText l n in
+    let more : List ℕ = numbersText ls ns in
+    let f = entry-forth l last (ender ls) n (more ++ rest) (ender-ends ls) (hs .0) (holds-small l last n (ws .0) (hs .0)) in
+    let d : drop (length x + 1) (x ++ (ender ls ∷ (more ++ rest))) ≡ more ++ rest = sym (drop-drop 1 (length x) (x ++ (ender ls ∷ (more ++ rest)))) ∙ rw (drop-append-seam x (ender ls ∷ (more ++ rest))) in
+    let c : length x + 1 + length more ≡ length (x ++ (ender ls ∷ more)) = omega (arith, length-append x (ender ls ∷ more)) in
+    rw (append-assoc x (ender ls ∷ more) rest, f, d, numbers-forth ls n ns rest (ws .1) (hs .1), c)
+
+-- how a reading that went well after k bytes went
+shift-taken : (j : ℕ) (r : LineRead) (k : ℕ) → shift j r ≡ Taken k → (i : ℕ) × (r ≡ Taken i) × (k ≡ j + i)
+shift-taken j (Taken i) k e = (i, refl, cc)
+shift-taken j (Fault number at) k e = let z : _≡_ {A = ℕ} 0 1 = cc in absurd (omega arith)
+
+-- what reads as numbers is what they are written as, and each may stand where it does
+pub record BackAll (ls : List Limit) (last : ℕ) (x t : List ℕ) (k : ℕ) (ns : List ℕ) : Type 0 where
+  pub led : Led x t k
+  pub held : allHold ls last ns ≡ true
+
+entered-back : (l : Limit) (ls : List Limit) (last : ℕ) (t : List ℕ) (r : EntryRead) (k : ℕ) → readEntry l last (ender ls) t ≡ r
+    → ((n : ℕ) (u : List ℕ) (i : ℕ) → readNumbers ls n u .ended ≡ Taken i → BackAll ls n (numbersText ls (readNumbers ls n u .numbers)) u i (readNumbers ls n u .numbers))
+    → onEntry r (readNumbers ls) t .ended ≡ Taken k
+    → BackAll (l ∷ ls) last (numbersText (l ∷ ls) (onEntry r (readNumbers ls) t .numbers)) t k (onEntry r (readNumbers ls) t .numbers)
+unfolding numbersText allHold
+entered-back l ls last t (Misread number at) k v ih e = let z : _≡_ {A = ℕ} 0 1 = cc in absurd (omega arith)
+entered-back l ls last t (Number n j) k v ih e =
+    let b = entry-back l last (ender ls) t n j v in
+    let s = shift-taken j (readNumbers ls n (drop j t) .ended) k e in
+    let p = ih n (drop j t) (s .0) (s .1) in
+    record {
+      led = rw (s .2) (rw (append-assoc (entryText l n) (ender ls ∷ []) (numbersText ls (readNumbers ls n (drop j t) .numbers))) at (led-more (b .led) (p .led)));
+      held = rw (b .held, p .held);
+    }
+
+pub numbers-back : (ls : List Limit) (last : ℕ) (t : List ℕ) (k : ℕ) → readNumbers ls last t .ended ≡ Taken k
+    → BackAll ls last (numbersText ls (readNumbers ls last t .numbers)) t k (readNumbers ls last t .numbers)
+unfolding readNumbers numbersText allHold
+numbers-back [] last t k e =
+    let z : 0 ≡ k = cc in
+    rw (← z) (record { led = led-none t; held = refl })
+numbers-back (l ∷ ls) last t k e = entered-back l ls last t (readEntry l last (ender ls) t) k refl (numbers-back ls) e
+
+-- ---- a line
+
+-- for every form, what is written reads back
+pub line-forth : (l : Line) (ns rest : List ℕ) → narrow (l .limits) ≡ true → allHold (l .limits) 0 ns ≡ true → readLine l (lineText l ns ++ rest) ≡ got (length (lineText l ns)) ns
+line-forth l ns rest w h =
+    let x : List ℕ = numbersText (l .limits) ns in
+    let t : lineText l ns ++ rest ≡ l .tag ++ (x ++ rest) = append-assoc (l .tag) x rest in
+    let r : readLine l (l .tag ++ (x ++ rest)) ≡ after [] (length (l .tag)) (readNumbers (l .limits) 0 (drop (length (l .tag)) (l .tag ++ (x ++ rest)))) = line-tagged l (l .tag ++ (x ++ rest)) (agreed-self (l .tag) (x ++ rest)) in
+    rw (t, r, drop-append-seam (l .tag) (x ++ rest), numbers-forth (l .limits) 0 ns rest w h, length-append (l .tag) x)
+
+-- and what is read is what would be written
+pub line-back : (l : Line) (t : List ℕ) (k : ℕ) → readLine l t .ended ≡ Taken k → BackAll (l .limits) 0 (lineText l (readLine l t .numbers)) t k (readLine l t .numbers)
+line-back l t k e = go (eqb (agreed (l .tag) t) (length (l .tag))) refl
+  where
+    go : (u : Bool) → eqb (agreed (l .tag) t) (length (l .tag)) ≡ u → BackAll (l .limits) 0 (lineText l (readLine l t .numbers)) t k (readLine l t .numbers)
+    go true d =
+        let a = eqb-true (agreed (l .tag) t) (length (l .tag)) d in
+        let r = line-tagged l t a in
+        let s = shift-taken (length (l .tag)) (readNumbers (l .limits) 0 (drop (length (l .tag)) t) .ended) k (rw r at e) in
+        let p = numbers-back (l .limits) 0 (drop (length (l .tag)) t) (s .0) (s .1) in
+        let q : Led (l .tag) t (length (l .tag)) = record { start = agreed-whole (l .tag) t a; count = refl } in
+        rw r (record { led = rw (s .2) (led-more q (p .led)); held = p .held })
+    go false d =
+        let r = line-untagged l t (eqb-false (agreed (l .tag) t) (length (l .tag)) d) in
+        let f : Fault 2 (agreed (l .tag) t) ≡ Taken k = rw r at e in
+        let z : _≡_ {A = ℕ} 0 1 = cc in
+        absurd (omega arith)
