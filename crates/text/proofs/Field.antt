@@ -1,6 +1,6 @@
 -- Laws of fields and of how a text begins. Assumes nothing.
 use mathlib.Core.Path.{_≡_, refl, sym, ap, _∙_}
-use mathlib.Core.Bool.{Bool, true, false, _||_}
+use mathlib.Core.Bool.{Bool, true, false, _||_, true≢false}
 use mathlib.Core.List.{List, [], _∷_, _++_, append-nil, append-assoc}
 use Prim.Native.Nat.{ℕ, zero, suc, _+_, _≤_, _<_}
 use native.Mathlib.Numerals.{add-one}
@@ -26,12 +26,12 @@ begins-head b [] h = absurd (omega arith)
 begins-head b (c ∷ t) h = refl
 
 pub begins-some : (b : ℕ) (t : List ℕ) → begins b t ≡ true → 0 < length t
-begins-some b [] e = absurd (mathlib.Core.Bool.true≢false (sym e))
+begins-some b [] e = absurd (true≢false (sym e))
 begins-some b (c ∷ t) e = omega arith
 
 -- a text that begins with b is b and the rest
 pub begins-cons : (b : ℕ) (t : List ℕ) → begins b t ≡ true → t ≡ b ∷ drop 1 t
-begins-cons b [] e = absurd (mathlib.Core.Bool.true≢false (sym e))
+begins-cons b [] e = absurd (true≢false (sym e))
 begins-cons b (c ∷ t) e = ap (λ (x : ℕ). x ∷ t) (eqb-true c b e)
 
 -- ---- the field, walked byte by byte

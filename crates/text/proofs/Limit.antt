@@ -1,56 +1,55 @@
 -- Laws of limits: the table read three numbers at a time, and the check of many numbers. Assumes nothing.
 use mathlib.Core.Path.{_≡_, refl, sym, ap, _∙_}
-use mathlib.Core.Bool.{Bool, true, false, _&&_, and-false}
+use mathlib.Core.Bool.{Bool, true, false, _&&_, and-false, true≢false}
 use mathlib.Core.List.{List, [], _∷_}
-use Prim.Native.Nat.{ℕ, zero, suc, _+_, _*_, _/_, _≤_, _<_}
-use native.Mathlib.Numerals.{add-one, add-two, add-three}
+use Prim.Native.Nat.{ℕ, suc, _+_, _≤_, _<_}
+use native.Mathlib.Numerals.{add-one}
 use native.Mathlib.Omega.{arith}
-use lib.ListN.{length, drop, getD, length-drop}
+use lib.ListN.{length, drop, getD, length-map, drop-of-length-le}
 use lib.Seq.{drop-cons}
-use Rattle.text.specs.Limit.{Limit, limit, within, holds, allHold, limitsOf}
+use Rattle.text.specs.Limit.{Limit, orNone, capped, byRule, within, holds, allHold, limitOf, limitsOf}
 use Rattle.text.proofs.Number.{both-hold}
-use borrow.Author.Tests.{leb-true}
-use lib.Dec.{leb}
+use borrow.Author.Tests.{leb-true, le-leb, lt-leb, eq-eqb, ne-eqb}
+use lib.Dec.{leb, ltb}
+use Rattle.text.proofs.Stores.{drop-more}
 
 -- ---- the table
 
-pub length-limits : (t : List ℕ) → length (limitsOf t) ≡ length t / 3
-unfolding limitsOf
-length-limits [] = refl
-length-limits (a ∷ []) = refl
-length-limits (a ∷ b ∷ []) = refl
-length-limits (a ∷ b ∷ c ∷ t) = let ih = length-limits t in omega arith
-
-limits-at : (t : List ℕ) (j : ℕ) → j + 2 < length t → limitsOf (drop j t) ≡ limit (getD t j 0) (getD t (j + 1) 0) (getD t (j + 2) 0) ∷ limitsOf (drop (j + 3) t)
-unfolding limitsOf
-limits-at t j h =
-    let a : j < length t = omega arith in
-    let b : suc j < length t = omega arith in
-    let c : suc (suc j) < length t = omega arith in
-    rw (add-one j, add-two j, add-three j, drop-cons t j 0, drop-cons t (suc j) 0, drop-cons t (suc (suc j)) 0)
+pub length-limits : (t : List (List ℕ)) → length (limitsOf t) ≡ length t
+length-limits t = length-map t limitOf
 
 -- the limit at place k
-abbrev pub limitAt : List ℕ → ℕ → Limit
-limitAt t k = limit (getD t (3 * k) 0) (getD t (3 * k + 1) 0) (getD t (3 * k + 2) 0)
+abbrev pub limitAt : List (List ℕ) → ℕ → Limit
+limitAt t k = limitOf (getD t k [])
 
--- and the table after it
-pub limits-more : (t : List ℕ) (k : ℕ) → k < length t / 3
-    → limitsOf (drop (3 * k) t) ≡ limitAt t k ∷ limitsOf (drop (3 * (k + 1)) t)
-limits-more t k h =
-    let e : 3 * (k + 1) ≡ 3 * k + 3 = omega arith in
-    rw e (limits-at t (3 * k) (omega arith))
+-- and those after it
+pub limits-more : (t : List (List ℕ)) (k : ℕ) → k < length t → limitsOf (drop k t) ≡ limitAt t k ∷ limitsOf (drop (k + 1) t)
+limits-more t k h = rw (add-one k, drop-cons t k [])
 
-limits-few : (t : List ℕ) → length t < 3 → limitsOf t ≡ []
-unfolding limitsOf
-limits-few [] h = refl
-limits-few (a ∷ []) h = refl
-limits-few (a ∷ b ∷ []) h = refl
-limits-few (a ∷ b ∷ c ∷ t) h = absurd (omega arith)
-
-pub limits-end : (t : List ℕ) (k : ℕ) → length t / 3 ≤ k → limitsOf (drop (3 * k) t) ≡ []
-limits-end t k h = limits-few (drop (3 * k) t) (omega (arith, length-drop (3 * k) t))
+pub limits-end : (t : List (List ℕ)) (k : ℕ) → length t ≤ k → limitsOf (drop k t) ≡ []
+limits-end t k h = rw (drop-of-length-le t {i = k} h)
 
 -- ---- one number
+
+module _ (l : Limit) (last n : ℕ) where
+  pub within-below : n < l .low → within l last n ≡ false
+  within-below h = rw (lt-leb (l .low) n h)
+
+  pub within-above : l .low ≤ n → l .high < n → within l last n ≡ false
+  within-above h k = rw (le-leb (l .low) n h, lt-leb n (l .high) k)
+
+  module _ (h : l .low ≤ n) (k : n ≤ l .high) where
+    ruled : within l last n ≡ byRule (l .rule) last n
+    ruled = rw (le-leb (l .low) n h, le-leb n (l .high) k)
+
+    pub within-or-none : l .rule ≡ orNone → within l last n ≡ ltb 0 n
+    within-or-none e = ruled ∙ rw (eq-eqb (l .rule) orNone e)
+
+    pub within-capped : (l .rule ≡ orNone → ⊥) → l .rule ≡ capped → within l last n ≡ leb n last
+    within-capped d e = ruled ∙ rw (ne-eqb (l .rule) orNone d, eq-eqb (l .rule) capped e)
+
+    pub within-plain : (l .rule ≡ orNone → ⊥) → (l .rule ≡ capped → ⊥) → within l last n ≡ true
+    within-plain d e = ruled ∙ rw (ne-eqb (l .rule) orNone d, ne-eqb (l .rule) capped e)
 
 pub within-high : (l : Limit) (last n : ℕ) → within l last n ≡ true → n ≤ l .high
 within-high l last n e = leb-true n (l .high) (both-hold (leb n (l .high)) _ (both-hold (leb (l .low) n) _ e .1) .0)
@@ -73,19 +72,26 @@ unfolding allHold
 hold-fails l ls last n ns e = rw e
 
 -- a step of the loop: the number and the limit at place k
-module _ (t ns : List ℕ) (k last : ℕ) (h : k < length t / 3) (l : k < length ns) where
-  step : allHold (limitsOf (drop (3 * k) t)) last (drop k ns)
-      ≡ allHold (limitAt t k ∷ limitsOf (drop (3 * (k + 1)) t)) last (getD ns k 0 ∷ drop (k + 1) ns)
-  step = rw (limits-more t k h, add-one k, drop-cons ns k 0)
+module _ (t : List (List ℕ)) (ns : List ℕ) (k last : ℕ) (h : k < length t) (l : k < length ns) where
+  step : allHold (limitsOf (drop k t)) last (drop k ns)
+      ≡ allHold (limitAt t k ∷ limitsOf (drop (k + 1) t)) last (getD ns k 0 ∷ drop (k + 1) ns)
+  step = rw (limits-more t k h, drop-more ns k l)
 
   pub step-more : holds (limitAt t k) last (getD ns k 0) ≡ true
-      → allHold (limitsOf (drop (3 * k) t)) last (drop k ns) ≡ allHold (limitsOf (drop (3 * (k + 1)) t)) (getD ns k 0) (drop (k + 1) ns)
-  step-more e = step ∙ hold-more _ (limitsOf (drop (3 * (k + 1)) t)) last (getD ns k 0) (drop (k + 1) ns) e
+      → allHold (limitsOf (drop k t)) last (drop k ns) ≡ allHold (limitsOf (drop (k + 1) t)) (getD ns k 0) (drop (k + 1) ns)
+  step-more e = step ∙ hold-more _ (limitsOf (drop (k + 1) t)) last (getD ns k 0) (drop (k + 1) ns) e
 
   pub step-fails : holds (limitAt t k) last (getD ns k 0) ≡ false
-      → allHold (limitsOf (drop (3 * k) t)) last (drop k ns) ≡ false
-  step-fails e = step ∙ hold-fails _ (limitsOf (drop (3 * (k + 1)) t)) last (getD ns k 0) (drop (k + 1) ns) e
+      → allHold (limitsOf (drop k t)) last (drop k ns) ≡ false
+  step-fails e = step ∙ hold-fails _ (limitsOf (drop (k + 1) t)) last (getD ns k 0) (drop (k + 1) ns) e
 
-pub hold-done : (t ns : List ℕ) (k last : ℕ) → length t / 3 ≤ k → length ns ≤ k → allHold (limitsOf (drop (3 * k) t)) last (drop k ns) ≡ true
+pub hold-done : (t : List (List ℕ)) (ns : List ℕ) (k last : ℕ) → length t ≤ k → length ns ≤ k → allHold (limitsOf (drop k t)) last (drop k ns) ≡ true
 unfolding allHold
-hold-done t ns k last h l = rw (limits-end t k h, lib.ListN.drop-of-length-le ns {i = k} l)
+hold-done t ns k last h l = rw (limits-end t k h, drop-of-length-le ns {i = k} l)
+
+pub hold-length : (ls : List Limit) (last : ℕ) (ns : List ℕ) → allHold ls last ns ≡ true → length ns ≡ length ls
+unfolding allHold
+hold-length [] last [] h = refl
+hold-length [] last (n ∷ ns) h = absurd (true≢false (sym h))
+hold-length (l ∷ ls) last [] h = absurd (true≢false (sym h))
+hold-length (l ∷ ls) last (n ∷ ns) h = ap suc (hold-length ls n ns (both-hold (holds l last n) (allHold ls n ns) h .1))

@@ -1,7 +1,7 @@
 -- Laws of numbers: read digit by digit, written digit by digit, and the round trip both ways. Assumes nothing.
 use mathlib.Core.Path.{_≡_, refl, sym, ap, _∙_}
 use mathlib.Core.Logic.{_≢_}
-use mathlib.Core.Bool.{Bool, true, false, _&&_}
+use mathlib.Core.Bool.{Bool, true, false, _&&_, true≢false}
 use mathlib.Core.List.{List, [], _∷_, _++_, append-nil, append-assoc}
 use Prim.Native.Nat.{ℕ, zero, suc, _+_, _*_, _-_, _/_, _%_, _^_, _≤_, _<_}
 use native.Mathlib.Numerals.{add-one}
@@ -22,7 +22,7 @@ digit-is b h l = rw (le-leb 48 b h, le-leb b 57 l)
 -- both halves of a conjunction that holds
 pub both-hold : (s t : Bool) → (s && t) ≡ true → (s ≡ true) × (t ≡ true)
 both-hold true t e = (refl, e)
-both-hold false t e = absurd (mathlib.Core.Bool.true≢false (sym e))
+both-hold false t e = absurd (true≢false (sym e))
 
 pub digit-low : (b : ℕ) → isDigit b ≡ true → 48 ≤ b
 digit-low b e = leb-true 48 b (both-hold _ _ e .0)

@@ -2,7 +2,7 @@
 use mathlib.Core.Path.{_≡_, refl, sym, ap, _∙_}
 use mathlib.Core.Bool.{Bool, true, false, cond}
 use mathlib.Core.List.{List, [], _∷_, _++_, append-nil, append-assoc}
-use Prim.Native.Nat.{ℕ, zero, suc, _+_, _-_, _*_, _/_, _≤_, _<_}
+use Prim.Native.Nat.{ℕ, _+_, _-_, _≤_, _<_}
 use native.Mathlib.Nat.{add-zero, zero-add, add-assoc}
 use native.Mathlib.Omega.{arith}
 use borrow.Author.Tests.{eq-eqb, ne-eqb, eqb-true, eqb-false}
@@ -16,7 +16,7 @@ use Rattle.text.specs.declared.LineRead.the-variants.{Taken, Fault}
 use Rattle.text.specs.Quoted.{tab, feed}
 use Rattle.text.specs.Limit.{Limit, limitsOf}
 use Rattle.text.specs.Field.{agreed}
-use Rattle.text.specs.Line.{Line, lineOf, Reading, Reads, shift, after, nothing, refused, ender, onEntry, readEntry, readNumbers, readLine}
+use Rattle.text.specs.Line.{Line, lineOf, Reading, Reads, shift, after, nothing, refused, followed, ender, onEntry, readEntry, readNumbers, readLine}
 use Rattle.text.proofs.Field.{agreed-fits}
 use Rattle.text.proofs.Stores.{sets-snoc, rest-part}
 use Rattle.text.proofs.Limit.{limitAt, limits-more, limits-end, length-limits}
@@ -44,33 +44,33 @@ ender-left : (ls : List Limit) → ender ls ≡ cond (eqb (length ls) 0) feed ta
 ender-left [] = refl
 ender-left (l ∷ ls) = rw (lib.Dec.eqb·suc-zero (length ls))
 
-pub ender-after : (t : List ℕ) (k : ℕ) → ender (limitsOf (drop (3 * (k + 1)) t)) ≡ cond (eqb (length t / 3 - k - 1) 0) feed tab
+pub ender-after : (t : List (List ℕ)) (k : ℕ) → ender (limitsOf (drop (k + 1) t)) ≡ cond (eqb (length t - k - 1) 0) feed tab
 ender-after t k =
-    let n : length (limitsOf (drop (3 * (k + 1)) t)) ≡ length t / 3 - k - 1 = omega (arith, length-limits (drop (3 * (k + 1)) t), length-drop (3 * (k + 1)) t) in
-    ender-left (limitsOf (drop (3 * (k + 1)) t)) ∙ rw n
+    let n : length (limitsOf (drop (k + 1) t)) ≡ length t - k - 1 = omega (arith, length-limits (drop (k + 1) t), length-drop (k + 1) t) in
+    ender-left (limitsOf (drop (k + 1) t)) ∙ rw n
 
 -- k numbers are read, which took `at` bytes of t
-pub record State (table t o₀ o : List ℕ) (k last at : ℕ) : Type 0 where
+pub record State (table : List (List ℕ)) (t o₀ o : List ℕ) (k last at : ℕ) : Type 0 where
   pub so : List ℕ
-  pub k-in : k ≤ length table / 3
+  pub k-in : k ≤ length table
   pub at-in : at ≤ length t
   pub many : length so ≡ k
   pub stored : o ≡ sets o₀ 0 so
-  pub so-far : readNumbers (limitsOf table) 0 t ≡ after so at (readNumbers (limitsOf (drop (3 * k) table)) last (drop at t))
+  pub so-far : readNumbers (limitsOf table) 0 t ≡ after so at (readNumbers (limitsOf (drop k table)) last (drop at t))
 
-pub start : (table t o : List ℕ) → State table t o o 0 0 0
+pub start : (table : List (List ℕ)) (t o : List ℕ) → State table t o o 0 0 0
 start table t o = record { so = []; k-in = omega arith; at-in = omega arith; many = refl; stored = refl; so-far = sym (after-nothing (readNumbers (limitsOf table) 0 t)) }
 
-module _ {table t o₀ o : List ℕ} {k last at : ℕ} (s : State table t o₀ o k last at) where
-  pub done : length table / 3 ≤ k → Reads (readNumbers (limitsOf table) 0 t) o₀ (Taken at) o
+module _ {table : List (List ℕ)} {t o₀ o : List ℕ} {k last at : ℕ} (s : State table t o₀ o k last at) where
+  pub done : length table ≤ k → Reads (readNumbers (limitsOf table) 0 t) o₀ (Taken at) o
   unfolding readNumbers
   done h =
       let e : readNumbers (limitsOf table) 0 t ≡ after (s .so) at nothing = s .so-far ∙ ap (λ (ls : List Limit). after (s .so) at (readNumbers ls last (drop at t))) (limits-end table k h) in
       record { answer = rw (e, add-zero at); stored = s .stored ∙ rw (e, append-nil (s .so)) }
 
-  module _ (h : k < length table / 3) (e : ℕ) (w : e ≡ cond (eqb (length table / 3 - k - 1) 0) feed tab) where
-    entered : readNumbers (limitsOf (drop (3 * k) table)) last (drop at t)
-        ≡ onEntry (readEntry (limitAt table k) last e (drop at t)) (readNumbers (limitsOf (drop (3 * (k + 1)) table))) (drop at t)
+  module _ (h : k < length table) (e : ℕ) (w : e ≡ cond (eqb (length table - k - 1) 0) feed tab) where
+    entered : readNumbers (limitsOf (drop k table)) last (drop at t)
+        ≡ onEntry (readEntry (limitAt table k) last e (drop at t)) (readNumbers (limitsOf (drop (k + 1) table))) (drop at t)
     unfolding readNumbers
     entered = rw (limits-more table k h, ender-after table k, w)
 
@@ -87,15 +87,15 @@ module _ {table t o₀ o : List ℕ} {k last at : ℕ} (s : State table t o₀ o
     pub fault : {number place : ℕ} → readEntry (limitAt table k) last e (drop at t) ≡ Misread number place
         → Reads (readNumbers (limitsOf table) 0 t) o₀ (Fault number (at + place)) o
     fault {number} {place} v =
-        let r : readNumbers (limitsOf (drop (3 * k) table)) last (drop at t) ≡ refused number place = entered ∙ rw v in
+        let r : readNumbers (limitsOf (drop k table)) last (drop at t) ≡ refused number place = entered ∙ rw v in
         let q : readNumbers (limitsOf table) 0 t ≡ after (s .so) at (refused number place) = s .so-far ∙ ap (after (s .so) at) r in
         record { answer = rw q; stored = s .stored ∙ rw (q, append-nil (s .so)) }
 
     pub step : {n len : ℕ} → readEntry (limitAt table k) last e (drop at t) ≡ Number n len
         → State table t o₀ (set o k n) (k + 1) n (at + len)
     step {n} {len} v =
-        let rest : Reading = readNumbers (limitsOf (drop (3 * (k + 1)) table)) n (drop (at + len) t) in
-        let q : readNumbers (limitsOf (drop (3 * k) table)) last (drop at t) ≡ after (n ∷ []) len rest = entered ∙ rw (v, drop-drop len at t) in
+        let rest : Reading = readNumbers (limitsOf (drop (k + 1) table)) n (drop (at + len) t) in
+        let q : readNumbers (limitsOf (drop k table)) last (drop at t) ≡ after (n ∷ []) len rest = entered ∙ rw (v, drop-drop len at t) in
         record {
           so = s .so ++ (n ∷ []);
           k-in = omega arith;
@@ -146,7 +146,7 @@ line-extent l t = go (eqb (agreed (l .tag) t) (length (l .tag))) refl
 
 -- ---- what the line reader leaves
 
-module _ (tag table t o₀ : List ℕ) (same : ℕ) (q : same ≡ agreed tag t) where
+module _ (tag : List ℕ) (table : List (List ℕ)) (t o₀ : List ℕ) (same : ℕ) (q : same ≡ agreed tag t) where
   pub reads-untagged : (same ≡ length tag → ⊥) → Reads (readLine (lineOf tag table) t) o₀ (Fault 2 same) o₀
   reads-untagged n =
       let e : readLine (lineOf tag table) t ≡ refused 2 same = line-untagged (lineOf tag table) t (λ (d : agreed tag t ≡ length tag). n (q ∙ d)) ∙ rw q in
@@ -160,10 +160,18 @@ module _ (tag table t o₀ : List ℕ) (same : ℕ) (q : same ≡ agreed tag t) 
       pub reads-tagged : Reads (readLine (lineOf tag table) t) o₀ (shift (length tag) r) o
       reads-tagged =
           let e : readLine (lineOf tag table) t ≡ after [] (length tag) (readNumbers (limitsOf table) 0 (take (length t - length tag) (drop (length tag) t))) =
-              line-tagged (lineOf tag table) t (sym q ∙ d) ∙ rw (rest-part t (length tag)) in
+          line-tagged (lineOf tag table) t (sym q ∙ d) ∙ rw (rest-part t (length tag)) in
           record { answer = rw (e, p .answer); stored = p .stored ∙ rw e }
 
       pub tagged-in : length tag + extent r ≤ length t
       tagged-in =
           let n : length (take (length t - length tag) (drop (length tag) t)) ≡ length t - length tag = ap length (rest-part t (length tag)) ∙ length-drop (length tag) t in
           omega (arith, ap extent (p .answer), numbers-extent (limitsOf table) 0 (take (length t - length tag) (drop (length tag) t)), tag-fits)
+
+-- ---- one reading followed by another
+
+pub followed-taken : (p : Reading) (next : List ℕ → Reading) (t : List ℕ) (k : ℕ) → p .ended ≡ Taken k → followed p next t ≡ after (p .numbers) k (next (drop k t))
+followed-taken p next t k e = rw e
+
+pub followed-fault : (p : Reading) (next : List ℕ → Reading) (t : List ℕ) (number at : ℕ) → p .ended ≡ Fault number at → followed p next t ≡ p
+followed-fault p next t number at e = rw e

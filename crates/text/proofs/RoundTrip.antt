@@ -1,6 +1,6 @@
 -- What is written reads back, and what is read is what would be written: a number with its ending byte, numbers, a line, of any form. Assumes nothing.
 use mathlib.Core.Path.{_≡_, refl, sym, ap, _∙_}
-use mathlib.Core.Bool.{Bool, true, false, _&&_, _||_, cond, and-false}
+use mathlib.Core.Bool.{Bool, true, false, _&&_, _||_, cond, and-false, true≢false}
 use mathlib.Core.List.{List, [], _∷_, _++_, append-nil, append-assoc}
 use Prim.Native.Nat.{ℕ, zero, suc, _+_, _/_, _%_, _≤_, _<_}
 use native.Mathlib.Nat.{add-zero}
@@ -192,8 +192,8 @@ pub numbers-forth : (ls : List Limit) (last : ℕ) (ns rest : List ℕ) → narr
     → readNumbers ls last (numbersText ls ns ++ rest) ≡ got (length (numbersText ls ns)) ns
 unfolding readNumbers numbersText allHold narrow
 numbers-forth [] last [] rest w h = refl
-numbers-forth [] last (n ∷ ns) rest w h = absurd (mathlib.Core.Bool.true≢false (sym h))
-numbers-forth (l ∷ ls) last [] rest w h = absurd (mathlib.Core.Bool.true≢false (sym h))
+numbers-forth [] last (n ∷ ns) rest w h = absurd (true≢false (sym h))
+numbers-forth (l ∷ ls) last [] rest w h = absurd (true≢false (sym h))
 numbers-forth (l ∷ ls) last (n ∷ ns) rest w h =
     let hs = both-hold (holds l last n) (allHold ls n ns) h in
     let ws = both-hold (ltb (l .high) elevenDigits) (narrow ls) w in

@@ -6,7 +6,7 @@ use native.Mathlib.Nat.{add-zero, add-suc, suc-add}
 use native.Mathlib.Omega.{arith}
 use native.Mathlib.Numerals.{add-one}
 use lib.ListN.{length, getD, take, drop, set, length-drop, take-append-drop, drop-of-length-le}
-use lib.Seq.{sets, take-all, set-out, take-suc, length-take-le, take-set-le, drop-set-add}
+use lib.Seq.{sets, drop-cons, take-all, set-out, take-suc, length-take-le, take-set-le, drop-set-add}
 
 pub sets-append : (l : List ℕ) (i : ℕ) (xs ys : List ℕ) → sets l i (xs ++ ys) ≡ sets (sets l i xs) (i + length xs) ys
 sets-append l i [] ys = rw add-zero
@@ -36,6 +36,10 @@ take-sets l n i [] h = refl
 take-sets l n i (x ∷ xs) h = take-sets (set l i x) n (suc i) xs (omega arith) ∙ take-set-le n l i x h
 
 -- ---- parts, as the code lends them
+
+-- the element at k, and those after it
+pub drop-more : (l : List ℕ) (k : ℕ) → k < length l → drop k l ≡ getD l k 0 ∷ drop (k + 1) l
+drop-more l k h = rw (add-one k, drop-cons l k 0)
 
 -- the part of t from a on
 pub rest-part : (t : List ℕ) (a : ℕ) → take (length t - a) (drop a t) ≡ drop a t

@@ -2,16 +2,15 @@
 use mathlib.Core.Path.{_≡_, refl, sym, ap, _∙_}
 use mathlib.Core.Bool.{Bool, true, false, _&&_, cond}
 use mathlib.Core.List.{List, [], _∷_, _++_, append-nil, append-assoc}
-use Prim.Native.Nat.{ℕ, suc, _+_, _-_, _*_, _/_, _≤_, _<_}
-use native.Mathlib.Numerals.{add-one}
+use Prim.Native.Nat.{ℕ, suc, _+_, _-_, _*_, _≤_, _<_}
 use native.Mathlib.Omega.{arith}
 use lib.Dec.{eqb}
 use lib.ListN.{length, drop, getD, set, drop-of-length-le}
-use lib.Seq.{sets, drop-cons}
 use Rattle.text.specs.Quoted.{tab, feed, dash}
 use Rattle.text.specs.Number.{elevenDigits, digitsOf}
-use Rattle.text.specs.Limit.{Limit, limit, orNone, isNone, limitsOf}
+use Rattle.text.specs.Limit.{Limit, isNone, limitsOf}
 use Rattle.text.specs.Line.{Laid, ender, entryText, numbersText}
+use Rattle.text.proofs.Stores.{drop-more}
 use Rattle.text.proofs.Number.{length-digits-ten}
 use Rattle.text.proofs.Limit.{limitAt, limits-more, limits-end}
 use Rattle.text.proofs.Reading.{ender-after}
@@ -33,38 +32,38 @@ unfolding numbersText
 numbers-none [] = refl
 numbers-none (l ∷ ls) = refl
 
-pub numbers-end : (table ns : List ℕ) (k : ℕ) → length table / 3 ≤ k → numbersText (limitsOf (drop (3 * k) table)) (drop k ns) ≡ []
+pub numbers-end : (table : List (List ℕ)) (ns : List ℕ) (k : ℕ) → length table ≤ k → numbersText (limitsOf (drop k table)) (drop k ns) ≡ []
 unfolding numbersText
 numbers-end table ns k h = rw (limits-end table k h)
 
-pub numbers-out : (table ns : List ℕ) (k : ℕ) → length ns ≤ k → numbersText (limitsOf (drop (3 * k) table)) (drop k ns) ≡ []
-numbers-out table ns k h = rw (drop-of-length-le ns {i = k} h) (numbers-none (limitsOf (drop (3 * k) table)))
+pub numbers-out : (table : List (List ℕ)) (ns : List ℕ) (k : ℕ) → length ns ≤ k → numbersText (limitsOf (drop k table)) (drop k ns) ≡ []
+numbers-out table ns k h = rw (drop-of-length-le ns {i = k} h) (numbers-none (limitsOf (drop k table)))
 
-pub numbers-more : (table ns : List ℕ) (k : ℕ) → k < length table / 3 → k < length ns
-    → numbersText (limitsOf (drop (3 * k) table)) (drop k ns)
-      ≡ entryText (limitAt table k) (getD ns k 0) ++ (cond (eqb (length table / 3 - k - 1) 0) feed tab ∷ numbersText (limitsOf (drop (3 * (k + 1)) table)) (drop (k + 1) ns))
+pub numbers-more : (table : List (List ℕ)) (ns : List ℕ) (k : ℕ) → k < length table → k < length ns
+    → numbersText (limitsOf (drop k table)) (drop k ns)
+    ≡ entryText (limitAt table k) (getD ns k 0) ++ (cond (eqb (length table - k - 1) 0) feed tab ∷ numbersText (limitsOf (drop (k + 1) table)) (drop (k + 1) ns))
 unfolding numbersText
-numbers-more table ns k h l = rw (limits-more table k h, add-one k, drop-cons ns k 0, ← add-one k, ender-after table k)
+numbers-more table ns k h l = rw (limits-more table k h, drop-more ns k l, ender-after table k)
 
 -- ---- the loop
 
 -- k numbers are laid, from start up to `at`
-pub record State (table ns o₀ o : List ℕ) (start k at : ℕ) : Type 0 where
+pub record State (table : List (List ℕ)) (ns o₀ o : List ℕ) (start k at : ℕ) : Type 0 where
   pub so : List ℕ
-  pub k-in : k ≤ length table / 3
+  pub k-in : k ≤ length table
   pub most : at ≤ start + 11 * k
   pub laid : Laid so o₀ start at o
-  pub so-far : numbersText (limitsOf table) ns ≡ so ++ numbersText (limitsOf (drop (3 * k) table)) (drop k ns)
+  pub so-far : numbersText (limitsOf table) ns ≡ so ++ numbersText (limitsOf (drop k table)) (drop k ns)
 
-pub begin : (table ns o : List ℕ) (start : ℕ) → State table ns o o start 0 start
+pub begin : (table : List (List ℕ)) (ns o : List ℕ) (start : ℕ) → State table ns o o start 0 start
 begin table ns o start = record { so = []; k-in = omega arith; most = omega arith; laid = laid-none o start; so-far = refl }
 
-module _ {table ns o₀ o : List ℕ} {start k at : ℕ} (s : State table ns o₀ o start k at) where
-  pub done : numbersText (limitsOf (drop (3 * k) table)) (drop k ns) ≡ [] → Laid (numbersText (limitsOf table) ns) o₀ start at o
+module _ {table : List (List ℕ)} {ns o₀ o : List ℕ} {start k at : ℕ} (s : State table ns o₀ o start k at) where
+  pub done : numbersText (limitsOf (drop k table)) (drop k ns) ≡ [] → Laid (numbersText (limitsOf table) ns) o₀ start at o
   done e = rw (s .so-far, e, append-nil) (s .laid)
 
-  pub step : {mid e : ℕ} {o₁ : List ℕ} → k < length table / 3 → k < length ns → getD ns k 0 < elevenDigits → e ≡ cond (eqb (length table / 3 - k - 1) 0) feed tab
-      → Laid (entryText (limit 0 0 (getD table (3 * k + 2) 0)) (getD ns k 0)) o at mid o₁ → State table ns o₀ (set o₁ mid e) start (k + 1) (mid + 1)
+  pub step : {mid e : ℕ} {o₁ : List ℕ} → k < length table → k < length ns → getD ns k 0 < elevenDigits → e ≡ cond (eqb (length table - k - 1) 0) feed tab
+      → Laid (entryText (limitAt table k) (getD ns k 0)) o at mid o₁ → State table ns o₀ (set o₁ mid e) start (k + 1) (mid + 1)
   step {mid} {e} {o₁} h l n w p =
       let x : List ℕ = entryText (limitAt table k) (getD ns k 0) in
       record {

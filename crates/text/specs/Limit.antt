@@ -2,8 +2,9 @@
 -- The reader, the writer and the register's check go by these alone. Assumes nothing: these are definitions.
 use Prim.Native.Nat.{ℕ}
 use mathlib.Core.Bool.{Bool, true, false, _&&_, _||_, cond}
-use mathlib.Core.List.{List, [], _∷_}
+use mathlib.Core.List.{List, [], _∷_, map}
 use lib.Dec.{eqb, leb, ltb}
+use lib.ListN.{getD}
 
 pub record Limit : Type 0 where
   pub low : ℕ
@@ -58,9 +59,9 @@ allHold [] last (n ∷ ns) = false
 allHold (l ∷ ls) last [] = false
 allHold (l ∷ ls) last (n ∷ ns) = holds l last n && allHold ls n ns
 
--- the code's table: three numbers a limit
-unfoldable pub limitsOf : List ℕ → List Limit
-limitsOf [] = []
-limitsOf (low ∷ []) = []
-limitsOf (low ∷ high ∷ []) = []
-limitsOf (low ∷ high ∷ rule ∷ table) = limit low high rule ∷ limitsOf table
+-- the code's tables: three numbers a limit
+abbrev pub limitOf : List ℕ → Limit
+limitOf l = limit (getD l 0 0) (getD l 1 0) (getD l 2 0)
+
+abbrev pub limitsOf : List (List ℕ) → List Limit
+limitsOf table = map limitOf table

@@ -32,7 +32,7 @@ pub record Line : Type 0 where
   pub tag : List ℕ
   pub limits : List Limit
 
-abbrev pub lineOf : List ℕ → List ℕ → Line
+abbrev pub lineOf : List ℕ → List (List ℕ) → Line
 lineOf tag table = record { tag = tag; limits = limitsOf table }
 
 -- what ends a number, by the limits of the numbers after it
@@ -62,6 +62,10 @@ shift k (Fault number at) = Fault number (k + at)
 abbrev pub after : List ℕ → ℕ → Reading → Reading
 after ns k p = record { ended = shift k (p .ended); numbers = ns ++ p .numbers }
 
+-- p, and where it went well, next of the bytes of t that follow it
+abbrev pub followed : Reading → (List ℕ → Reading) → List ℕ → Reading
+followed p next t = elim (p .ended) [ Taken k ↦ after (p .numbers) k (next (drop k t)) | Fault number at ↦ p ]
+
 -- the number n and k bytes of t are taken, if they are; then the rest is read after n
 abbrev pub onEntry : EntryRead → (ℕ → List ℕ → Reading) → List ℕ → Reading
 onEntry (Misread number at) rest t = refused number at
@@ -87,9 +91,9 @@ readNumbers (l ∷ ls) last t = onEntry (readEntry l last (ender ls) t) (readNum
 
 unfoldable pub readLine : Line → List ℕ → Reading
 readLine l t =
-    elim (eqb (agreed (l .tag) t) (length (l .tag)))
-    [ true ↦ after [] (length (l .tag)) (readNumbers (l .limits) 0 (drop (length (l .tag)) t))
-    | false ↦ refused brokenLine (agreed (l .tag) t)
+    elim (eqb (agreed (l .tag) t) (length (l .tag))) [
+      | true ↦ after [] (length (l .tag)) (readNumbers (l .limits) 0 (drop (length (l .tag)) t))
+      | false ↦ refused brokenLine (agreed (l .tag) t)
     ]
 
 -- ---- writing

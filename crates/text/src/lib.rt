@@ -8,16 +8,22 @@ ghost use lib.Seq.{sets};
 ghost use Rattle.text.specs.Field.{fieldOf, begins, agreed};
 ghost use Rattle.text.specs.Quoted.{tab, feed, dash};
 ghost use Rattle.text.specs.Number.{isDigit, nineDigits, numberOf, digitsOf};
-ghost use Rattle.text.specs.Limit.{orNone, limit, isNone, within, holds, allHold, limitsOf};
+ghost use Rattle.text.specs.Limit.{orNone, limitOf, isNone, within, holds, allHold, limitsOf};
 ghost use Rattle.text.specs.Line.{lineOf, readEntry, readNumbers, readLine, entryText, numbersText, lineText, Reads, Laid};
 
-// The rules of a limit, as the tables number them.
+// What a number of a line may be: its least and greatest value, and a rule.
+pub type Limit = [u32; 3];
+
+// The rules: none beyond the two values; or 0 for none, written `-`; or not above the number before it.
 pub const PLAIN: u32 = 0;
+
 pub const OR_NONE: u32 = 1;
+
 pub const CAPPED: u32 = 2;
 
 // The refusals of a text.
 pub const BROKEN_LINE: u32 = 2;
+
 pub const OUTSIDE_LIMITS: u32 = 3;
 
 // What the bytes of a field read as: a number, or the place of the first byte at fault.
@@ -159,9 +165,12 @@ pub fn write_number(out: &mut [u8], n: u64) -> usize
 
 // ---- limits
 
-fn is_within(low: u32, high: u32, rule: u32, last: u32, n: u64) -> bool
-    ensures { λ r. ⌜ r ≡ within (limit low high rule) last n ⌝ }
+fn is_within(l: Limit, last: u32, n: u64) -> bool
+    ensures { λ r. ⌜ r ≡ within (limitOf l) last n ⌝ }
 {
+    let low = l[0];
+    let high = l[1];
+    let rule = l[2];
     if n < low as u64 {
         return false;
     }
@@ -178,34 +187,35 @@ fn is_within(low: u32, high: u32, rule: u32, last: u32, n: u64) -> bool
 }
 
 // Whether n is a 0 that stands for none.
-fn is_none(rule: u32, n: u32) -> bool
-    ensures { λ r. ⌜ r ≡ (eqb rule orNone && eqb n 0) ⌝ }
+fn is_none(l: Limit, n: u32) -> bool
+    ensures { λ r. ⌜ r ≡ isNone (limitOf l) n ⌝ }
 {
+    let rule = l[2];
     if rule == OR_NONE { n == 0 } else { false }
 }
 
-fn may_stand(low: u32, high: u32, rule: u32, last: u32, n: u32) -> bool
-    ensures { λ r. ⌜ r ≡ holds (limit low high rule) last n ⌝ }
+fn may_stand(l: Limit, last: u32, n: u32) -> bool
+    ensures { λ r. ⌜ r ≡ holds (limitOf l) last n ⌝ }
 {
-    if is_none(rule, n) {
+    if is_none(l, n) {
         true
     } else {
-        is_within(low, high, rule, last, n as u64)
+        is_within(l, last, n as u64)
     }
 }
 
 // Whether there is a number for each limit of the table, and each may stand where it does.
-pub fn all_hold(table: &[u32], numbers: &[u32]) -> bool
+pub fn all_hold(table: &[Limit], numbers: &[u32]) -> bool
     ensures { λ r. ⌜ r ≡ allHold (limitsOf (now (table .entry))) 0 (now (numbers .entry)) ⌝ }
 {
-    if table.len() / 3 != numbers.len() {
+    if table.len() != numbers.len() {
         return false;
     }
     let mut k = 0;
     let mut last = 0;
     while k < numbers.len() {
         let n = numbers[k];
-        if may_stand(table[3 * k], table[3 * k + 1], table[3 * k + 2], last, n) {
+        if may_stand(table[k], last, n) {
             last = n;
             k += 1;
         } else {
@@ -225,17 +235,22 @@ fn ender_before(left: usize) -> u8
 }
 
 // Whether text starts with a `-` that may stand there.
-fn is_dash(rule: u32, text: &[u8]) -> bool
-    ensures { λ r. ⌜ r ≡ (eqb rule orNone && begins dash (now (text .entry))) ⌝ }
+fn is_dash(l: Limit, text: &[u8]) -> bool
+    ensures { λ r. ⌜ r ≡ (eqb (limitOf l .rule) orNone && begins dash (now (text .entry))) ⌝ }
 {
-    if rule == OR_NONE { starts(text, b'-') } else { false }
+    let rule = l[2];
+    if rule == OR_NONE {
+        starts(text, b'-')
+    } else {
+        false
+    }
 }
 
 // Reads a number, or a `-`, and the byte that must end it: the form first, then the limits.
-fn read_entry(low: u32, high: u32, rule: u32, last: u32, ender: u8, text: &[u8]) -> EntryRead
-    ensures { λ r. ⌜ r ≡ readEntry (limit low high rule) last ender (now (text .entry)) ⌝ }
+fn read_entry(l: Limit, last: u32, ender: u8, text: &[u8]) -> EntryRead
+    ensures { λ r. ⌜ r ≡ readEntry (limitOf l) last ender (now (text .entry)) ⌝ }
 {
-    if is_dash(rule, text) {
+    if is_dash(l, text) {
         if starts(&text[1..], ender) {
             return EntryRead::Number(0, 2);
         } else {
@@ -248,7 +263,7 @@ fn read_entry(low: u32, high: u32, rule: u32, last: u32, ender: u8, text: &[u8])
         NumberRead::Malformed(at) => EntryRead::Misread(BROKEN_LINE, at),
         NumberRead::Value(n) => {
             if starts(&text[len..], ender) {
-                if is_within(low, high, rule, last, n) {
+                if is_within(l, last, n) {
                     EntryRead::Number(n as u32, len + 1)
                 } else {
                     EntryRead::Misread(OUTSIDE_LIMITS, 0)
@@ -269,16 +284,16 @@ fn store_number(out: &mut [u32], at: usize, n: u32)
     }
 }
 
-fn read_numbers(table: &[u32], text: &[u8], out: &mut [u32]) -> LineRead
+fn read_numbers(table: &[Limit], text: &[u8], out: &mut [u32]) -> LineRead
     ensures { λ r. ⌜ Reads (readNumbers (limitsOf (now (table .entry))) 0 (now (text .entry))) (now (out .entry)) r (now (out .exit)) ⌝ }
 {
-    let count = table.len() / 3;
+    let count = table.len();
     let mut k = 0;
     let mut last = 0;
     let mut at = 0;
     while k < count {
         let ender = ender_before(count - k - 1);
-        match read_entry(table[3 * k], table[3 * k + 1], table[3 * k + 2], last, ender, &text[at..]) {
+        match read_entry(table[k], last, ender, &text[at..]) {
             EntryRead::Misread(refusal, place) => {
                 return LineRead::Fault(refusal, at + place);
             }
@@ -294,7 +309,7 @@ fn read_numbers(table: &[u32], text: &[u8], out: &mut [u32]) -> LineRead
 }
 
 // Reads one line by its form from the start of text: the tag's bytes, then a number for each limit of the table, stored in out.
-pub fn read_line(tag: &[u8], table: &[u32], text: &[u8], out: &mut [u32]) -> LineRead
+pub fn read_line(tag: &[u8], table: &[Limit], text: &[u8], out: &mut [u32]) -> LineRead
     ensures { λ r. ⌜ Reads (readLine (lineOf (now (tag .entry)) (now (table .entry))) (now (text .entry))) (now (out .entry)) r (now (out .exit)) ⌝ }
 {
     let size = tag.len();
@@ -320,11 +335,11 @@ fn write_tag(tag: &[u8], out: &mut [u8])
 }
 
 // Writes n, or the `-` that it stands for, from a place on, and answers the place after it.
-fn write_entry(rule: u32, n: u32, out: &mut [u8], at: usize) -> usize
+fn write_entry(l: Limit, n: u32, out: &mut [u8], at: usize) -> usize
     requires { ⌜ at + 11 < 2 ^ 64 ⌝ }
-    ensures { λ r. ⌜ Laid (entryText (limit 0 0 rule) n) (now (out .entry)) at r (now (out .exit)) ⌝ }
+    ensures { λ r. ⌜ Laid (entryText (limitOf l) n) (now (out .entry)) at r (now (out .exit)) ⌝ }
 {
-    if is_none(rule, n) {
+    if is_none(l, n) {
         store(out, at, b'-');
         return at + 1;
     }
@@ -335,18 +350,18 @@ fn write_entry(rule: u32, n: u32, out: &mut [u8], at: usize) -> usize
     }
 }
 
-fn write_numbers(table: &[u32], numbers: &[u32], out: &mut [u8], start: usize) -> usize
+fn write_numbers(table: &[Limit], numbers: &[u32], out: &mut [u8], start: usize) -> usize
     requires { ⌜ start < 2 ^ 63 ⌝ }
     ensures { λ r. ⌜ Laid (numbersText (limitsOf (now (table .entry))) (now (numbers .entry))) (now (out .entry)) start r (now (out .exit)) ⌝ }
 {
-    let count = table.len() / 3;
+    let count = table.len();
     let mut k = 0;
     let mut at = start;
     while k < count {
         if k >= numbers.len() {
             return at;
         }
-        at = write_entry(table[3 * k + 2], numbers[k], out, at);
+        at = write_entry(table[k], numbers[k], out, at);
         store(out, at, ender_before(count - k - 1));
         at += 1;
         k += 1;
@@ -355,7 +370,7 @@ fn write_numbers(table: &[u32], numbers: &[u32], out: &mut [u8], start: usize) -
 }
 
 // Writes one line by its form from the start of out, as far as out goes, and answers how long the line is.
-pub fn write_line(tag: &[u8], table: &[u32], numbers: &[u32], out: &mut [u8]) -> usize
+pub fn write_line(tag: &[u8], table: &[Limit], numbers: &[u32], out: &mut [u8]) -> usize
     ensures { λ r. ⌜ Laid (lineText (lineOf (now (tag .entry)) (now (table .entry))) (now (numbers .entry))) (now (out .entry)) 0 r (now (out .exit)) ⌝ }
 {
     write_tag(tag, out);

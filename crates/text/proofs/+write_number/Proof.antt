@@ -91,7 +91,7 @@ write-number-add-result : (t : ℕ) → write-number-lts.Need-add-result (
   write-number-below t,
   write-number.Post,
 ) (write-number-at t) write-number.Post
-write-number-add-result t c = 
+write-number-add-result t c =
     let l = length-digits-twenty (c .before .before .before .before .before .before .before .before .before .before .args .n / 10) (omega arith) in
     omega (arith, c .before .before .before .before .before .before .write-number .ensures .end)
 

@@ -1,7 +1,6 @@
 -- `all_hold` meets its contract. Assumes nothing.
-use mathlib.Core.Path.{_≡_, refl, sym, ap, _∙_}
-use mathlib.Core.List.{List}
-use Prim.Native.Nat.{ℕ, _≤_, _-_, _*_, _+_, _/_, _<_}
+use mathlib.Core.Path.{_≡_, refl, sym, _∙_}
+use Prim.Native.Nat.{_≤_, _-_}
 use lib.ListN.{length, drop}
 use Rattle.text.specs.Limit.{allHold, limitsOf}
 use Rattle.text.proofs.Limit.{length-limits, hold-uneven, step-more, step-fails, hold-done}
@@ -14,14 +13,14 @@ use Rattle.text.proofs.all_hold.Lts as lts
 use Rattle.text.proofs.may_stand.Reads as may-stand-reads
 
 abbrev Inv-loop : tie.InvT-loop
-Inv-loop table numbers k₀ last₀ k last = (k ≤ length numbers) × (allHold (limitsOf table) 0 numbers ≡ allHold (limitsOf (drop (3 * k) table)) last (drop k numbers))
+Inv-loop table numbers k₀ last₀ k last = (k ≤ length numbers) × (allHold (limitsOf table) 0 numbers ≡ allHold (limitsOf (drop k table)) last (drop k numbers))
 
 abbrev μ-loop : tie.MeasureT-loop
 μ-loop table numbers k₀ last₀ k last = length numbers - k
 
 returns : tie.Need-returns Inv-loop μ-loop
-returns c = 
-    let a = c .before .before .before .args in
+returns c =
+    let a = c .before .before .args in
     sym (hold-uneven (limitsOf (a .table .now)) 0 (a .numbers .now) (λ (e : length (limitsOf (a .table .now)) ≡ length (a .numbers .now)). c .if1 .taken (sym (length-limits (a .table .now)) ∙ e)))
 
 loop-holds : tie.Need-loop-holds Inv-loop μ-loop
@@ -36,35 +35,8 @@ shared-slice-read-n c = search needs
 mul-may-stand : tie.Need-mul-may-stand Inv-loop μ-loop
 mul-may-stand c = search needs
 
-mul-may-stand-2 : tie.Need-mul-may-stand-2 Inv-loop μ-loop
-mul-may-stand-2 c = search needs
-
-shared-slice-read-may-stand : tie.Need-shared-slice-read-may-stand Inv-loop μ-loop
-shared-slice-read-may-stand c = search needs
-
-mul-may-stand-3 : tie.Need-mul-may-stand-3 Inv-loop μ-loop
-mul-may-stand-3 c = search needs
-
-add-may-stand : tie.Need-add-may-stand Inv-loop μ-loop
-add-may-stand c = search needs
-
-mul-may-stand-4 : tie.Need-mul-may-stand-4 Inv-loop μ-loop
-mul-may-stand-4 c = search needs
-
-shared-slice-read-may-stand-2 : tie.Need-shared-slice-read-may-stand-2 Inv-loop μ-loop
-shared-slice-read-may-stand-2 c = search needs
-
-mul-may-stand-5 : tie.Need-mul-may-stand-5 Inv-loop μ-loop
-mul-may-stand-5 c = search needs
-
-add-may-stand-2 : tie.Need-add-may-stand-2 Inv-loop μ-loop
-add-may-stand-2 c = search needs
-
-mul-may-stand-6 : tie.Need-mul-may-stand-6 Inv-loop μ-loop
-mul-may-stand-6 c = search needs
-
-shared-slice-read-may-stand-3 : tie.Need-shared-slice-read-may-stand-3 Inv-loop μ-loop
-shared-slice-read-may-stand-3 c = search needs
+shared-slice-copy-out-may-stand : tie.Need-shared-slice-copy-out-may-stand Inv-loop μ-loop
+shared-slice-copy-out-may-stand c = search needs
 
 may-stand-requires : tie.Need-may-stand-requires Inv-loop μ-loop
 may-stand-requires c κs = search needs
@@ -76,20 +48,20 @@ loop-less : tie.Need-loop-less Inv-loop μ-loop
 loop-less c = search needs
 
 loop-again : tie.Need-loop-again Inv-loop μ-loop
-loop-again c = 
-    let a = c .before .before .before .before .before .before .before .before .before .before .before .args in
-    let at = c .before .before .before .before .before .before .before .loop in
+loop-again c =
+    let a = c .before .before .before .before .before .before .before .before .args in
+    let at = c .before .before .before .before .before .loop in
     (omega arith, at .inv .1 ∙ step-more (a .table .now) (a .numbers .now) (at .k) (at .last) (omega arith) (omega arith) (sym (c .before .may-stand .ensures) ∙ c .if2 .taken))
 
 returns-2 : tie.Need-returns-2 Inv-loop μ-loop
-returns-2 c = 
-    let a = c .before .before .before .before .before .before .before .before .before .before .before .args in
-    let at = c .before .before .before .before .before .before .before .loop in
+returns-2 c =
+    let a = c .before .before .before .before .before .before .before .before .args in
+    let at = c .before .before .before .before .before .loop in
     sym (at .inv .1 ∙ step-fails (a .table .now) (a .numbers .now) (at .k) (at .last) (omega arith) (omega arith) (sym (c .before .may-stand .ensures) ∙ c .if2 .left))
 
 returns-3 : tie.Need-returns-3 Inv-loop μ-loop
-returns-3 c = 
-    let a = c .before .before .before .before .before .args in
+returns-3 c =
+    let a = c .before .before .before .before .args in
     let at = c .before .loop in
     sym (at .inv .1 ∙ hold-done (a .table .now) (a .numbers .now) (at .k) (at .last) (omega arith) (omega arith))
 
@@ -104,16 +76,7 @@ all-hold-spec =
     mul-n
     shared-slice-read-n
     mul-may-stand
-    mul-may-stand-2
-    shared-slice-read-may-stand
-    mul-may-stand-3
-    add-may-stand
-    mul-may-stand-4
-    shared-slice-read-may-stand-2
-    mul-may-stand-5
-    add-may-stand-2
-    mul-may-stand-6
-    shared-slice-read-may-stand-3
+    shared-slice-copy-out-may-stand
     may-stand-requires
     add-k
     loop-less

@@ -29,7 +29,7 @@ slice-aggregate-result : tie.Need-slice-aggregate-result Inv-loop μ-loop
 slice-aggregate-result c = let h = c .before .before .before .before in sym (length-take-le (h .loop .i) (h .before .args .text .now) (h .loop .inv .0))
 
 returns : tie.Need-returns Inv-loop μ-loop
-returns c = 
+returns c =
     let h = c .before .before .before .before in
     walked-stop (h .before .args .text .now) (h .loop .i) (c .before .before .before .loop-test .taken) (h .loop .inv .1) (simp (eq-eqb _ _ (c .before .if1 .taken)))
 
@@ -40,7 +40,7 @@ slice-aggregate-result-2 : tie.Need-slice-aggregate-result-2 Inv-loop μ-loop
 slice-aggregate-result-2 c = let h = c .before .before .before .before .before .before in sym (length-take-le (h .loop .i) (h .before .args .text .now) (h .loop .inv .0))
 
 returns-2 : tie.Need-returns-2 Inv-loop μ-loop
-returns-2 c = 
+returns-2 c =
     let h = c .before .before .before .before .before .before in
     walked-stop (h .before .args .text .now) (h .loop .i) (c .before .before .before .before .before .loop-test .taken) (h .loop .inv .1) (simp (ne-eqb _ _ (c .before .before .before .if1 .left), eq-eqb _ _ (c .before .if2 .taken)))
 
@@ -51,7 +51,7 @@ loop-less : tie.Need-loop-less Inv-loop μ-loop
 loop-less c = search needs
 
 loop-again : tie.Need-loop-again Inv-loop μ-loop
-loop-again c = 
+loop-again c =
     let h = c .before .before .before .before .before in
     (omega arith, walked-more (h .before .args .text .now) (h .loop .i) (c .before .before .before .before .loop-test .taken) (h .loop .inv .1) (simp (ne-eqb _ _ (c .before .before .if1 .left), ne-eqb _ _ (c .if2 .left))))
 

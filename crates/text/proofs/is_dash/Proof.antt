@@ -8,6 +8,9 @@ use Rattle.text.proofs.is_dash.Reads as reads
 use Rattle.text.proofs.is_dash.Lts as lts
 use Rattle.text.proofs.starts.Reads as starts-reads
 
+array-read-rule : tie.Need-array-read-rule
+array-read-rule c = search needs
+
 starts-requires : tie.Need-starts-requires
 starts-requires c κs = search needs
 
@@ -18,4 +21,4 @@ returns-2 : tie.Need-returns-2
 returns-2 c = simp (ne-eqb _ _ (c .if1 .left))
 
 pub is-dash-spec : {M : Type 1} → statement M
-is-dash-spec = tie.close (tie.spec starts-requires returns returns-2)
+is-dash-spec = tie.close (tie.spec array-read-rule starts-requires returns returns-2)

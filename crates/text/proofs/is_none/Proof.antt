@@ -7,6 +7,9 @@ use Rattle.text.proofs.is_none.Tie as tie
 use Rattle.text.proofs.is_none.Reads as reads
 use Rattle.text.proofs.is_none.Lts as lts
 
+array-read-rule : tie.Need-array-read-rule
+array-read-rule c = search needs
+
 returns : tie.Need-returns
 returns c = simp (eq-eqb _ _ (c .if1 .taken))
 
@@ -14,4 +17,4 @@ returns-2 : tie.Need-returns-2
 returns-2 c = simp (ne-eqb _ _ (c .if1 .left))
 
 pub is-none-spec : {M : Type 1} → statement M
-is-none-spec = tie.close (tie.spec returns returns-2)
+is-none-spec = tie.close (tie.spec array-read-rule returns returns-2)

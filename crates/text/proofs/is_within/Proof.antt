@@ -1,5 +1,7 @@
 -- `is_within` meets its contract. Assumes nothing.
-use borrow.Author.Tests.{eq-eqb, ne-eqb, le-leb, lt-leb}
+use mathlib.Core.Path.{sym}
+use Rattle.text.specs.Limit.{limitOf}
+use Rattle.text.proofs.Limit.{within-below, within-above, within-or-none, within-capped, within-plain}
 use native.Mathlib.Omega.{arith}
 use borrow.Author.Needs.{needs}
 use Rattle.text.proofs.is_within.Statement.{statement}
@@ -7,20 +9,47 @@ use Rattle.text.proofs.is_within.Tie as tie
 use Rattle.text.proofs.is_within.Reads as reads
 use Rattle.text.proofs.is_within.Lts as lts
 
+array-read-low : tie.Need-array-read-low
+array-read-low c = search needs
+
+array-read-high : tie.Need-array-read-high
+array-read-high c = search needs
+
+array-read-rule : tie.Need-array-read-rule
+array-read-rule c = search needs
+
+cast-if1 : tie.Need-cast-if1
+cast-if1 c = search needs
+
 returns : tie.Need-returns
-returns c = simp (lt-leb _ _ (c .if1 .taken))
+returns c = sym (within-below (limitOf (c .before .args .t1)) (c .before .args .last) (c .before .args .n) (c .if1 .taken))
+
+cast-if2 : tie.Need-cast-if2
+cast-if2 c = search needs
 
 returns-2 : tie.Need-returns-2
-returns-2 c = simp (le-leb _ _ (c .before .if1 .left), lt-leb _ _ (c .if2 .taken))
+returns-2 c = sym (within-above (limitOf (c .before .before .args .t1)) (c .before .before .args .last) (c .before .before .args .n) (c .before .if1 .left) (c .if2 .taken))
 
 returns-3 : tie.Need-returns-3
-returns-3 c = simp (le-leb _ _ (c .before .before .if1 .left), le-leb _ _ (c .before .if2 .left), eq-eqb _ _ (c .if3 .taken))
+returns-3 c = sym (within-or-none (limitOf (c .before .before .before .args .t1)) (c .before .before .before .args .last) (c .before .before .before .args .n) (c .before .before .if1 .left) (c .before .if2 .left) (c .if3 .taken))
 
 returns-4 : tie.Need-returns-4
-returns-4 c = simp (le-leb _ _ (c .before .before .before .if1 .left), le-leb _ _ (c .before .before .if2 .left), ne-eqb _ _ (c .before .if3 .left), eq-eqb _ _ (c .if4 .taken))
+returns-4 c = sym (within-capped (limitOf (c .before .before .before .before .args .t1)) (c .before .before .before .before .args .last) (c .before .before .before .before .args .n) (c .before .before .before .if1 .left) (c .before .before .if2 .left) (c .before .if3 .left) (c .if4 .taken))
 
 returns-5 : tie.Need-returns-5
-returns-5 c = simp (le-leb _ _ (c .before .before .before .if1 .left), le-leb _ _ (c .before .before .if2 .left), ne-eqb _ _ (c .before .if3 .left), ne-eqb _ _ (c .if4 .left))
+returns-5 c = sym (within-plain (limitOf (c .before .before .before .before .args .t1)) (c .before .before .before .before .args .last) (c .before .before .before .before .args .n) (c .before .before .before .if1 .left) (c .before .before .if2 .left) (c .before .if3 .left) (c .if4 .left))
 
 pub is-within-spec : {M : Type 1} → statement M
-is-within-spec = tie.close (tie.spec returns returns-2 returns-3 returns-4 returns-5)
+is-within-spec =
+    tie.close
+    (tie.spec
+    array-read-low
+    array-read-high
+    array-read-rule
+    cast-if1
+    returns
+    cast-if2
+    returns-2
+    returns-3
+    returns-4
+    returns-5)

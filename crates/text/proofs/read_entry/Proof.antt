@@ -1,12 +1,14 @@
 -- `read_entry` meets its contract. Assumes nothing.
-use mathlib.Core.Path.{_≡_, sym, ap, _∙_}
+use mir.Syntax.{w32}
+use mir.Val.{Fits}
+use mathlib.Core.Path.{sym, ap, _∙_}
 use Prim.Native.Nat.{_≤_}
-use lib.ListN.{length}
+use lib.ListN.{length, getD}
 use Rattle.text.specs.Field.{begins}
-use Rattle.text.specs.Limit.{limit}
+use Rattle.text.specs.Limit.{limitOf}
+use Rattle.text.proofs.Stores.{rest-part}
 use Rattle.text.proofs.Field.{field-most}
 use Rattle.text.proofs.Limit.{within-high}
-use Rattle.text.proofs.Stores.{rest-part}
 use Rattle.text.proofs.Entry.{dash-some, dash-ended, dash-unended, no-number, unended, outside, taken}
 use native.Mathlib.Omega.{arith}
 use borrow.Author.Needs.{needs}
@@ -24,10 +26,10 @@ is-dash-requires : tie.Need-is-dash-requires
 is-dash-requires c κs = search needs
 
 sub-starts : tie.Need-sub-starts
-sub-starts c = omega (arith, dash-some (c .before .before .before .args .rule) (c .before .before .before .args .text .now) (sym (c .before .is-dash .ensures) ∙ c .if1 .taken))
+sub-starts c = omega (arith, dash-some (limitOf (c .before .before .before .args .l) .rule) (c .before .before .before .args .text .now) (sym (c .before .is-dash .ensures) ∙ c .if1 .taken))
 
 part-starts-start : tie.Need-part-starts-start
-part-starts-start c = omega (arith, dash-some (c .before .before .before .args .rule) (c .before .before .before .args .text .now) (sym (c .before .is-dash .ensures) ∙ c .if1 .taken))
+part-starts-start c = omega (arith, dash-some (limitOf (c .before .before .before .args .l) .rule) (c .before .before .before .args .text .now) (sym (c .before .is-dash .ensures) ∙ c .if1 .taken))
 
 part-starts-end : tie.Need-part-starts-end
 part-starts-end c = search needs
@@ -36,10 +38,10 @@ starts-requires : tie.Need-starts-requires
 starts-requires c κs = search needs
 
 returns : tie.Need-returns
-returns c = sym (dash-ended (limit (c .before .before .before .before .before .before .args .low) (c .before .before .before .before .before .before .args .high) (c .before .before .before .before .before .before .args .rule)) (c .before .before .before .before .before .before .args .last) (c .before .before .before .before .before .before .args .ender) (c .before .before .before .before .before .before .args .text .now) (sym (c .before .before .before .before .is-dash .ensures) ∙ c .before .before .before .if1 .taken) (sym (ap (begins (c .before .before .before .before .before .before .args .ender)) (rest-part (c .before .before .before .before .before .before .args .text .now) 1)) ∙ sym (c .before .starts .ensures) ∙ c .if2 .taken))
+returns c = sym (dash-ended (limitOf (c .before .before .before .before .before .before .args .l)) (c .before .before .before .before .before .before .args .last) (c .before .before .before .before .before .before .args .ender) (c .before .before .before .before .before .before .args .text .now) (sym (c .before .before .before .before .is-dash .ensures) ∙ c .before .before .before .if1 .taken) (sym (ap (begins (c .before .before .before .before .before .before .args .ender)) (rest-part (c .before .before .before .before .before .before .args .text .now) 1)) ∙ sym (c .before .starts .ensures) ∙ c .if2 .taken))
 
 returns-2 : tie.Need-returns-2
-returns-2 c = sym (dash-unended (limit (c .before .before .before .before .before .before .args .low) (c .before .before .before .before .before .before .args .high) (c .before .before .before .before .before .before .args .rule)) (c .before .before .before .before .before .before .args .last) (c .before .before .before .before .before .before .args .ender) (c .before .before .before .before .before .before .args .text .now) (sym (c .before .before .before .before .is-dash .ensures) ∙ c .before .before .before .if1 .taken) (sym (ap (begins (c .before .before .before .before .before .before .args .ender)) (rest-part (c .before .before .before .before .before .before .args .text .now) 1)) ∙ sym (c .before .starts .ensures) ∙ c .if2 .left))
+returns-2 c = sym (dash-unended (limitOf (c .before .before .before .before .before .before .args .l)) (c .before .before .before .before .before .before .args .last) (c .before .before .before .before .before .before .args .ender) (c .before .before .before .before .before .before .args .text .now) (sym (c .before .before .before .before .is-dash .ensures) ∙ c .before .before .before .if1 .taken) (sym (ap (begins (c .before .before .before .before .before .before .args .ender)) (rest-part (c .before .before .before .before .before .before .args .text .now) 1)) ∙ sym (c .before .starts .ensures) ∙ c .if2 .left))
 
 find-field-requires : tie.Need-find-field-requires
 find-field-requires c κs = search needs
@@ -68,26 +70,27 @@ starts-requires-2 c κs = search needs
 is-within-requires : tie.Need-is-within-requires
 is-within-requires c κs = search needs
 
-cast-t27 : tie.Need-cast-t27
-cast-t27 c = 
+cast-t25 : tie.Need-cast-t25
+cast-t25 c =
     let a = c .before .before .before .before .before .before .before .before .before .before .before .before .before .args in
-    let h : c .before .before .before .before .before .before .n .given .0 .0 ≤ a .high = within-high (limit (a .low) (a .high) (a .rule)) (a .last) (c .before .before .before .before .before .before .n .given .0 .0) (sym (c .before .is-within .ensures) ∙ c .if4 .taken) in
+    let h : c .before .before .before .before .before .before .n .given .0 .0 ≤ getD (a .l) 1 0 = within-high (limitOf (a .l)) (a .last) (c .before .before .before .before .before .before .n .given .0 .0) (sym (c .before .is-within .ensures) ∙ c .if4 .taken) in
+    let k : Fits w32 (getD (a .l) 1 0) = search needs in
     omega arith
 
-add-t28 : tie.Need-add-t28
-add-t28 c = search needs
+add-t26 : tie.Need-add-t26
+add-t26 c = search needs
 
 returns-3 : tie.Need-returns-3
-returns-3 c = sym (no-number (limit (c .before .before .before .before .before .before .before .before .args .low) (c .before .before .before .before .before .before .before .before .args .high) (c .before .before .before .before .before .before .before .before .args .rule)) (c .before .before .before .before .before .before .before .before .args .last) (c .before .before .before .before .before .before .before .before .args .ender) (c .before .before .before .before .before .before .before .before .args .text .now) (c .before .before .before .before .find-field .result .now) (c .before .before .before .before .find-field .ensures) (sym (c .before .before .before .before .before .before .is-dash .ensures) ∙ c .before .before .before .before .before .if1 .left) (sym (c .before .before .before .read-number .ensures) ∙ c .before .at .given .1))
+returns-3 c = sym (no-number (limitOf (c .before .before .before .before .before .before .before .before .args .l)) (c .before .before .before .before .before .before .before .before .args .last) (c .before .before .before .before .before .before .before .before .args .ender) (c .before .before .before .before .before .before .before .before .args .text .now) (c .before .before .before .before .find-field .result .now) (c .before .before .before .before .find-field .ensures) (sym (c .before .before .before .before .before .before .is-dash .ensures) ∙ c .before .before .before .before .before .if1 .left) (sym (c .before .before .before .read-number .ensures) ∙ c .before .at .given .1))
 
 returns-4 : tie.Need-returns-4
-returns-4 c = sym (taken (limit (c .before .before .before .before .before .before .before .before .before .before .before .before .before .args .low) (c .before .before .before .before .before .before .before .before .before .before .before .before .before .args .high) (c .before .before .before .before .before .before .before .before .before .before .before .before .before .args .rule)) (c .before .before .before .before .before .before .before .before .before .before .before .before .before .args .last) (c .before .before .before .before .before .before .before .before .before .before .before .before .before .args .ender) (c .before .before .before .before .before .before .before .before .before .before .before .before .before .args .text .now) (c .before .before .before .before .before .before .before .before .before .find-field .result .now) (c .before .before .before .before .before .before .before .before .before .find-field .ensures) (sym (c .before .before .before .before .before .before .before .before .before .before .before .is-dash .ensures) ∙ c .before .before .before .before .before .before .before .before .before .before .if1 .left) (c .before .before .before .before .before .before .n .given .0 .0) (sym (c .before .before .before .before .before .before .before .before .read-number .ensures) ∙ c .before .before .before .before .before .before .n .given .1) (sym (ap (begins (c .before .before .before .before .before .before .before .before .before .before .before .before .before .args .ender)) (rest-part (c .before .before .before .before .before .before .before .before .before .before .before .before .before .args .text .now) _)) ∙ sym (c .before .before .before .starts2 .ensures) ∙ c .before .before .if3 .taken) (sym (c .before .is-within .ensures) ∙ c .if4 .taken))
+returns-4 c = sym (taken (limitOf (c .before .before .before .before .before .before .before .before .before .before .before .before .before .args .l)) (c .before .before .before .before .before .before .before .before .before .before .before .before .before .args .last) (c .before .before .before .before .before .before .before .before .before .before .before .before .before .args .ender) (c .before .before .before .before .before .before .before .before .before .before .before .before .before .args .text .now) (c .before .before .before .before .before .before .before .before .before .find-field .result .now) (c .before .before .before .before .before .before .before .before .before .find-field .ensures) (sym (c .before .before .before .before .before .before .before .before .before .before .before .is-dash .ensures) ∙ c .before .before .before .before .before .before .before .before .before .before .if1 .left) (c .before .before .before .before .before .before .n .given .0 .0) (sym (c .before .before .before .before .before .before .before .before .read-number .ensures) ∙ c .before .before .before .before .before .before .n .given .1) (sym (ap (begins (c .before .before .before .before .before .before .before .before .before .before .before .before .before .args .ender)) (rest-part (c .before .before .before .before .before .before .before .before .before .before .before .before .before .args .text .now) _)) ∙ sym (c .before .before .before .starts2 .ensures) ∙ c .before .before .if3 .taken) (sym (c .before .is-within .ensures) ∙ c .if4 .taken))
 
 returns-5 : tie.Need-returns-5
-returns-5 c = sym (outside (limit (c .before .before .before .before .before .before .before .before .before .before .before .before .before .args .low) (c .before .before .before .before .before .before .before .before .before .before .before .before .before .args .high) (c .before .before .before .before .before .before .before .before .before .before .before .before .before .args .rule)) (c .before .before .before .before .before .before .before .before .before .before .before .before .before .args .last) (c .before .before .before .before .before .before .before .before .before .before .before .before .before .args .ender) (c .before .before .before .before .before .before .before .before .before .before .before .before .before .args .text .now) (c .before .before .before .before .before .before .before .before .before .find-field .result .now) (c .before .before .before .before .before .before .before .before .before .find-field .ensures) (sym (c .before .before .before .before .before .before .before .before .before .before .before .is-dash .ensures) ∙ c .before .before .before .before .before .before .before .before .before .before .if1 .left) (c .before .before .before .before .before .before .n .given .0 .0) (sym (c .before .before .before .before .before .before .before .before .read-number .ensures) ∙ c .before .before .before .before .before .before .n .given .1) (sym (ap (begins (c .before .before .before .before .before .before .before .before .before .before .before .before .before .args .ender)) (rest-part (c .before .before .before .before .before .before .before .before .before .before .before .before .before .args .text .now) _)) ∙ sym (c .before .before .before .starts2 .ensures) ∙ c .before .before .if3 .taken) (sym (c .before .is-within .ensures) ∙ c .if4 .left))
+returns-5 c = sym (outside (limitOf (c .before .before .before .before .before .before .before .before .before .before .before .before .before .args .l)) (c .before .before .before .before .before .before .before .before .before .before .before .before .before .args .last) (c .before .before .before .before .before .before .before .before .before .before .before .before .before .args .ender) (c .before .before .before .before .before .before .before .before .before .before .before .before .before .args .text .now) (c .before .before .before .before .before .before .before .before .before .find-field .result .now) (c .before .before .before .before .before .before .before .before .before .find-field .ensures) (sym (c .before .before .before .before .before .before .before .before .before .before .before .is-dash .ensures) ∙ c .before .before .before .before .before .before .before .before .before .before .if1 .left) (c .before .before .before .before .before .before .n .given .0 .0) (sym (c .before .before .before .before .before .before .before .before .read-number .ensures) ∙ c .before .before .before .before .before .before .n .given .1) (sym (ap (begins (c .before .before .before .before .before .before .before .before .before .before .before .before .before .args .ender)) (rest-part (c .before .before .before .before .before .before .before .before .before .before .before .before .before .args .text .now) _)) ∙ sym (c .before .before .before .starts2 .ensures) ∙ c .before .before .if3 .taken) (sym (c .before .is-within .ensures) ∙ c .if4 .left))
 
 returns-6 : tie.Need-returns-6
-returns-6 c = sym (unended (limit (c .before .before .before .before .before .before .before .before .before .before .before .args .low) (c .before .before .before .before .before .before .before .before .before .before .before .args .high) (c .before .before .before .before .before .before .before .before .before .before .before .args .rule)) (c .before .before .before .before .before .before .before .before .before .before .before .args .last) (c .before .before .before .before .before .before .before .before .before .before .before .args .ender) (c .before .before .before .before .before .before .before .before .before .before .before .args .text .now) (c .before .before .before .before .before .before .before .find-field .result .now) (c .before .before .before .before .before .before .before .find-field .ensures) (sym (c .before .before .before .before .before .before .before .before .before .is-dash .ensures) ∙ c .before .before .before .before .before .before .before .before .if1 .left) (c .before .before .before .before .n .given .0 .0) (sym (c .before .before .before .before .before .before .read-number .ensures) ∙ c .before .before .before .before .n .given .1) (sym (ap (begins (c .before .before .before .before .before .before .before .before .before .before .before .args .ender)) (rest-part (c .before .before .before .before .before .before .before .before .before .before .before .args .text .now) _)) ∙ sym (c .before .starts2 .ensures) ∙ c .if3 .left))
+returns-6 c = sym (unended (limitOf (c .before .before .before .before .before .before .before .before .before .before .before .args .l)) (c .before .before .before .before .before .before .before .before .before .before .before .args .last) (c .before .before .before .before .before .before .before .before .before .before .before .args .ender) (c .before .before .before .before .before .before .before .before .before .before .before .args .text .now) (c .before .before .before .before .before .before .before .find-field .result .now) (c .before .before .before .before .before .before .before .find-field .ensures) (sym (c .before .before .before .before .before .before .before .before .before .is-dash .ensures) ∙ c .before .before .before .before .before .before .before .before .if1 .left) (c .before .before .before .before .n .given .0 .0) (sym (c .before .before .before .before .before .before .read-number .ensures) ∙ c .before .before .before .before .n .given .1) (sym (ap (begins (c .before .before .before .before .before .before .before .before .before .before .before .args .ender)) (rest-part (c .before .before .before .before .before .before .before .before .before .before .before .args .text .now) _)) ∙ sym (c .before .starts2 .ensures) ∙ c .if3 .left))
 
 pub read-entry-spec : {M : Type 1} → statement M
 read-entry-spec =
@@ -109,8 +112,8 @@ read-entry-spec =
     part-starts-end-2
     starts-requires-2
     is-within-requires
-    cast-t27
-    add-t28
+    cast-t25
+    add-t26
     returns-3
     returns-4
     returns-5

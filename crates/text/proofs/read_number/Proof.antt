@@ -35,19 +35,19 @@ is-digit-requires : tie.Need-is-digit-requires Inv-loop μ-loop
 is-digit-requires c κs = search needs
 
 returns-2 : tie.Need-returns-2 Inv-loop μ-loop
-returns-2 c = 
+returns-2 c =
     let f : List ℕ = c .before .before .before .before .before .before .before .args .f .now in
     let h : 0 < length f = omega arith in
     sym (number-zero f h (sym (c .before .before .before .is-digit .ensures) ∙ c .before .before .if2 .taken) (c .before .if3 .taken) ∙ zero-alone f (c .if4 .taken))
 
 returns-3 : tie.Need-returns-3 Inv-loop μ-loop
-returns-3 c = 
+returns-3 c =
     let f : List ℕ = c .before .before .before .before .before .before .before .args .f .now in
     let h : 0 < length f = omega arith in
     sym (number-zero f h (sym (c .before .before .before .is-digit .ensures) ∙ c .before .before .if2 .taken) (c .before .if3 .taken) ∙ zero-led f h (c .if4 .left))
 
 returns-4 : tie.Need-returns-4 Inv-loop μ-loop
-returns-4 c = 
+returns-4 c =
     let f : List ℕ = c .before .before .before .before .before .args .f .now in
     let h : 0 < length f = omega arith in
     sym (number-no-digit f h (sym (c .before .is-digit .ensures) ∙ c .if2 .left))
@@ -56,7 +56,7 @@ digit-requires : tie.Need-digit-requires Inv-loop μ-loop
 digit-requires c κs = search needs
 
 loop-holds : tie.Need-loop-holds Inv-loop μ-loop
-loop-holds c = 
+loop-holds c =
     let f : List ℕ = c .before .before .before .before .before .before .before .args .f .now in
     let h : 0 < length f = omega arith in
     let d = sym (c .before .before .before .is-digit .ensures) ∙ c .before .before .if2 .taken in
@@ -76,7 +76,7 @@ digit-requires-2 : tie.Need-digit-requires-2 Inv-loop μ-loop
 digit-requires-2 c κs = search needs
 
 add-n : tie.Need-add-n Inv-loop μ-loop
-add-n c = 
+add-n c =
     let at = c .before .before .before .before .before .loop in
     let b = getD (c .before .before .before .before .before .before .before .before .before .before .before .before .before .args .f .now) (at .i) 0 in
     let g = sym (c .before .before .goes-on .ensures) ∙ c .before .if5 .taken in
@@ -89,7 +89,7 @@ loop-less : tie.Need-loop-less Inv-loop μ-loop
 loop-less c = search needs
 
 loop-again : tie.Need-loop-again Inv-loop μ-loop
-loop-again c = 
+loop-again c =
     let f : List ℕ = c .before .before .before .before .before .before .before .before .before .before .before .before .before .args .f .now in
     let at = c .before .before .before .before .before .loop in
     let b = getD f (at .i) 0 in
@@ -97,7 +97,7 @@ loop-again c =
     (omega arith, omega (arith, goes-small b (at .n) g, goes-digit b (at .n) g, c .digit2 .ensures), at .inv .2 ∙ rest-more (at .n) (at .i) f (at .i) (omega arith) g ∙ rw (c .digit2 .ensures))
 
 returns-5 : tie.Need-returns-5 Inv-loop μ-loop
-returns-5 c = 
+returns-5 c =
     let at = c .before .before .before .before .loop in
     sym (at .inv .2 ∙ rest-stops (at .n) (at .i) (c .before .before .before .before .before .before .before .before .before .before .before .before .args .f .now) (at .i) (omega arith) (sym (c .before .goes-on .ensures) ∙ c .if5 .left))
 

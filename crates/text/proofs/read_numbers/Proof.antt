@@ -1,14 +1,14 @@
 -- `read_numbers` meets its contract. Assumes nothing.
+use mathlib.Core.Path.{_≡_, refl, sym, ap, _∙_}
 use mathlib.Core.Bool.{cond}
+use Prim.Native.Nat.{ℕ, _-_}
 use lib.Dec.{eqb}
+use lib.ListN.{length}
 use lib.Seq.{length-sets}
 use Rattle.text.specs.Quoted.{tab, feed}
 use Rattle.text.specs.Line.{readEntry}
-use mathlib.Core.Path.{_≡_, refl, sym, ap, _∙_}
-use Prim.Native.Nat.{ℕ, _-_, _/_}
-use lib.ListN.{length}
-use Rattle.text.proofs.Reading.{State, start, done, fault-in, step-in, fault, step}
 use Rattle.text.proofs.Stores.{rest-part}
+use Rattle.text.proofs.Reading.{State, start, done, fault-in, step-in, fault, step}
 use native.Mathlib.Omega.{arith}
 use borrow.Author.Needs.{needs}
 use Rattle.text.proofs.read_numbers.Statement.{statement}
@@ -20,7 +20,7 @@ use Rattle.text.proofs.read_entry.Reads as read-entry-reads
 use Rattle.text.proofs.store_number.Reads as store-number-reads
 
 abbrev Inv-loop : tie.InvT-loop
-Inv-loop table text out₀ count k₀ last₀ at₀ out k last at = State table text out₀ out k last at × (count ≡ length table / 3)
+Inv-loop table text out₀ count k₀ last₀ at₀ out k last at = State table text out₀ out k last at × (count ≡ length table)
 
 abbrev μ-loop : tie.MeasureT-loop
 μ-loop table text out₀ count k₀ last₀ at₀ out k last at = count - k
@@ -40,35 +40,8 @@ ender-before-requires c κs = search needs
 mul-read-entry : tie.Need-mul-read-entry Inv-loop μ-loop
 mul-read-entry c = search needs
 
-mul-read-entry-2 : tie.Need-mul-read-entry-2 Inv-loop μ-loop
-mul-read-entry-2 c = search needs
-
-shared-slice-read-read-entry : tie.Need-shared-slice-read-read-entry Inv-loop μ-loop
-shared-slice-read-read-entry c = search needs
-
-mul-read-entry-3 : tie.Need-mul-read-entry-3 Inv-loop μ-loop
-mul-read-entry-3 c = search needs
-
-add-read-entry : tie.Need-add-read-entry Inv-loop μ-loop
-add-read-entry c = search needs
-
-mul-read-entry-4 : tie.Need-mul-read-entry-4 Inv-loop μ-loop
-mul-read-entry-4 c = search needs
-
-shared-slice-read-read-entry-2 : tie.Need-shared-slice-read-read-entry-2 Inv-loop μ-loop
-shared-slice-read-read-entry-2 c = search needs
-
-mul-read-entry-5 : tie.Need-mul-read-entry-5 Inv-loop μ-loop
-mul-read-entry-5 c = search needs
-
-add-read-entry-2 : tie.Need-add-read-entry-2 Inv-loop μ-loop
-add-read-entry-2 c = search needs
-
-mul-read-entry-6 : tie.Need-mul-read-entry-6 Inv-loop μ-loop
-mul-read-entry-6 c = search needs
-
-shared-slice-read-read-entry-3 : tie.Need-shared-slice-read-read-entry-3 Inv-loop μ-loop
-shared-slice-read-read-entry-3 c = search needs
+shared-slice-copy-out-read-entry : tie.Need-shared-slice-copy-out-read-entry Inv-loop μ-loop
+shared-slice-copy-out-read-entry c = search needs
 
 sub-read-entry : tie.Need-sub-read-entry Inv-loop μ-loop
 sub-read-entry c = search needs
@@ -85,16 +58,16 @@ read-entry-requires c κs = search needs
 enum-known-refusal : tie.Need-enum-known-refusal Inv-loop μ-loop
 enum-known-refusal c = search needs
 
-add-t34 : tie.Need-add-t34 Inv-loop μ-loop
-add-t34 c = 
-    let h = fault-in (c .before .before .before .before .before .before .before .before .before .before .loop .inv .0) (omega (arith, c .before .before .before .before .before .before .before .before .before .before .loop .inv .1, c .before .before .before .before .before .before .before .before .before .loop-test .taken)) (c .before .before .before .before .before .before .before .before .ender-before .result) (c .before .before .before .before .before .before .before .before .ender-before .ensures ∙ ap (λ (n : ℕ). cond (eqb (n - c .before .before .before .before .before .before .before .before .before .before .loop .k - 1) 0) feed tab) (c .before .before .before .before .before .before .before .before .before .before .loop .inv .1)) (sym (ap (readEntry _ _ _) (rest-part (c .before .before .before .before .before .before .before .before .before .before .before .before .before .before .args .text .now) (c .before .before .before .before .before .before .before .before .before .before .loop .at))) ∙ sym (c .before .before .before .read-entry .ensures) ∙ c .before .refusal .given .1) in
+add-t22 : tie.Need-add-t22 Inv-loop μ-loop
+add-t22 c =
+    let h = fault-in (c .before .before .before .before .before .before .before .before .loop .inv .0) (omega (arith, c .before .before .before .before .before .before .before .before .loop .inv .1, c .before .before .before .before .before .before .before .loop-test .taken)) (c .before .before .before .before .before .before .ender-before .result) (c .before .before .before .before .before .before .ender-before .ensures ∙ ap (λ (n : ℕ). cond (eqb (n - c .before .before .before .before .before .before .before .before .loop .k - 1) 0) feed tab) (c .before .before .before .before .before .before .before .before .loop .inv .1)) (sym (ap (readEntry _ _ _) (rest-part (c .before .before .before .before .before .before .before .before .before .before .before .args .text .now) (c .before .before .before .before .before .before .before .before .loop .at))) ∙ sym (c .before .before .before .read-entry .ensures) ∙ c .before .refusal .given .1) in
     omega arith
 
 same-length : tie.Need-same-length Inv-loop μ-loop
-same-length c = ap length (c .before .before .before .before .before .before .before .before .before .before .loop .inv .0 .stored) ∙ simp length-sets
+same-length c = ap length (c .before .before .before .before .before .before .before .before .loop .inv .0 .stored) ∙ simp length-sets
 
 returns : tie.Need-returns Inv-loop μ-loop
-returns c = fault (c .before .before .before .before .before .before .before .before .before .before .loop .inv .0) (omega (arith, c .before .before .before .before .before .before .before .before .before .before .loop .inv .1, c .before .before .before .before .before .before .before .before .before .loop-test .taken)) (c .before .before .before .before .before .before .before .before .ender-before .result) (c .before .before .before .before .before .before .before .before .ender-before .ensures ∙ ap (λ (n : ℕ). cond (eqb (n - c .before .before .before .before .before .before .before .before .before .before .loop .k - 1) 0) feed tab) (c .before .before .before .before .before .before .before .before .before .before .loop .inv .1)) (sym (ap (readEntry _ _ _) (rest-part (c .before .before .before .before .before .before .before .before .before .before .before .before .before .before .args .text .now) (c .before .before .before .before .before .before .before .before .before .before .loop .at))) ∙ sym (c .before .before .before .read-entry .ensures) ∙ c .before .refusal .given .1)
+returns c = fault (c .before .before .before .before .before .before .before .before .loop .inv .0) (omega (arith, c .before .before .before .before .before .before .before .before .loop .inv .1, c .before .before .before .before .before .before .before .loop-test .taken)) (c .before .before .before .before .before .before .ender-before .result) (c .before .before .before .before .before .before .ender-before .ensures ∙ ap (λ (n : ℕ). cond (eqb (n - c .before .before .before .before .before .before .before .before .loop .k - 1) 0) feed tab) (c .before .before .before .before .before .before .before .before .loop .inv .1)) (sym (ap (readEntry _ _ _) (rest-part (c .before .before .before .before .before .before .before .before .before .before .before .args .text .now) (c .before .before .before .before .before .before .before .before .loop .at))) ∙ sym (c .before .before .before .read-entry .ensures) ∙ c .before .refusal .given .1)
 
 enum-known-n : tie.Need-enum-known-n Inv-loop μ-loop
 enum-known-n c = search needs
@@ -103,8 +76,8 @@ store-number-requires : tie.Need-store-number-requires Inv-loop μ-loop
 store-number-requires c κs = search needs
 
 add-at : tie.Need-add-at Inv-loop μ-loop
-add-at c = 
-    let h = step-in (c .before .before .before .before .before .before .before .before .before .before .before .before .before .before .loop .inv .0) (omega (arith, c .before .before .before .before .before .before .before .before .before .before .before .before .before .before .loop .inv .1, c .before .before .before .before .before .before .before .before .before .before .before .before .before .loop-test .taken)) (c .before .before .before .before .before .before .before .before .before .before .before .before .ender-before .result) (c .before .before .before .before .before .before .before .before .before .before .before .before .ender-before .ensures ∙ ap (λ (n : ℕ). cond (eqb (n - c .before .before .before .before .before .before .before .before .before .before .before .before .before .before .loop .k - 1) 0) feed tab) (c .before .before .before .before .before .before .before .before .before .before .before .before .before .before .loop .inv .1)) (sym (ap (readEntry _ _ _) (rest-part (c .before .before .before .before .before .before .before .before .before .before .before .before .before .before .before .before .before .before .args .text .now) (c .before .before .before .before .before .before .before .before .before .before .before .before .before .before .loop .at))) ∙ sym (c .before .before .before .before .before .before .before .read-entry .ensures) ∙ c .before .before .before .before .before .n .given .1) in
+add-at c =
+    let h = step-in (c .before .before .before .before .before .before .before .before .before .before .before .before .loop .inv .0) (omega (arith, c .before .before .before .before .before .before .before .before .before .before .before .before .loop .inv .1, c .before .before .before .before .before .before .before .before .before .before .before .loop-test .taken)) (c .before .before .before .before .before .before .before .before .before .before .ender-before .result) (c .before .before .before .before .before .before .before .before .before .before .ender-before .ensures ∙ ap (λ (n : ℕ). cond (eqb (n - c .before .before .before .before .before .before .before .before .before .before .before .before .loop .k - 1) 0) feed tab) (c .before .before .before .before .before .before .before .before .before .before .before .before .loop .inv .1)) (sym (ap (readEntry _ _ _) (rest-part (c .before .before .before .before .before .before .before .before .before .before .before .before .before .before .before .args .text .now) (c .before .before .before .before .before .before .before .before .before .before .before .before .loop .at))) ∙ sym (c .before .before .before .before .before .before .before .read-entry .ensures) ∙ c .before .before .before .before .before .n .given .1) in
     omega arith
 
 add-k : tie.Need-add-k Inv-loop μ-loop
@@ -114,7 +87,7 @@ loop-less : tie.Need-loop-less Inv-loop μ-loop
 loop-less c = search needs
 
 loop-again : tie.Need-loop-again Inv-loop μ-loop
-loop-again c = (rw (c .before .before .store-number .ensures) (step (c .before .before .before .before .before .before .before .before .before .before .before .before .before .before .loop .inv .0) (omega (arith, c .before .before .before .before .before .before .before .before .before .before .before .before .before .before .loop .inv .1, c .before .before .before .before .before .before .before .before .before .before .before .before .before .loop-test .taken)) (c .before .before .before .before .before .before .before .before .before .before .before .before .ender-before .result) (c .before .before .before .before .before .before .before .before .before .before .before .before .ender-before .ensures ∙ ap (λ (n : ℕ). cond (eqb (n - c .before .before .before .before .before .before .before .before .before .before .before .before .before .before .loop .k - 1) 0) feed tab) (c .before .before .before .before .before .before .before .before .before .before .before .before .before .before .loop .inv .1)) (sym (ap (readEntry _ _ _) (rest-part (c .before .before .before .before .before .before .before .before .before .before .before .before .before .before .before .before .before .before .args .text .now) (c .before .before .before .before .before .before .before .before .before .before .before .before .before .before .loop .at))) ∙ sym (c .before .before .before .before .before .before .before .read-entry .ensures) ∙ c .before .before .before .before .before .n .given .1)), c .before .before .before .before .before .before .before .before .before .before .before .before .before .before .loop .inv .1)
+loop-again c = (rw (c .before .before .store-number .ensures) (step (c .before .before .before .before .before .before .before .before .before .before .before .before .loop .inv .0) (omega (arith, c .before .before .before .before .before .before .before .before .before .before .before .before .loop .inv .1, c .before .before .before .before .before .before .before .before .before .before .before .loop-test .taken)) (c .before .before .before .before .before .before .before .before .before .before .ender-before .result) (c .before .before .before .before .before .before .before .before .before .before .ender-before .ensures ∙ ap (λ (n : ℕ). cond (eqb (n - c .before .before .before .before .before .before .before .before .before .before .before .before .loop .k - 1) 0) feed tab) (c .before .before .before .before .before .before .before .before .before .before .before .before .loop .inv .1)) (sym (ap (readEntry _ _ _) (rest-part (c .before .before .before .before .before .before .before .before .before .before .before .before .before .before .before .args .text .now) (c .before .before .before .before .before .before .before .before .before .before .before .before .loop .at))) ∙ sym (c .before .before .before .before .before .before .before .read-entry .ensures) ∙ c .before .before .before .before .before .n .given .1)), c .before .before .before .before .before .before .before .before .before .before .before .before .loop .inv .1)
 
 same-length-2 : tie.Need-same-length-2 Inv-loop μ-loop
 same-length-2 c = ap length (c .before .loop .inv .0 .stored) ∙ simp length-sets
@@ -133,22 +106,13 @@ read-numbers-spec =
     sub-ender-before-2
     ender-before-requires
     mul-read-entry
-    mul-read-entry-2
-    shared-slice-read-read-entry
-    mul-read-entry-3
-    add-read-entry
-    mul-read-entry-4
-    shared-slice-read-read-entry-2
-    mul-read-entry-5
-    add-read-entry-2
-    mul-read-entry-6
-    shared-slice-read-read-entry-3
+    shared-slice-copy-out-read-entry
     sub-read-entry
     part-read-entry-start
     part-read-entry-end
     read-entry-requires
     enum-known-refusal
-    add-t34
+    add-t22
     same-length
     returns
     enum-known-n

@@ -1,5 +1,4 @@
 -- `write_entry` meets its contract. Assumes nothing.
-use mathlib.Core.Path.{sym, _∙_}
 use Rattle.text.proofs.Laid.{laid-byte, laid-part, laid-past}
 use Rattle.text.proofs.Number.{length-digits-ten}
 use native.Mathlib.Omega.{arith}
@@ -40,7 +39,7 @@ write-number-requires : tie.Need-write-number-requires
 write-number-requires c κs = search needs
 
 add-result-2 : tie.Need-add-result-2
-add-result-2 c = 
+add-result-2 c =
     let l = length-digits-ten (c .before .before .before .before .before .before .before .before .args .n) (omega arith) in
     omega (arith, c .before .before .write-number .ensures .end)
 
@@ -54,7 +53,7 @@ write-number-requires-2 : tie.Need-write-number-requires-2
 write-number-requires-2 c κs = search needs
 
 add-result-3 : tie.Need-add-result-3
-add-result-3 c = 
+add-result-3 c =
     let l = length-digits-ten (c .before .before .before .before .before .before .before .before .args .n) (omega arith) in
     omega (arith, c .before .before .write-number2 .ensures .end)
 

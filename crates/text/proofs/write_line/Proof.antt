@@ -19,7 +19,7 @@ same-length : tie.Need-same-length
 same-length c = search needs
 
 returns : tie.Need-returns
-returns c = laid-more (laid-start (c .before .before .before .before .before .before .before .before .before .before .before .before .args .tag .now) (c .before .before .before .before .before .before .before .before .before .before .before .before .args .out .now) _ (c .before .before .before .before .before .before .write-tag .ensures)) (c .before .before .write-numbers .ensures)
+returns c = laid-more (laid-start (c .before .before .before .before .before .before .before .before .before .before .before .args .tag .now) (c .before .before .before .before .before .before .before .before .before .before .before .args .out .now) _ (c .before .before .before .before .before .before .write-tag .ensures)) (c .before .before .write-numbers .ensures)
 
 pub write-line-spec : {M : Type 1} → statement M
 write-line-spec =

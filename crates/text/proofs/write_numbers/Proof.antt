@@ -1,7 +1,7 @@
 -- `write_numbers` meets its contract. Assumes nothing.
 use mathlib.Core.Path.{_≡_, refl, ap, _∙_}
 use mathlib.Core.Bool.{cond}
-use Prim.Native.Nat.{ℕ, _-_, _/_}
+use Prim.Native.Nat.{ℕ, _-_}
 use lib.Dec.{eqb}
 use lib.ListN.{length}
 use lib.Seq.{length-sets}
@@ -18,7 +18,7 @@ use Rattle.text.proofs.store.Reads as store-reads
 use Rattle.text.proofs.write_entry.Reads as write-entry-reads
 
 abbrev Inv-loop : tie.InvT-loop
-Inv-loop table numbers out₀ start count k₀ at₀ out k at = State table numbers out₀ out start k at × (count ≡ length table / 3)
+Inv-loop table numbers out₀ start count k₀ at₀ out k at = State table numbers out₀ out start k at × (count ≡ length table)
 
 abbrev μ-loop : tie.MeasureT-loop
 μ-loop table numbers out₀ start count k₀ at₀ out k at = count - k
@@ -30,13 +30,13 @@ same-length : tie.Need-same-length Inv-loop μ-loop
 same-length c = ap length (c .before .before .loop .inv .0 .laid .laid) ∙ simp length-sets
 
 returns : tie.Need-returns Inv-loop μ-loop
-returns c = done (c .before .before .loop .inv .0) (numbers-out (c .before .before .before .before .before .before .args .table .now) (c .before .before .before .before .before .before .args .numbers .now) (c .before .before .loop .k) (c .if1 .taken))
+returns c = done (c .before .before .loop .inv .0) (numbers-out (c .before .before .before .before .before .args .table .now) (c .before .before .before .before .before .args .numbers .now) (c .before .before .loop .k) (c .if1 .taken))
 
 mul-write-entry : tie.Need-mul-write-entry Inv-loop μ-loop
 mul-write-entry c = search needs
 
-add-write-entry : tie.Need-add-write-entry Inv-loop μ-loop
-add-write-entry c = search needs
+shared-slice-copy-out-write-entry : tie.Need-shared-slice-copy-out-write-entry Inv-loop μ-loop
+shared-slice-copy-out-write-entry c = search needs
 
 mul-write-entry-2 : tie.Need-mul-write-entry-2 Inv-loop μ-loop
 mul-write-entry-2 c = search needs
@@ -44,14 +44,8 @@ mul-write-entry-2 c = search needs
 shared-slice-read-write-entry : tie.Need-shared-slice-read-write-entry Inv-loop μ-loop
 shared-slice-read-write-entry c = search needs
 
-mul-write-entry-3 : tie.Need-mul-write-entry-3 Inv-loop μ-loop
-mul-write-entry-3 c = search needs
-
-shared-slice-read-write-entry-2 : tie.Need-shared-slice-read-write-entry-2 Inv-loop μ-loop
-shared-slice-read-write-entry-2 c = search needs
-
 write-entry-requires : tie.Need-write-entry-requires Inv-loop μ-loop
-write-entry-requires c κs = omega (arith, c .before .before .before .before .before .before .before .before .before .pre, c .before .before .before .before .before .before .before .before .before .good, c .before .before .before .before .before .loop .inv .0 .most, c .before .before .before .before .before .loop .inv .1)
+write-entry-requires c κs = omega (arith, c .before .before .before .before .before .before .before .before .pre, c .before .before .before .before .before .before .before .before .good, c .before .before .before .before .before .loop .inv .0 .most, c .before .before .before .before .before .loop .inv .1)
 
 sub-ender-before : tie.Need-sub-ender-before Inv-loop μ-loop
 sub-ender-before c = search needs
@@ -66,9 +60,9 @@ store-requires : tie.Need-store-requires Inv-loop μ-loop
 store-requires c κs = search needs
 
 add-at : tie.Need-add-at Inv-loop μ-loop
-add-at c = 
-    let s = step (c .before .before .before .before .before .before .before .before .before .before .before .before .before .loop .inv .0) (omega (arith, c .before .before .before .before .before .before .before .before .before .before .before .before .before .loop .inv .1, c .before .before .before .before .before .before .before .before .before .before .before .before .loop-test .taken)) (c .before .before .before .before .before .before .before .before .before .before .before .if1 .left) (omega (arith, c .before .before .before .before .before .before .before .before .before .shared-slice-known4 .given (c .before .before .before .before .before .before .before .before .before .before .before .before .before .loop .k))) (c .before .before .before .ender-before .ensures ∙ ap (λ (n : ℕ). cond (eqb (n - c .before .before .before .before .before .before .before .before .before .before .before .before .before .loop .k - 1) 0) feed tab) (c .before .before .before .before .before .before .before .before .before .before .before .before .before .loop .inv .1)) (c .before .before .before .before .before .before .before .write-entry .ensures) in
-    omega (arith, s .most, s .k-in, c .before .before .before .before .before .before .before .before .before .before .before .before .before .before .before .before .before .pre, c .before .before .before .before .before .before .before .before .before .before .before .before .before .before .before .before .before .good)
+add-at c =
+    let s = step (c .before .before .before .before .before .before .before .before .before .before .before .before .before .loop .inv .0) (omega (arith, c .before .before .before .before .before .before .before .before .before .before .before .before .before .loop .inv .1, c .before .before .before .before .before .before .before .before .before .before .before .before .loop-test .taken)) (c .before .before .before .before .before .before .before .before .before .before .before .if1 .left) (omega (arith, c .before .before .before .before .before .before .before .before .before .shared-slice-known2 .given (c .before .before .before .before .before .before .before .before .before .before .before .before .before .loop .k))) (c .before .before .before .ender-before .ensures ∙ ap (λ (n : ℕ). cond (eqb (n - c .before .before .before .before .before .before .before .before .before .before .before .before .before .loop .k - 1) 0) feed tab) (c .before .before .before .before .before .before .before .before .before .before .before .before .before .loop .inv .1)) (c .before .before .before .before .before .before .before .write-entry .ensures) in
+    omega (arith, s .most, s .k-in, c .before .before .before .before .before .before .before .before .before .before .before .before .before .before .before .before .pre, c .before .before .before .before .before .before .before .before .before .before .before .before .before .before .before .before .good)
 
 add-k : tie.Need-add-k Inv-loop μ-loop
 add-k c = search needs
@@ -77,13 +71,13 @@ loop-less : tie.Need-loop-less Inv-loop μ-loop
 loop-less c = search needs
 
 loop-again : tie.Need-loop-again Inv-loop μ-loop
-loop-again c = (rw (c .before .before .store .ensures) (step (c .before .before .before .before .before .before .before .before .before .before .before .before .before .loop .inv .0) (omega (arith, c .before .before .before .before .before .before .before .before .before .before .before .before .before .loop .inv .1, c .before .before .before .before .before .before .before .before .before .before .before .before .loop-test .taken)) (c .before .before .before .before .before .before .before .before .before .before .before .if1 .left) (omega (arith, c .before .before .before .before .before .before .before .before .before .shared-slice-known4 .given (c .before .before .before .before .before .before .before .before .before .before .before .before .before .loop .k))) (c .before .before .before .ender-before .ensures ∙ ap (λ (n : ℕ). cond (eqb (n - c .before .before .before .before .before .before .before .before .before .before .before .before .before .loop .k - 1) 0) feed tab) (c .before .before .before .before .before .before .before .before .before .before .before .before .before .loop .inv .1)) (c .before .before .before .before .before .before .before .write-entry .ensures)), c .before .before .before .before .before .before .before .before .before .before .before .before .before .loop .inv .1)
+loop-again c = (rw (c .before .before .store .ensures) (step (c .before .before .before .before .before .before .before .before .before .before .before .before .before .loop .inv .0) (omega (arith, c .before .before .before .before .before .before .before .before .before .before .before .before .before .loop .inv .1, c .before .before .before .before .before .before .before .before .before .before .before .before .loop-test .taken)) (c .before .before .before .before .before .before .before .before .before .before .before .if1 .left) (omega (arith, c .before .before .before .before .before .before .before .before .before .shared-slice-known2 .given (c .before .before .before .before .before .before .before .before .before .before .before .before .before .loop .k))) (c .before .before .before .ender-before .ensures ∙ ap (λ (n : ℕ). cond (eqb (n - c .before .before .before .before .before .before .before .before .before .before .before .before .before .loop .k - 1) 0) feed tab) (c .before .before .before .before .before .before .before .before .before .before .before .before .before .loop .inv .1)) (c .before .before .before .before .before .before .before .write-entry .ensures)), c .before .before .before .before .before .before .before .before .before .before .before .before .before .loop .inv .1)
 
 same-length-2 : tie.Need-same-length-2 Inv-loop μ-loop
 same-length-2 c = ap length (c .before .loop .inv .0 .laid .laid) ∙ simp length-sets
 
 returns-2 : tie.Need-returns-2 Inv-loop μ-loop
-returns-2 c = done (c .before .loop .inv .0) (numbers-end (c .before .before .before .before .before .args .table .now) (c .before .before .before .before .before .args .numbers .now) (c .before .loop .k) (omega (arith, c .before .loop .inv .1, c .loop-test .left)))
+returns-2 c = done (c .before .loop .inv .0) (numbers-end (c .before .before .before .before .args .table .now) (c .before .before .before .before .args .numbers .now) (c .before .loop .k) (omega (arith, c .before .loop .inv .1, c .loop-test .left)))
 
 pub write-numbers-spec : {M : Type 1} → statement M
 write-numbers-spec =
@@ -95,11 +89,9 @@ write-numbers-spec =
     same-length
     returns
     mul-write-entry
-    add-write-entry
+    shared-slice-copy-out-write-entry
     mul-write-entry-2
     shared-slice-read-write-entry
-    mul-write-entry-3
-    shared-slice-read-write-entry-2
     write-entry-requires
     sub-ender-before
     sub-ender-before-2

@@ -36,7 +36,7 @@ loop-less : tie.Need-loop-less Inv-loop μ-loop
 loop-less c = search needs
 
 loop-again : tie.Need-loop-again Inv-loop μ-loop
-loop-again c = 
+loop-again c =
     let h = c .before .before .before .before .before .before .before .before .before .args in
     let at = c .before .before .before .before .before .before .loop in
     (omega arith, c .before .before .store .ensures ∙ rw (at .inv .1) (sets-take (h .out .now) (h .tag .now) (at .i) (c .before .before .before .before .before .loop-test .taken)))
@@ -45,7 +45,7 @@ same-length : tie.Need-same-length Inv-loop μ-loop
 same-length c = ap length (c .before .loop .inv .1) ∙ simp length-sets
 
 returns : tie.Need-returns Inv-loop μ-loop
-returns c = 
+returns c =
     let at = c .before .loop in
     at .inv .1 ∙ ap (sets _ 0) (take-all (at .i) _ (c .loop-test .left))
 

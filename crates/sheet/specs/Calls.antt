@@ -1,0 +1,58 @@
+-- The calls on texts without the register: what each answers, and what it leaves in each lent buffer. A refusal leaves them as they stood.
+-- 01, Refusal numbers: 2 and 3 of a text; 3 for a sheet outside the limits; 16 comes last. Assumes nothing: these are definitions.
+use Prim.Native.Nat.{ℕ}
+use mathlib.Core.Bool.{Bool, true, false, _&&_, cond}
+use mathlib.Core.List.{List, [], _∷_, _++_}
+use lib.Dec.{leb}
+use lib.ListN.{length, drop}
+use Rattle.text.specs.declared.LineRead.{LineRead}
+use Rattle.text.specs.declared.LineRead.the-variants.{Taken, Fault}
+use Rattle.text.specs.Line.{Reading, outsideLimits}
+use Rattle.sheet.specs.declared.Answer.{Answer}
+use Rattle.sheet.specs.declared.Answer.the-variants.{Refused, Done, Count}
+use Rattle.sheet.specs.Sheet.{sheetOk, sheetText}
+use Rattle.sheet.specs.Reading.{readSheet}
+use Rattle.sheet.specs.Engines.{readEngines, powersOf, weightsOf}
+
+-- the lent output is too short
+abbrev pub noRoom : ℕ
+noRoom = 16
+
+-- a list that starts with xs, and goes on as it was
+abbrev pub startsWith : List ℕ → List ℕ → List ℕ
+startsWith xs before = xs ++ drop (length xs) before
+
+-- ---- read a sheet from a text
+
+-- the refusal's number alone, without its place
+abbrev pub readAnswer : LineRead → Answer
+readAnswer (Taken k) = Done
+readAnswer (Fault number at) = Refused number
+
+abbrev pub readInto : Reading → List ℕ → List ℕ
+readInto p before = elim (p .ended) [ Taken k ↦ p .numbers | Fault number at ↦ before ]
+
+-- ---- write a sheet to a text
+
+abbrev pub writeAnswer : List ℕ → ℕ → Answer
+writeAnswer s room = cond (sheetOk s) (cond (leb (length (sheetText s)) room) (Count (length (sheetText s))) (Refused noRoom)) (Refused outsideLimits)
+
+abbrev pub writeInto : List ℕ → List ℕ → List ℕ
+writeInto s before = cond (sheetOk s && leb (length (sheetText s)) (length before)) (startsWith (sheetText s) before) before
+
+-- ---- read engine rows
+
+-- whether there is room for the rows in both
+abbrev pub rowsFit : List ℕ → ℕ → ℕ → Bool
+rowsFit rows a b = leb (length (powersOf rows)) a && leb (length (powersOf rows)) b
+
+abbrev pub enginesAnswer : Reading → ℕ → ℕ → Answer
+enginesAnswer p a b = elim (p .ended) [ Taken k ↦ cond (rowsFit (p .numbers) a b) (Count (length (powersOf (p .numbers)))) (Refused noRoom) | Fault number at ↦ Refused number ]
+
+-- the column of the rows that goes into a lent slice, where there is room in this one and the other
+abbrev pub columnInto : (List ℕ → List ℕ) → Reading → List ℕ → ℕ → List ℕ
+columnInto column p before other =
+    elim (p .ended) [
+      | Taken k ↦ cond (rowsFit (p .numbers) (length before) other) (startsWith (column (p .numbers)) before) before
+      | Fault number at ↦ before
+    ]

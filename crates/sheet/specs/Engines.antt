@@ -1,0 +1,53 @@
+-- 01, The sheet: "Engine rows come as text lines ENG, power, weight, 1 to 40 of them (none or more gives 2)", to the text's last byte. Assumes nothing: these are definitions.
+use Prim.Native.Nat.{ℕ, zero, suc}
+use mathlib.Core.Bool.{Bool, true, false, _&&_, cond}
+use mathlib.Core.List.{List, [], _∷_, _++_}
+use lib.Dec.{ltb}
+use lib.ListN.{length, drop, getD}
+use Rattle.text.specs.declared.LineRead.{LineRead}
+use Rattle.text.specs.declared.LineRead.the-variants.{Taken, Fault}
+use Rattle.text.specs.Limit.{allHold}
+use Rattle.text.specs.Line.{Line, Reading, nothing, refused, brokenLine, after, followed, readLine, lineText}
+use Rattle.sheet.specs.Lines.{engineLine, mostRows, mostBytes}
+
+-- after a row the text stops, or there is another
+abbrev pub orStop : (List ℕ → Reading) → List ℕ → Reading
+orStop more [] = nothing
+orStop more (b ∷ t) = more (b ∷ t)
+
+-- a row was read as p; the next one's power is above its power
+abbrev pub onRow : Reading → (ℕ → List ℕ → Reading) → List ℕ → Reading
+onRow p more t = followed p (orStop (more (suc (getD (p .numbers) 0 0)))) t
+
+-- rows of powers from next on, `left` of them at most: power and weight of each in turn
+unfoldable pub readRows : ℕ → ℕ → List ℕ → Reading
+readRows zero next t = refused brokenLine 0
+readRows (suc left) next t = onRow (readLine (engineLine next) t) (readRows left) t
+
+unfoldable pub readEngines : List ℕ → Reading
+readEngines t = cond (ltb mostBytes (length t)) (refused brokenLine 0) (readRows mostRows 1 t)
+
+-- ---- the rows' two lists
+
+abbrev pub powersOf : List ℕ → List ℕ
+powersOf [] = []
+powersOf (p ∷ []) = []
+powersOf (p ∷ w ∷ rows) = p ∷ powersOf rows
+
+abbrev pub weightsOf : List ℕ → List ℕ
+weightsOf [] = []
+weightsOf (p ∷ []) = []
+weightsOf (p ∷ w ∷ rows) = w ∷ weightsOf rows
+
+-- ---- the text of rows, and which rows have one
+
+unfoldable pub rowsText : List ℕ → List ℕ
+rowsText [] = []
+rowsText (p ∷ []) = []
+rowsText (p ∷ w ∷ rows) = lineText (engineLine 0) (p ∷ w ∷ []) ++ rowsText rows
+
+-- whether rows are within the limits, and their powers rise from next on
+unfoldable pub rowsOk : ℕ → List ℕ → Bool
+rowsOk next [] = true
+rowsOk next (p ∷ []) = false
+rowsOk next (p ∷ w ∷ rows) = allHold (engineLine next .limits) 0 (p ∷ w ∷ []) && rowsOk (suc p) rows

@@ -1,0 +1,46 @@
+-- What a sheet is: 69 numbers in the order of its text, the HULL number and then the 68 words that the register holds. The words of the lines HULL to
+-- SEAT come first, then the weight on each fitting line 1..24, 0 for an empty line; tested persons 0 stands for `-`. Its one text. Assumes nothing: these are definitions.
+use Prim.Native.Nat.{ℕ, suc, _+_}
+use mathlib.Core.Bool.{Bool, true, false}
+use mathlib.Core.List.{List, [], _∷_, _++_}
+use lib.Dec.{eqb}
+use lib.ListN.{length, drop, replicate}
+use Rattle.text.specs.Limit.{Limit, betweenOrNone, allHold}
+use Rattle.text.specs.Line.{Line, lineText}
+use Rattle.sheet.specs.Lines.{lines, fittings, fittingHigh, fitLine, endLine}
+
+-- the words that the register holds of a hull
+abbrev pub sheetWords : ℕ
+sheetWords = 68
+
+-- those and the HULL number before them
+abbrev pub textWords : ℕ
+textWords = 1 + sheetWords
+
+-- the limits of the numbers on ls, one line after the other
+unfoldable pub limitsOn : List Line → List Limit
+limitsOn [] = []
+limitsOn (l ∷ ls) = l .limits ++ limitsOn ls
+
+-- the limits of a sheet's numbers: those of its lines, and a weight or none for each fitting
+unfoldable pub sheetLimits : List Limit
+sheetLimits = limitsOn lines ++ replicate fittings (betweenOrNone 1 fittingHigh)
+
+-- whether s is a sheet within the limits
+abbrev pub sheetOk : List ℕ → Bool
+sheetOk s = allHold sheetLimits 0 s
+
+-- ---- the text of a sheet
+
+-- the text of the numbers on ls
+unfoldable pub linesText : List Line → List ℕ → List ℕ
+linesText [] s = []
+linesText (l ∷ ls) s = lineText l s ++ linesText ls (drop (length (l .limits)) s)
+
+-- a line for each fitting that is there, from the line number n on
+unfoldable pub fitsText : ℕ → List ℕ → List ℕ
+fitsText n [] = []
+fitsText n (w ∷ ws) = elim (eqb w 0) [ true ↦ fitsText (suc n) ws | false ↦ lineText (fitLine n) (n ∷ w ∷ []) ++ fitsText (suc n) ws ]
+
+unfoldable pub sheetText : List ℕ → List ℕ
+sheetText s = linesText lines s ++ (fitsText 1 (drop (length (limitsOn lines)) s) ++ lineText endLine [])
