@@ -45,10 +45,10 @@ abbrev pub readStop : List ℕ → Reading
 readStop [] = nothing
 readStop (b ∷ t) = refused brokenLine 0
 
-abbrev pub readEnd : List ℕ → Reading
+unfoldable pub readEnd : List ℕ → Reading
 readEnd t = followed (readLine endLine t) readStop t
 
-abbrev pub readRest : List ℕ → Reading
+unfoldable pub readRest : List ℕ → Reading
 readRest t = followed (readFits fittings 1 t) readEnd t
 
 -- a sheet's numbers; a text that is too long has no place at fault, and 0 stands for it

@@ -1,15 +1,20 @@
 // A sheet and its one text, and engine rows: the calls that need no register.
 ghost use mathlib.Core.Path.{_≡_};
+ghost use Prim.Native.Nat.{_<_, _≤_};
 ghost use lib.ListN.{length, replicate};
 ghost use Rattle.text.specs.Limit.{allHold, limitsOf};
-ghost use Rattle.text.specs.Line.{Reads, Laid};
+ghost use Rattle.text.specs.Line.{Reads, Laid, readLine, lineText};
 ghost use Rattle.sheet.specs.Settled.{Settled};
 ghost use Rattle.sheet.specs.Lines.{lines, fittings, mostRows};
-ghost use Rattle.sheet.specs.Sheet.{textWords, sheetOk, linesText, fitsText, sheetText};
+ghost use Rattle.sheet.specs.Sheet.{textWords, lineAt, wordAt, sheetOk, linesText, fitsText, sheetText};
 ghost use Rattle.sheet.specs.Reading.{readLines, readFits, readEnd, readRest, readSheet};
 ghost use Rattle.sheet.specs.Engines.{readRows, readEngines};
 ghost use Rattle.sheet.specs.Calls.{readAnswer, readInto, writeAnswer, writeInto, enginesAnswer, columnInto};
+use text::CAPPED;
+use text::Limit;
 use text::LineRead;
+use text::OR_NONE;
+use text::PLAIN;
 
 // The words that the register holds of a hull; in a text the HULL number stands before them.
 pub const SHEET_WORDS: usize = 68;
@@ -31,222 +36,93 @@ const NO_ROOM: u32 = 16;
 // The longest text that a sheet can have.
 const MOST_TEXT: usize = 700;
 
-// The tags of the lines HULL to SEAT, and where each line's tag and words start.
+// The tags of the lines HULL to SEAT, and where each line's tag starts.
 const TAGS: [u8; 52] = *b"HULL\tFORM\tSTN\tQ\tSTN\tR\tSTN\tS\tSTN\tT\tVOL\tMASS\tPWR\tSEAT\t";
 
 const TAG_AT: [usize; 11] = [0, 5, 10, 16, 22, 28, 34, 38, 43, 47, 52];
 
-const WORD_AT: [usize; 11] = [0, 1, 7, 14, 21, 28, 35, 38, 41, 43, 45];
-
-// The limits of a sheet's numbers, in the order of the text: low, high and rule of each. (specs/Lines.antt has them line by line.)
-const LIMITS: [u32; 3 * TEXT_WORDS] = [
-    0,
-    15,
-    0,
-    2000,
-    6000,
-    0,
-    2000,
-    6000,
-    2,
-    500,
-    3000,
-    0,
-    200,
-    900,
-    0,
-    0,
-    1,
-    0,
-    0,
-    1,
-    0,
-    0,
-    4000,
-    0,
-    0,
-    2500,
-    0,
-    0,
-    2500,
-    0,
-    0,
-    2500,
-    0,
-    0,
-    2500,
-    0,
-    0,
-    2500,
-    0,
-    0,
-    2500,
-    0,
-    0,
-    4000,
-    0,
-    0,
-    2500,
-    0,
-    0,
-    2500,
-    0,
-    0,
-    2500,
-    0,
-    0,
-    2500,
-    0,
-    0,
-    2500,
-    0,
-    0,
-    2500,
-    0,
-    0,
-    4000,
-    0,
-    0,
-    2500,
-    0,
-    0,
-    2500,
-    0,
-    0,
-    2500,
-    0,
-    0,
-    2500,
-    0,
-    0,
-    2500,
-    0,
-    0,
-    2500,
-    0,
-    0,
-    4000,
-    0,
-    0,
-    2500,
-    0,
-    0,
-    2500,
-    0,
-    0,
-    2500,
-    0,
-    0,
-    2500,
-    0,
-    0,
-    2500,
-    0,
-    0,
-    2500,
-    0,
-    0,
-    5000000,
-    0,
-    0,
-    5000000,
-    0,
-    0,
-    5000000,
-    0,
-    1,
-    2000000,
-    0,
-    0,
-    500000,
-    0,
-    0,
-    500000,
-    0,
-    0,
-    1,
-    0,
-    0,
-    200000,
-    0,
-    1,
-    24,
-    0,
-    1,
-    24,
-    1,
-    1,
-    500000,
-    1,
-    1,
-    500000,
-    1,
-    1,
-    500000,
-    1,
-    1,
-    500000,
-    1,
-    1,
-    500000,
-    1,
-    1,
-    500000,
-    1,
-    1,
-    500000,
-    1,
-    1,
-    500000,
-    1,
-    1,
-    500000,
-    1,
-    1,
-    500000,
-    1,
-    1,
-    500000,
-    1,
-    1,
-    500000,
-    1,
-    1,
-    500000,
-    1,
-    1,
-    500000,
-    1,
-    1,
-    500000,
-    1,
-    1,
-    500000,
-    1,
-    1,
-    500000,
-    1,
-    1,
-    500000,
-    1,
-    1,
-    500000,
-    1,
-    1,
-    500000,
-    1,
-    1,
-    500000,
-    1,
-    1,
-    500000,
-    1,
-    1,
-    500000,
-    1,
-    1,
-    500000,
-    1,
+// The limits of a sheet's numbers, line by line in the order of the text.
+const LIMITS: [Limit; TEXT_WORDS] = [
+    // HULL
+    [0, 15, PLAIN],
+    // FORM
+    [2000, 6000, PLAIN],
+    [2000, 6000, CAPPED],
+    [500, 3000, PLAIN],
+    [200, 900, PLAIN],
+    [0, 1, PLAIN],
+    [0, 1, PLAIN],
+    // STN Q
+    [0, 4000, PLAIN],
+    [0, 2500, PLAIN],
+    [0, 2500, PLAIN],
+    [0, 2500, PLAIN],
+    [0, 2500, PLAIN],
+    [0, 2500, PLAIN],
+    [0, 2500, PLAIN],
+    // STN R
+    [0, 4000, PLAIN],
+    [0, 2500, PLAIN],
+    [0, 2500, PLAIN],
+    [0, 2500, PLAIN],
+    [0, 2500, PLAIN],
+    [0, 2500, PLAIN],
+    [0, 2500, PLAIN],
+    // STN S
+    [0, 4000, PLAIN],
+    [0, 2500, PLAIN],
+    [0, 2500, PLAIN],
+    [0, 2500, PLAIN],
+    [0, 2500, PLAIN],
+    [0, 2500, PLAIN],
+    [0, 2500, PLAIN],
+    // STN T
+    [0, 4000, PLAIN],
+    [0, 2500, PLAIN],
+    [0, 2500, PLAIN],
+    [0, 2500, PLAIN],
+    [0, 2500, PLAIN],
+    [0, 2500, PLAIN],
+    [0, 2500, PLAIN],
+    // VOL
+    [0, 5000000, PLAIN],
+    [0, 5000000, PLAIN],
+    [0, 5000000, PLAIN],
+    // MASS
+    [1, 2000000, PLAIN],
+    [0, 500000, PLAIN],
+    [0, 500000, PLAIN],
+    // PWR
+    [0, 1, PLAIN],
+    [0, 200000, PLAIN],
+    // SEAT
+    [1, 24, PLAIN],
+    [1, 24, OR_NONE],
+    // the weight on each fitting line
+    [1, 500000, OR_NONE],
+    [1, 500000, OR_NONE],
+    [1, 500000, OR_NONE],
+    [1, 500000, OR_NONE],
+    [1, 500000, OR_NONE],
+    [1, 500000, OR_NONE],
+    [1, 500000, OR_NONE],
+    [1, 500000, OR_NONE],
+    [1, 500000, OR_NONE],
+    [1, 500000, OR_NONE],
+    [1, 500000, OR_NONE],
+    [1, 500000, OR_NONE],
+    [1, 500000, OR_NONE],
+    [1, 500000, OR_NONE],
+    [1, 500000, OR_NONE],
+    [1, 500000, OR_NONE],
+    [1, 500000, OR_NONE],
+    [1, 500000, OR_NONE],
+    [1, 500000, OR_NONE],
+    [1, 500000, OR_NONE],
+    [1, 500000, OR_NONE],
+    [1, 500000, OR_NONE],
+    [1, 500000, OR_NONE],
+    [1, 500000, OR_NONE],
 ];
 
 // What a call answers: a refusal by its number alone, or that it was done, or a count.
@@ -256,7 +132,28 @@ pub enum Answer {
     Count(u32),
 }
 
+// Where the words of line i start, and after the last line where the fittings do.
+fn word_at(i: usize) -> usize
+    requires { ⌜ i ≤ length lines ⌝ }
+    ensures { λ r. ⌜ r ≡ wordAt i ⌝ }
+{
+    let places = [0, 1, 7, 14, 21, 28, 35, 38, 41, 43, 45];
+    places[i]
+}
+
 // ---- reading a sheet
+
+// Reads line i of HULL to SEAT from the start of text.
+fn read_line_at(i: usize, text: &[u8], words: &mut [u32]) -> LineRead
+    requires { ⌜ i < length lines ⌝ }
+    ensures { λ r. ⌜ Reads (readLine (lineAt i) (now (text .entry))) (now (words .entry)) r (now (words .exit)) ⌝ }
+{
+    let tag = TAG_AT[i];
+    let tag_end = TAG_AT[i + 1];
+    let word = word_at(i);
+    let word_end = word_at(i + 1);
+    text::read_line(&TAGS[tag..tag_end], &LIMITS[word..word_end], text, words)
+}
 
 // Reads the lines HULL to SEAT.
 fn read_lines(text: &[u8], words: &mut [u32]) -> LineRead
@@ -266,16 +163,8 @@ fn read_lines(text: &[u8], words: &mut [u32]) -> LineRead
     let mut i = 0;
     let mut at = 0;
     while i < LINES {
-        let tag = TAG_AT[i];
-        let tag_end = TAG_AT[i + 1];
-        let word = WORD_AT[i];
-        let word_end = WORD_AT[i + 1];
-        match text::read_line(
-            &TAGS[tag..tag_end],
-            &LIMITS[3 * word..3 * word_end],
-            &text[at..],
-            &mut words[word..],
-        ) {
+        let word = word_at(i);
+        match read_line_at(i, &text[at..], &mut words[word..]) {
             LineRead::Fault(refusal, place) => {
                 return LineRead::Fault(refusal, at + place);
             }
@@ -298,7 +187,7 @@ fn read_fits(text: &[u8], weights: &mut [u32]) -> LineRead
     let mut next = 1;
     while read < FITTINGS {
         if text::starts(&text[at..], b'F') {
-            let limits = [next, 24, 0, 1, 500000, 0];
+            let limits = [[next, 24, PLAIN], [1, 500000, PLAIN]];
             let mut fit = [0u32; 2];
             match text::read_line(b"FIT\t", &limits, &text[at..], &mut fit) {
                 LineRead::Fault(refusal, place) => {

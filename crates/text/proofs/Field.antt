@@ -95,6 +95,16 @@ unfolding agreed
 agreed-self [] t = refl
 agreed-self (a ∷ s) t = rw (eq-eqb a a refl, agreed) (ap suc (agreed-self s t))
 
+pub agreed-most : (s t : List ℕ) → agreed s t ≤ length s
+unfolding agreed
+agreed-most [] t = omega arith
+agreed-most (a ∷ s) [] = omega arith
+agreed-most (a ∷ s) (b ∷ t) = go (eqb b a) (agreed-most s t)
+  where
+    go : (u : Bool) → agreed s t ≤ length s → (elim u [ true ↦ suc (agreed s t) | false ↦ 0 ]) ≤ suc (length s)
+    go true ih = omega arith
+    go false ih = omega arith
+
 pub agreed-fits : (s t : List ℕ) → agreed s t ≤ length t
 unfolding agreed
 agreed-fits [] t = omega arith

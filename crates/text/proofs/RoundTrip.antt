@@ -24,7 +24,7 @@ use Rattle.text.proofs.Field.{begins-cons, field-split, field-stop, fie
 use Rattle.text.proofs.Number.{both-hold, digits-small, digits-more, read-writes, written-reads}
 use Rattle.text.proofs.Limit.{within-high}
 use Rattle.text.proofs.Entry.{dash-ended, taken}
-use Rattle.text.proofs.Reading.{line-tagged, line-untagged}
+use Rattle.text.proofs.Reading.{shift-taken, line-tagged, line-untagged}
 
 -- ---- a text led by another
 
@@ -203,11 +203,6 @@ numbers-forth (l ∷ ls) last (n ∷ ns) rest w h =
     let d : drop (length x + 1) (x ++ (ender ls ∷ (more ++ rest))) ≡ more ++ rest = sym (drop-drop 1 (length x) (x ++ (ender ls ∷ (more ++ rest)))) ∙ rw (drop-append-seam x (ender ls ∷ (more ++ rest))) in
     let c : length x + 1 + length more ≡ length (x ++ (ender ls ∷ more)) = omega (arith, length-append x (ender ls ∷ more)) in
     rw (append-assoc x (ender ls ∷ more) rest, f, d, numbers-forth ls n ns rest (ws .1) (hs .1), c)
-
--- how a reading that went well after k bytes went
-shift-taken : (j : ℕ) (r : LineRead) (k : ℕ) → shift j r ≡ Taken k → (i : ℕ) × (r ≡ Taken i) × (k ≡ j + i)
-shift-taken j (Taken i) k e = (i, refl, cc)
-shift-taken j (Fault number at) k e = let z : _≡_ {A = ℕ} 0 1 = cc in absurd (omega arith)
 
 -- what reads as numbers is what they are written as, and each may stand where it does
 pub record BackAll (ls : List Limit) (last : ℕ) (x t : List ℕ) (k : ℕ) (ns : List ℕ) : Type 0 where

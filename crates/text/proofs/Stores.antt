@@ -1,12 +1,12 @@
 -- Runs of stores into a lent slice, `sets` of lib.Seq, where what would go past the end is dropped. Assumes nothing.
 use mathlib.Core.Path.{_≡_, refl, sym, ap, _∙_}
-use mathlib.Core.List.{List, [], _∷_, _++_, append-nil}
+use mathlib.Core.List.{List, [], _∷_, _++_, append-nil, append-assoc}
 use Prim.Native.Nat.{ℕ, zero, suc, _+_, _-_, _≤_, _<_}
-use native.Mathlib.Nat.{add-zero, add-suc, suc-add}
+use native.Mathlib.Nat.{add-zero, zero-add, add-suc, suc-add, sub-zero, zero-sub, suc-sub-suc}
 use native.Mathlib.Omega.{arith}
 use native.Mathlib.Numerals.{add-one}
-use lib.ListN.{length, getD, take, drop, set, length-drop, take-append-drop, drop-of-length-le}
-use lib.Seq.{sets, drop-cons, take-all, set-out, take-suc, length-take-le, take-set-le, drop-set-add}
+use lib.ListN.{length, getD, take, drop, set, replicate, length-append, length-drop, length-replicate, replicate-append-replicate, take-append-drop, drop-of-length-le}
+use lib.Seq.{sets, sets-eq, drop-cons, drop-length, take-all, set-out, take-suc, length-take-le, take-set-le, drop-set-add}
 
 pub sets-append : (l : List ℕ) (i : ℕ) (xs ys : List ℕ) → sets l i (xs ++ ys) ≡ sets (sets l i xs) (i + length xs) ys
 sets-append l i [] ys = rw add-zero
@@ -52,3 +52,39 @@ part-sets o a bs =
     let d : drop a (sets o a bs) ≡ sets (drop a o) 0 bs = ap (λ (k : ℕ). drop a (sets o k bs)) (sym (add-zero a)) ∙ drop-sets o a 0 bs in
     let h : a ≤ a = omega arith in
     rw (e, append-nil, ← d, ← take-sets o a a bs h, take-append-drop)
+
+-- ns stored into the part from n on, after the first n elements of o₀ were stored
+pub part-append : (o₀ so ns o ys : List ℕ) (n : ℕ) → o ≡ sets o₀ 0 so → length so ≡ n → ys ≡ sets (take (length o - n) (drop n o)) 0 ns
+    → take n o ++ (ys ++ drop (length o - n) (drop n o)) ≡ sets o₀ 0 (so ++ ns)
+part-append o₀ so ns o ys n e m y =
+    let w : ys ≡ sets (drop n o) 0 ns = y ∙ rw (rest-part o n) in
+    let z : n ≡ 0 + length so = omega arith in
+    rw w (part-sets o n ns) ∙ ap (λ (x : List ℕ). sets x n ns) e ∙ ap (λ (k : ℕ). sets (sets o₀ 0 so) k ns) z ∙ sym (sets-append o₀ 0 so ns)
+
+-- ---- stores into a list of zeros
+
+drop-replicate : (k m a : ℕ) → drop k (replicate m a) ≡ replicate (m - k) a
+drop-replicate zero m a = rw (sub-zero m)
+drop-replicate (suc k) zero a = rw (zero-sub (suc k))
+drop-replicate (suc k) (suc m) a = drop-replicate k m a ∙ rw (suc-sub-suc m k)
+
+pub sets-zeros : (m : ℕ) (xs : List ℕ) → length xs ≤ m → sets (replicate m 0) 0 xs ≡ xs ++ replicate (m - length xs) 0
+sets-zeros m xs h =
+    let zeros : List ℕ = replicate m 0 in
+    let n : length zeros ≡ m = length-replicate m 0 in
+    sets-eq xs zeros 0 (omega arith) ∙ ap (λ (k : ℕ). xs ++ drop k (replicate m 0)) (zero-add (length xs)) ∙ rw (drop-replicate (length xs) m 0)
+
+-- zeros stored over zeros
+pub zeros-stored : (m j : ℕ) (xs : List ℕ) → length xs + j ≤ m → sets (replicate m 0) 0 (xs ++ replicate j 0) ≡ sets (replicate m 0) 0 xs
+zeros-stored m j xs h =
+    let n : length (xs ++ replicate j 0) ≡ length xs + j = length-append xs (replicate j 0) ∙ rw (length-replicate {A = ℕ} j 0) in
+    let k : j + (m - (length xs + j)) ≡ m - length xs = omega arith in
+    sets-zeros m (xs ++ replicate j 0) (omega arith)
+    ∙ (rw (n, append-assoc xs (replicate j 0) (replicate (m - (length xs + j)) 0), replicate-append-replicate {A = ℕ} j (m - (length xs + j)) 0, k)
+    (sym (sets-zeros m xs (omega arith))))
+
+-- a list stored over as many elements
+pub sets-whole : (l xs : List ℕ) → length xs ≡ length l → sets l 0 xs ≡ xs
+sets-whole l xs h =
+    let e : 0 + length xs ≡ length l = omega arith in
+    sets-eq xs l 0 (omega arith) ∙ rw (e, drop-length l, append-nil xs)

@@ -1,4 +1,10 @@
 -- `read_end` meets its contract. Assumes nothing.
+use mathlib.Core.Path.{sym, _∙_}
+use mathlib.Core.List.{List}
+use Prim.Native.Nat.{ℕ}
+use Rattle.text.proofs.Field.{agreed-most}
+use Rattle.sheet.specs.Lines.{endLine}
+use Rattle.sheet.proofs.Whole.{end-broken, end-more, end-last}
 use native.Mathlib.Omega.{arith}
 use borrow.Author.Needs.{needs}
 use Rattle.sheet.proofs.read_end.Statement.{statement}
@@ -14,13 +20,13 @@ agreement-requires : tie.Need-agreement-requires
 agreement-requires c κs = search needs
 
 returns : tie.Need-returns
-returns c = ?
+returns c = sym (rw (c .before .agreement .ensures) (end-broken (c .before .before .before .before .args .text .now) (rw (c .before .agreement .ensures) at (c .if1 .taken))))
 
 returns-2 : tie.Need-returns-2
-returns-2 c = ?
+returns-2 c = sym (end-more (c .before .before .before .before .before .args .text .now) (omega (arith, c .before .before .agreement .ensures, c .before .if1 .left, agreed-most (endLine .tag) (c .before .before .before .before .before .args .text .now))) (c .if2 .taken))
 
 returns-3 : tie.Need-returns-3
-returns-3 c = ?
+returns-3 c = sym (end-last (c .before .before .before .before .before .args .text .now) (omega (arith, c .before .before .agreement .ensures, c .before .if1 .left, agreed-most (endLine .tag) (c .before .before .before .before .before .args .text .now))) (c .if2 .left))
 
 pub read-end-spec : {M : Type 1} → statement M
 read-end-spec =

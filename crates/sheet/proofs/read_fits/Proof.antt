@@ -1,4 +1,12 @@
 -- `read_fits` meets its contract. Assumes nothing.
+use mathlib.Core.Path.{sym, ap, _∙_}
+use lib.ListN.{length, length-set}
+use Rattle.text.specs.Field.{begins}
+use Rattle.sheet.specs.Reading.{fitByte}
+use Rattle.text.proofs.Stores.{rest-part}
+use Rattle.text.proofs.Reading.{extent}
+use Rattle.sheet.proofs.Fits.{State, start, kept, length-zeros, full, stop, place-in, fault, line-low, line-high, step}
+use Prim.Native.Nat.{_-_}
 use native.Mathlib.Omega.{arith}
 use borrow.Author.Needs.{needs}
 use Rattle.sheet.proofs.read_fits.Statement.{statement}
@@ -9,13 +17,13 @@ use Rattle.text.proofs.read_line.Reads as read-line-reads
 use Rattle.text.proofs.starts.Reads as starts-reads
 
 abbrev Inv-loop : tie.InvT-loop
-Inv-loop text weights₀ read₀ at₀ next₀ t11 weights read at next = ?
+Inv-loop text weights₀ read₀ at₀ next₀ t11 weights read at next = State text weights₀ weights read at next
 
 abbrev μ-loop : tie.MeasureT-loop
-μ-loop text weights₀ read₀ at₀ next₀ t11 weights read at next = ?
+μ-loop text weights₀ read₀ at₀ next₀ t11 weights read at next = 24 - read
 
 loop-holds : tie.Need-loop-holds Inv-loop μ-loop
-loop-holds c = ?
+loop-holds c = start _ _ (c .before .before .pre)
 
 sub-starts : tie.Need-sub-starts Inv-loop μ-loop
 sub-starts c = search needs
@@ -53,14 +61,16 @@ read-line-requires c κs = search needs
 enum-known-refusal : tie.Need-enum-known-refusal Inv-loop μ-loop
 enum-known-refusal c = search needs
 
-add-t29 : tie.Need-add-t29 Inv-loop μ-loop
-add-t29 c = search needs
+add-t31 : tie.Need-add-t31 Inv-loop μ-loop
+add-t31 c =
+    let h = place-in (c .before .before .before .before .before .before .before .before .before .before .before .before .before .loop .inv) (c .before .before .before .before .before .before .before .before .before .before .before .before .loop-test .taken) (sym (ap (begins fitByte) (rest-part (c .before .before .before .before .before .before .before .before .before .before .before .before .before .before .before .before .args .text .now) (c .before .before .before .before .before .before .before .before .before .before .before .before .before .loop .at))) ∙ sym (c .before .before .before .before .before .before .before .before .before .before .starts .ensures) ∙ c .before .before .before .before .before .before .before .before .before .if1 .taken) (c .before .before .before .before .read-line .ensures) in
+    omega (arith, ap extent (c .before .refusal .given .1))
 
 same-length : tie.Need-same-length Inv-loop μ-loop
-same-length c = search needs
+same-length c = kept (c .before .before .before .before .before .before .before .before .before .before .before .before .before .loop .inv)
 
 returns : tie.Need-returns Inv-loop μ-loop
-returns c = ?
+returns c = fault (c .before .before .before .before .before .before .before .before .before .before .before .before .before .loop .inv) (c .before .before .before .before .before .before .before .before .before .before .before .before .loop-test .taken) (sym (ap (begins fitByte) (rest-part (c .before .before .before .before .before .before .before .before .before .before .before .before .before .before .before .before .args .text .now) (c .before .before .before .before .before .before .before .before .before .before .before .before .before .loop .at))) ∙ sym (c .before .before .before .before .before .before .before .before .before .before .starts .ensures) ∙ c .before .before .before .before .before .before .before .before .before .if1 .taken) (c .before .before .before .before .read-line .ensures) (c .before .refusal .given .1)
 
 enum-known-len : tie.Need-enum-known-len Inv-loop μ-loop
 enum-known-len c = search needs
@@ -72,25 +82,27 @@ array-read-weights-2 : tie.Need-array-read-weights-2 Inv-loop μ-loop
 array-read-weights-2 c = search needs
 
 cast-weights : tie.Need-cast-weights Inv-loop μ-loop
-cast-weights c = search needs
+cast-weights c = omega (arith, line-low (c .before .before .before .before .before .before .before .before .before .before .before .before .before .loop .inv) (c .before .before .before .before .before .before .before .before .before .before .before .before .loop-test .taken) (sym (ap (begins fitByte) (rest-part (c .before .before .before .before .before .before .before .before .before .before .before .before .before .before .before .before .args .text .now) (c .before .before .before .before .before .before .before .before .before .before .before .before .before .loop .at))) ∙ sym (c .before .before .before .before .before .before .before .before .before .before .starts .ensures) ∙ c .before .before .before .before .before .before .before .before .before .if1 .taken) (c .before .before .before .before .read-line .ensures) (c .before .len .given .1), line-high (c .before .before .before .before .before .before .before .before .before .before .before .before .before .loop .inv) (c .before .before .before .before .before .before .before .before .before .before .before .before .loop-test .taken) (sym (ap (begins fitByte) (rest-part (c .before .before .before .before .before .before .before .before .before .before .before .before .before .before .before .before .args .text .now) (c .before .before .before .before .before .before .before .before .before .before .before .before .before .loop .at))) ∙ sym (c .before .before .before .before .before .before .before .before .before .before .starts .ensures) ∙ c .before .before .before .before .before .before .before .before .before .if1 .taken) (c .before .before .before .before .read-line .ensures) (c .before .len .given .1), kept (c .before .before .before .before .before .before .before .before .before .before .before .before .before .loop .inv), length-zeros (c .before .before .before .before .before .before .before .before .before .before .before .before .before .loop .inv))
 
 sub-weights : tie.Need-sub-weights Inv-loop μ-loop
-sub-weights c = search needs
+sub-weights c = omega (arith, line-low (c .before .before .before .before .before .before .before .before .before .before .before .before .before .loop .inv) (c .before .before .before .before .before .before .before .before .before .before .before .before .loop-test .taken) (sym (ap (begins fitByte) (rest-part (c .before .before .before .before .before .before .before .before .before .before .before .before .before .before .before .before .args .text .now) (c .before .before .before .before .before .before .before .before .before .before .before .before .before .loop .at))) ∙ sym (c .before .before .before .before .before .before .before .before .before .before .starts .ensures) ∙ c .before .before .before .before .before .before .before .before .before .if1 .taken) (c .before .before .before .before .read-line .ensures) (c .before .len .given .1), line-high (c .before .before .before .before .before .before .before .before .before .before .before .before .before .loop .inv) (c .before .before .before .before .before .before .before .before .before .before .before .before .loop-test .taken) (sym (ap (begins fitByte) (rest-part (c .before .before .before .before .before .before .before .before .before .before .before .before .before .before .before .before .args .text .now) (c .before .before .before .before .before .before .before .before .before .before .before .before .before .loop .at))) ∙ sym (c .before .before .before .before .before .before .before .before .before .before .starts .ensures) ∙ c .before .before .before .before .before .before .before .before .before .if1 .taken) (c .before .before .before .before .read-line .ensures) (c .before .len .given .1), kept (c .before .before .before .before .before .before .before .before .before .before .before .before .before .loop .inv), length-zeros (c .before .before .before .before .before .before .before .before .before .before .before .before .before .loop .inv))
 
 mul-weights : tie.Need-mul-weights Inv-loop μ-loop
-mul-weights c = search needs
+mul-weights c = omega (arith, line-low (c .before .before .before .before .before .before .before .before .before .before .before .before .before .loop .inv) (c .before .before .before .before .before .before .before .before .before .before .before .before .loop-test .taken) (sym (ap (begins fitByte) (rest-part (c .before .before .before .before .before .before .before .before .before .before .before .before .before .before .before .before .args .text .now) (c .before .before .before .before .before .before .before .before .before .before .before .before .before .loop .at))) ∙ sym (c .before .before .before .before .before .before .before .before .before .before .starts .ensures) ∙ c .before .before .before .before .before .before .before .before .before .if1 .taken) (c .before .before .before .before .read-line .ensures) (c .before .len .given .1), line-high (c .before .before .before .before .before .before .before .before .before .before .before .before .before .loop .inv) (c .before .before .before .before .before .before .before .before .before .before .before .before .loop-test .taken) (sym (ap (begins fitByte) (rest-part (c .before .before .before .before .before .before .before .before .before .before .before .before .before .before .before .before .args .text .now) (c .before .before .before .before .before .before .before .before .before .before .before .before .before .loop .at))) ∙ sym (c .before .before .before .before .before .before .before .before .before .before .starts .ensures) ∙ c .before .before .before .before .before .before .before .before .before .if1 .taken) (c .before .before .before .before .read-line .ensures) (c .before .len .given .1), kept (c .before .before .before .before .before .before .before .before .before .before .before .before .before .loop .inv), length-zeros (c .before .before .before .before .before .before .before .before .before .before .before .before .before .loop .inv))
 
 slice-write-weights : tie.Need-slice-write-weights Inv-loop μ-loop
-slice-write-weights c = search needs
+slice-write-weights c = omega (arith, line-low (c .before .before .before .before .before .before .before .before .before .before .before .before .before .loop .inv) (c .before .before .before .before .before .before .before .before .before .before .before .before .loop-test .taken) (sym (ap (begins fitByte) (rest-part (c .before .before .before .before .before .before .before .before .before .before .before .before .before .before .before .before .args .text .now) (c .before .before .before .before .before .before .before .before .before .before .before .before .before .loop .at))) ∙ sym (c .before .before .before .before .before .before .before .before .before .before .starts .ensures) ∙ c .before .before .before .before .before .before .before .before .before .if1 .taken) (c .before .before .before .before .read-line .ensures) (c .before .len .given .1), line-high (c .before .before .before .before .before .before .before .before .before .before .before .before .before .loop .inv) (c .before .before .before .before .before .before .before .before .before .before .before .before .loop-test .taken) (sym (ap (begins fitByte) (rest-part (c .before .before .before .before .before .before .before .before .before .before .before .before .before .before .before .before .args .text .now) (c .before .before .before .before .before .before .before .before .before .before .before .before .before .loop .at))) ∙ sym (c .before .before .before .before .before .before .before .before .before .before .starts .ensures) ∙ c .before .before .before .before .before .before .before .before .before .if1 .taken) (c .before .before .before .before .read-line .ensures) (c .before .len .given .1), kept (c .before .before .before .before .before .before .before .before .before .before .before .before .before .loop .inv), length-zeros (c .before .before .before .before .before .before .before .before .before .before .before .before .before .loop .inv))
 
 array-read-next : tie.Need-array-read-next Inv-loop μ-loop
 array-read-next c = search needs
 
 add-next : tie.Need-add-next Inv-loop μ-loop
-add-next c = search needs
+add-next c = omega (arith, line-low (c .before .before .before .before .before .before .before .before .before .before .before .before .before .loop .inv) (c .before .before .before .before .before .before .before .before .before .before .before .before .loop-test .taken) (sym (ap (begins fitByte) (rest-part (c .before .before .before .before .before .before .before .before .before .before .before .before .before .before .before .before .args .text .now) (c .before .before .before .before .before .before .before .before .before .before .before .before .before .loop .at))) ∙ sym (c .before .before .before .before .before .before .before .before .before .before .starts .ensures) ∙ c .before .before .before .before .before .before .before .before .before .if1 .taken) (c .before .before .before .before .read-line .ensures) (c .before .len .given .1), line-high (c .before .before .before .before .before .before .before .before .before .before .before .before .before .loop .inv) (c .before .before .before .before .before .before .before .before .before .before .before .before .loop-test .taken) (sym (ap (begins fitByte) (rest-part (c .before .before .before .before .before .before .before .before .before .before .before .before .before .before .before .before .args .text .now) (c .before .before .before .before .before .before .before .before .before .before .before .before .before .loop .at))) ∙ sym (c .before .before .before .before .before .before .before .before .before .before .starts .ensures) ∙ c .before .before .before .before .before .before .before .before .before .if1 .taken) (c .before .before .before .before .read-line .ensures) (c .before .len .given .1), kept (c .before .before .before .before .before .before .before .before .before .before .before .before .before .loop .inv), length-zeros (c .before .before .before .before .before .before .before .before .before .before .before .before .before .loop .inv))
 
 add-at : tie.Need-add-at Inv-loop μ-loop
-add-at c = search needs
+add-at c =
+    let h = place-in (c .before .before .before .before .before .before .before .before .before .before .before .before .before .loop .inv) (c .before .before .before .before .before .before .before .before .before .before .before .before .loop-test .taken) (sym (ap (begins fitByte) (rest-part (c .before .before .before .before .before .before .before .before .before .before .before .before .before .before .before .before .args .text .now) (c .before .before .before .before .before .before .before .before .before .before .before .before .before .loop .at))) ∙ sym (c .before .before .before .before .before .before .before .before .before .before .starts .ensures) ∙ c .before .before .before .before .before .before .before .before .before .if1 .taken) (c .before .before .before .before .read-line .ensures) in
+    omega (arith, ap extent (c .before .len .given .1))
 
 add-read : tie.Need-add-read Inv-loop μ-loop
 add-read c = search needs
@@ -99,19 +111,19 @@ loop-less : tie.Need-loop-less Inv-loop μ-loop
 loop-less c = search needs
 
 loop-again : tie.Need-loop-again Inv-loop μ-loop
-loop-again c = ?
+loop-again c = step (c .before .before .before .before .before .before .before .before .before .before .before .before .before .loop .inv) (c .before .before .before .before .before .before .before .before .before .before .before .before .loop-test .taken) (sym (ap (begins fitByte) (rest-part (c .before .before .before .before .before .before .before .before .before .before .before .before .before .before .before .before .args .text .now) (c .before .before .before .before .before .before .before .before .before .before .before .before .before .loop .at))) ∙ sym (c .before .before .before .before .before .before .before .before .before .before .starts .ensures) ∙ c .before .before .before .before .before .before .before .before .before .if1 .taken) (c .before .before .before .before .read-line .ensures) (c .before .len .given .1)
 
 same-length-2 : tie.Need-same-length-2 Inv-loop μ-loop
-same-length-2 c = search needs
+same-length-2 c = kept (c .before .before .before .before .loop .inv)
 
 returns-2 : tie.Need-returns-2 Inv-loop μ-loop
-returns-2 c = ?
+returns-2 c = stop (c .before .before .before .before .loop .inv) (sym (ap (begins fitByte) (rest-part (c .before .before .before .before .before .before .before .args .text .now) (c .before .before .before .before .loop .at))) ∙ sym (c .before .starts .ensures) ∙ c .if1 .left)
 
 same-length-3 : tie.Need-same-length-3 Inv-loop μ-loop
-same-length-3 c = search needs
+same-length-3 c = kept (c .before .loop .inv)
 
 returns-3 : tie.Need-returns-3 Inv-loop μ-loop
-returns-3 c = ?
+returns-3 c = full (c .before .loop .inv) (c .loop-test .left)
 
 pub read-fits-spec : {M : Type 1} → statement M
 read-fits-spec =
@@ -132,7 +144,7 @@ read-fits-spec =
     slice-aggregate-read-line-3
     read-line-requires
     enum-known-refusal
-    add-t29
+    add-t31
     same-length
     returns
     enum-known-len

@@ -1,119 +1,76 @@
 -- `read_lines` meets its contract. Assumes nothing.
+use mathlib.Core.Path.{ap}
+use Prim.Native.Nat.{_-_}
+use Rattle.text.proofs.Reading.{extent}
+use Rattle.sheet.proofs.Forms.{word-part}
+use Rattle.sheet.proofs.Lines.{State, start, done, kept, place-in, fault, step}
+use Rattle.sheet.proofs.Lines as lines
 use native.Mathlib.Omega.{arith}
 use borrow.Author.Needs.{needs}
 use Rattle.sheet.proofs.read_lines.Statement.{statement}
 use Rattle.sheet.proofs.read_lines.Tie as tie
 use Rattle.sheet.proofs.read_lines.Reads as reads
 use Rattle.sheet.proofs.read_lines.Lts as lts
-use Rattle.text.proofs.read_line.Reads as read-line-reads
+use Rattle.sheet.proofs.read_line_at.Reads as read-line-at-reads
+use Rattle.sheet.proofs.word_at.Reads as word-at-reads
 
 abbrev Inv-loop : tie.InvT-loop
-Inv-loop text words₀ i₀ at₀ t12 t13 words i at = ?
+Inv-loop text words₀ i₀ at₀ words i at = State text words₀ words i at
 
 abbrev μ-loop : tie.MeasureT-loop
-μ-loop text words₀ i₀ at₀ t12 t13 words i at = ?
+μ-loop text words₀ i₀ at₀ words i at = 10 - i
 
 loop-holds : tie.Need-loop-holds Inv-loop μ-loop
-loop-holds c = ?
+loop-holds c = start _ _
 
-mul-tag : tie.Need-mul-tag Inv-loop μ-loop
-mul-tag c = search needs
+word-at-requires : tie.Need-word-at-requires Inv-loop μ-loop
+word-at-requires c κs = search needs
 
-array-read-tag : tie.Need-array-read-tag Inv-loop μ-loop
-array-read-tag c = search needs
+sub-read-line-at : tie.Need-sub-read-line-at Inv-loop μ-loop
+sub-read-line-at c = search needs
 
-add-tag-end : tie.Need-add-tag-end Inv-loop μ-loop
-add-tag-end c = search needs
+part-read-line-at-start : tie.Need-part-read-line-at-start Inv-loop μ-loop
+part-read-line-at-start c = search needs
 
-mul-tag-end : tie.Need-mul-tag-end Inv-loop μ-loop
-mul-tag-end c = search needs
+part-read-line-at-end : tie.Need-part-read-line-at-end Inv-loop μ-loop
+part-read-line-at-end c = search needs
 
-array-read-tag-end : tie.Need-array-read-tag-end Inv-loop μ-loop
-array-read-tag-end c = search needs
+mul-read-line-at : tie.Need-mul-read-line-at Inv-loop μ-loop
+mul-read-line-at c = omega (arith, word-part (c .before .before .before .loop .i) (c .before .before .loop-test .taken) .order, word-part (c .before .before .before .loop .i) (c .before .before .loop-test .taken) .end, c .before .word-at .ensures, kept (c .before .before .before .loop .inv), c .before .before .before .before .before .before .pre)
 
-mul-word : tie.Need-mul-word Inv-loop μ-loop
-mul-word c = search needs
+sub-read-line-at-2 : tie.Need-sub-read-line-at-2 Inv-loop μ-loop
+sub-read-line-at-2 c = omega (arith, word-part (c .before .before .before .loop .i) (c .before .before .loop-test .taken) .order, word-part (c .before .before .before .loop .i) (c .before .before .loop-test .taken) .end, c .before .word-at .ensures, kept (c .before .before .before .loop .inv), c .before .before .before .before .before .before .pre)
 
-array-read-word : tie.Need-array-read-word Inv-loop μ-loop
-array-read-word c = search needs
+part-read-line-at-start-2 : tie.Need-part-read-line-at-start-2 Inv-loop μ-loop
+part-read-line-at-start-2 c = omega (arith, word-part (c .before .before .before .loop .i) (c .before .before .loop-test .taken) .order, word-part (c .before .before .before .loop .i) (c .before .before .loop-test .taken) .end, c .before .word-at .ensures, kept (c .before .before .before .loop .inv), c .before .before .before .before .before .before .pre)
 
-add-word-end : tie.Need-add-word-end Inv-loop μ-loop
-add-word-end c = search needs
+part-read-line-at-end-2 : tie.Need-part-read-line-at-end-2 Inv-loop μ-loop
+part-read-line-at-end-2 c = search needs
 
-mul-word-end : tie.Need-mul-word-end Inv-loop μ-loop
-mul-word-end c = search needs
-
-array-read-word-end : tie.Need-array-read-word-end Inv-loop μ-loop
-array-read-word-end c = search needs
-
-sub-read-line : tie.Need-sub-read-line Inv-loop μ-loop
-sub-read-line c = search needs
-
-part-read-line-start : tie.Need-part-read-line-start Inv-loop μ-loop
-part-read-line-start c = search needs
-
-part-read-line-end : tie.Need-part-read-line-end Inv-loop μ-loop
-part-read-line-end c = search needs
-
-mul-read-line : tie.Need-mul-read-line Inv-loop μ-loop
-mul-read-line c = search needs
-
-mul-read-line-2 : tie.Need-mul-read-line-2 Inv-loop μ-loop
-mul-read-line-2 c = search needs
-
-mul-read-line-3 : tie.Need-mul-read-line-3 Inv-loop μ-loop
-mul-read-line-3 c = search needs
-
-sub-read-line-2 : tie.Need-sub-read-line-2 Inv-loop μ-loop
-sub-read-line-2 c = search needs
-
-part-read-line-start-2 : tie.Need-part-read-line-start-2 Inv-loop μ-loop
-part-read-line-start-2 c = search needs
-
-part-read-line-end-2 : tie.Need-part-read-line-end-2 Inv-loop μ-loop
-part-read-line-end-2 c = search needs
-
-sub-read-line-3 : tie.Need-sub-read-line-3 Inv-loop μ-loop
-sub-read-line-3 c = search needs
-
-part-read-line-start-3 : tie.Need-part-read-line-start-3 Inv-loop μ-loop
-part-read-line-start-3 c = search needs
-
-part-read-line-end-3 : tie.Need-part-read-line-end-3 Inv-loop μ-loop
-part-read-line-end-3 c = search needs
-
-mul-read-line-4 : tie.Need-mul-read-line-4 Inv-loop μ-loop
-mul-read-line-4 c = search needs
-
-sub-read-line-4 : tie.Need-sub-read-line-4 Inv-loop μ-loop
-sub-read-line-4 c = search needs
-
-part-read-line-start-4 : tie.Need-part-read-line-start-4 Inv-loop μ-loop
-part-read-line-start-4 c = search needs
-
-part-read-line-end-4 : tie.Need-part-read-line-end-4 Inv-loop μ-loop
-part-read-line-end-4 c = search needs
-
-read-line-requires : tie.Need-read-line-requires Inv-loop μ-loop
-read-line-requires c κs = search needs
+read-line-at-requires : tie.Need-read-line-at-requires Inv-loop μ-loop
+read-line-at-requires c κs = search needs
 
 enum-known-refusal : tie.Need-enum-known-refusal Inv-loop μ-loop
 enum-known-refusal c = search needs
 
-add-t50 : tie.Need-add-t50 Inv-loop μ-loop
-add-t50 c = search needs
+add-t20 : tie.Need-add-t20 Inv-loop μ-loop
+add-t20 c =
+    let h = place-in (c .before .before .before .before .before .before .before .before .before .before .loop .inv) (c .before .before .before .before .before .before .before .before .before .loop-test .taken) (c .before .before .before .before .before .before .before .before .word-at .ensures) (c .before .before .before .before .before .read-line-at .ensures) in
+    omega (arith, ap extent (c .before .refusal .given .1))
 
 same-length : tie.Need-same-length Inv-loop μ-loop
-same-length c = search needs
+same-length c = lines.same-length (c .before .before .before .before .before .before .before .before .before .before .loop .inv) (c .before .before .before .before .before .before .before .before .before .loop-test .taken) (c .before .before .before .before .before .before .before .before .word-at .ensures) (c .before .before .before .before .before .read-line-at .ensures)
 
 returns : tie.Need-returns Inv-loop μ-loop
-returns c = ?
+returns c = fault (c .before .before .before .before .before .before .before .before .before .before .loop .inv) (c .before .before .before .before .before .before .before .before .before .loop-test .taken) (c .before .before .before .before .before .before .before .before .word-at .ensures) (c .before .before .before .before .before .read-line-at .ensures) (c .before .refusal .given .1)
 
 enum-known-len : tie.Need-enum-known-len Inv-loop μ-loop
 enum-known-len c = search needs
 
 add-at : tie.Need-add-at Inv-loop μ-loop
-add-at c = search needs
+add-at c =
+    let h = place-in (c .before .before .before .before .before .before .before .before .before .before .loop .inv) (c .before .before .before .before .before .before .before .before .before .loop-test .taken) (c .before .before .before .before .before .before .before .before .word-at .ensures) (c .before .before .before .before .before .read-line-at .ensures) in
+    omega (arith, ap extent (c .before .len .given .1))
 
 add-i : tie.Need-add-i Inv-loop μ-loop
 add-i c = search needs
@@ -122,13 +79,13 @@ loop-less : tie.Need-loop-less Inv-loop μ-loop
 loop-less c = search needs
 
 loop-again : tie.Need-loop-again Inv-loop μ-loop
-loop-again c = ?
+loop-again c = step (c .before .before .before .before .before .before .before .before .before .before .loop .inv) (c .before .before .before .before .before .before .before .before .before .loop-test .taken) (c .before .before .before .before .before .before .before .before .word-at .ensures) (c .before .before .before .before .before .read-line-at .ensures) (c .before .len .given .1)
 
 same-length-2 : tie.Need-same-length-2 Inv-loop μ-loop
-same-length-2 c = search needs
+same-length-2 c = kept (c .before .loop .inv)
 
 returns-2 : tie.Need-returns-2 Inv-loop μ-loop
-returns-2 c = ?
+returns-2 c = done (c .before .loop .inv) (c .loop-test .left)
 
 pub read-lines-spec : {M : Type 1} → statement M
 read-lines-spec =
@@ -137,35 +94,17 @@ read-lines-spec =
     Inv-loop
     μ-loop
     loop-holds
-    mul-tag
-    array-read-tag
-    add-tag-end
-    mul-tag-end
-    array-read-tag-end
-    mul-word
-    array-read-word
-    add-word-end
-    mul-word-end
-    array-read-word-end
-    sub-read-line
-    part-read-line-start
-    part-read-line-end
-    mul-read-line
-    mul-read-line-2
-    mul-read-line-3
-    sub-read-line-2
-    part-read-line-start-2
-    part-read-line-end-2
-    sub-read-line-3
-    part-read-line-start-3
-    part-read-line-end-3
-    mul-read-line-4
-    sub-read-line-4
-    part-read-line-start-4
-    part-read-line-end-4
-    read-line-requires
+    word-at-requires
+    sub-read-line-at
+    part-read-line-at-start
+    part-read-line-at-end
+    mul-read-line-at
+    sub-read-line-at-2
+    part-read-line-at-start-2
+    part-read-line-at-end-2
+    read-line-at-requires
     enum-known-refusal
-    add-t50
+    add-t20
     same-length
     returns
     enum-known-len

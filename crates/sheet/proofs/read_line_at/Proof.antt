@@ -1,0 +1,91 @@
+-- `read_line_at` meets its contract. Assumes nothing.
+use mathlib.Core.Path.{refl}
+use Rattle.sheet.specs.Sheet.{sheetLimits, limitsOn}
+use Rattle.sheet.proofs.Forms.{table, tag-part, word-part, form-read}
+use Rattle.sheet.proofs.Lines.{reads-by}
+use native.Mathlib.Omega.{arith}
+use borrow.Author.Needs.{needs}
+use Rattle.sheet.proofs.read_line_at.Statement.{statement}
+use Rattle.sheet.proofs.read_line_at.Tie as tie
+use Rattle.sheet.proofs.read_line_at.Reads as reads
+use Rattle.sheet.proofs.read_line_at.Lts as lts
+use Rattle.sheet.proofs.word_at.Reads as word-at-reads
+use Rattle.text.proofs.read_line.Reads as read-line-reads
+
+mul-tag : tie.Need-mul-tag
+mul-tag c = search needs
+
+array-read-tag : tie.Need-array-read-tag
+array-read-tag c = search needs
+
+add-tag-end : tie.Need-add-tag-end
+add-tag-end c = search needs
+
+mul-tag-end : tie.Need-mul-tag-end
+mul-tag-end c = search needs
+
+array-read-tag-end : tie.Need-array-read-tag-end
+array-read-tag-end c = search needs
+
+word-at-requires : tie.Need-word-at-requires
+word-at-requires c κs = search needs
+
+add-word-at : tie.Need-add-word-at
+add-word-at c = search needs
+
+word-at-requires-2 : tie.Need-word-at-requires-2
+word-at-requires-2 c κs = search needs
+
+sub-read-line : tie.Need-sub-read-line
+sub-read-line c = tag-part (c .before .before .before .before .args .i) (c .before .before .before .before .pre) .order
+
+part-read-line-start : tie.Need-part-read-line-start
+part-read-line-start c = tag-part (c .before .before .before .before .before .args .i) (c .before .before .before .before .before .pre) .order
+
+part-read-line-end : tie.Need-part-read-line-end
+part-read-line-end c = tag-part (c .before .before .before .before .before .args .i) (c .before .before .before .before .before .pre) .end
+
+mul-read-line : tie.Need-mul-read-line
+mul-read-line c = omega (arith, word-part (c .before .before .before .before .before .before .args .i) (c .before .before .before .before .before .before .pre) .order, word-part (c .before .before .before .before .before .before .args .i) (c .before .before .before .before .before .before .pre) .end, c .before .before .before .word-at .ensures, c .before .before .word-at2 .ensures)
+
+sub-read-line-2 : tie.Need-sub-read-line-2
+sub-read-line-2 c = omega (arith, word-part (c .before .before .before .before .before .before .args .i) (c .before .before .before .before .before .before .pre) .order, c .before .before .before .word-at .ensures, c .before .before .word-at2 .ensures)
+
+part-read-line-start-2 : tie.Need-part-read-line-start-2
+part-read-line-start-2 c = omega (arith, word-part (c .before .before .before .before .before .before .before .args .i) (c .before .before .before .before .before .before .before .pre) .order, c .before .before .before .before .word-at .ensures, c .before .before .before .word-at2 .ensures)
+
+part-read-line-end-2 : tie.Need-part-read-line-end-2
+part-read-line-end-2 c = omega (arith, word-part (c .before .before .before .before .before .before .before .args .i) (c .before .before .before .before .before .before .before .pre) .end, c .before .before .before .word-at2 .ensures)
+
+read-line-requires : tie.Need-read-line-requires
+read-line-requires c κs = search needs
+
+same-length : tie.Need-same-length
+same-length c = search needs
+
+returns : tie.Need-returns
+unfolding table sheetLimits limitsOn
+returns c = reads-by (c .before .before .before .before .before .before .before .before .before .before .before .before .args .text .now) (form-read (c .before .before .before .before .before .before .before .before .before .before .before .before .args .i) _ _ _ (c .before .before .before .before .before .before .before .before .before .before .before .before .pre) (c .before .before .before .before .before .before .before .before .before .word-at .ensures) (c .before .before .before .before .before .before .before .before .word-at2 .ensures) refl) (c .before .before .read-line .ensures)
+
+pub read-line-at-spec : {M : Type 1} → statement M
+read-line-at-spec =
+    tie.close
+    (tie.spec
+    mul-tag
+    array-read-tag
+    add-tag-end
+    mul-tag-end
+    array-read-tag-end
+    word-at-requires
+    add-word-at
+    word-at-requires-2
+    sub-read-line
+    part-read-line-start
+    part-read-line-end
+    mul-read-line
+    sub-read-line-2
+    part-read-line-start-2
+    part-read-line-end-2
+    read-line-requires
+    same-length
+    returns)

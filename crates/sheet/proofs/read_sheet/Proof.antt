@@ -1,0 +1,38 @@
+-- `read_sheet` meets its contract. Assumes nothing.
+use Rattle.sheet.proofs.Whole.{settled-refused, settled-read}
+use native.Mathlib.Omega.{arith}
+use borrow.Author.Needs.{needs}
+use Rattle.sheet.proofs.read_sheet.Statement.{statement}
+use Rattle.sheet.proofs.read_sheet.Tie as tie
+use Rattle.sheet.proofs.read_sheet.Reads as reads
+use Rattle.sheet.proofs.read_sheet.Lts as lts
+use Rattle.sheet.proofs.read_words.Reads as read-words-reads
+
+slice-aggregate-read-words : tie.Need-slice-aggregate-read-words
+slice-aggregate-read-words c = search needs
+
+read-words-requires : tie.Need-read-words-requires
+read-words-requires c κs = search needs
+
+enum-known-refusal : tie.Need-enum-known-refusal
+enum-known-refusal c = search needs
+
+enum-told : tie.Need-enum-told
+enum-told c = search needs
+
+returns : tie.Need-returns
+returns c = settled-refused (c .before .before .before .before .before .before .before .args .text .now) _ _ _ (rw (c .before .refusal .given .1) at (c .before .before .before .before .read-words .ensures))
+
+returns-2 : tie.Need-returns-2
+returns-2 c = settled-read (c .before .before .before .before .before .before .args .text .now) _ _ _ (rw (c .enum-told .given .1) at (c .before .before .before .read-words .ensures))
+
+pub read-sheet-spec : {M : Type 1} → statement M
+read-sheet-spec =
+    tie.close
+    (tie.spec
+    slice-aggregate-read-words
+    read-words-requires
+    enum-known-refusal
+    enum-told
+    returns
+    returns-2)
