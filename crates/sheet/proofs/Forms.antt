@@ -11,7 +11,7 @@ use lib.Dec.{leb}
 use lib.ListN.{length, take, drop, getD, length-map, List·getD-map}
 use lib.Seq.{drop-cons}
 use Rattle.text.specs.Quoted.{bytes}
-use Rattle.text.specs.Limit.{Limit}
+use Rattle.text.specs.Limit.{Limit, limitsOf}
 use Rattle.text.specs.Line.{Line, lineOf}
 use Rattle.text.proofs.Number.{both-hold}
 use Rattle.sheet.specs.Lines.{lines, endLine}
@@ -126,3 +126,8 @@ pub form-read : (i w e : ℕ) (rows : List (List ℕ)) → i < 10 → w ≡ word
     → lineOf (take (getD tagPlaces (i + 1) 0 - getD tagPlaces i 0) (drop (getD tagPlaces i 0) tags)) (take (e - w) (drop w rows)) ≡ lineAt i
 unfolding formAt
 form-read i w e rows h p q t = rw (p, q, t) (form-at i h)
+
+-- the table's rows are the sheet's limits
+pub table-limits : limitsOf table ≡ sheetLimits
+unfolding table sheetLimits limitsOn
+table-limits = refl

@@ -3,3 +3,7 @@ pub mod Forms
 pub mod Lines
 pub mod Fits
 pub mod Whole
+pub mod Held
+pub mod Written
+pub mod Most
+pub mod Engines

@@ -9,7 +9,7 @@ use lib.Seq.{sets, length-sets, drop-drop}
 use Rattle.text.specs.declared.LineRead.{LineRead}
 use Rattle.text.specs.declared.LineRead.the-variants.{Taken, Fault}
 use Rattle.text.specs.Line.{Line, Reading, Reads, nothing, after, shift, followed, readLine}
-use Rattle.text.proofs.Stores.{rest-part, part-append}
+use Rattle.text.proofs.Stores.{putBack, rest-part, part-append}
 use Rattle.text.proofs.Limit.{hold-length}
 use Rattle.text.proofs.Reading.{extent, line-extent, after-nothing, after-after, followed-taken, followed-fault, followed-extent, followed-parts}
 use Rattle.text.proofs.RoundTrip.{line-back}
@@ -71,24 +71,24 @@ module _ {t o₀ o : List ℕ} {i at : ℕ} (s : State t o₀ o i at) where
     unfolding readLines
     entered = s .so-far ∙ rw (line-next i h)
 
-    laid : take w o ++ (ys ++ drop (length o - w) (drop w o)) ≡ sets o₀ 0 (s .so ++ readLine (lineAt i) (drop at t) .numbers)
+    laid : putBack o w ys ≡ sets o₀ 0 (s .so ++ readLine (lineAt i) (drop at t) .numbers)
     laid = part-append o₀ (s .so) (readLine (lineAt i) (drop at t) .numbers) o ys w (s .stored) (s .many ∙ sym e) (p .stored ∙ rw (rest-part t at))
 
-    pub same-length : length (take w o ++ (ys ++ drop (length o - w) (drop w o))) ≡ length o₀
+    pub same-length : length (putBack o w ys) ≡ length o₀
     same-length = ap length laid ∙ simp length-sets
 
     pub place-in : at + extent r ≤ length t
     place-in = omega (arith, ap extent ended, line-extent (lineAt i) (drop at t), length-drop at t, s .at-in)
 
     pub fault : {number place : ℕ} → r ≡ Fault number place
-        → Reads (readLines lines t) o₀ (Fault number (at + place)) (take w o ++ (ys ++ drop (length o - w) (drop w o)))
+        → Reads (readLines lines t) o₀ (Fault number (at + place)) (putBack o w ys)
     fault {number} {place} v =
         let f : readLine (lineAt i) (drop at t) .ended ≡ Fault number place = sym ended ∙ v in
         let d : readLines lines t ≡ after (s .so) at (readLine (lineAt i) (drop at t)) = entered ∙ ap (after (s .so) at) (followed-fault (readLine (lineAt i) (drop at t)) (readLines (drop (i + 1) lines)) (drop at t) number place f) in
         record { answer = rw (d, f); stored = laid ∙ rw d }
 
     pub step : {len : ℕ} → r ≡ Taken len
-        → State t o₀ (take w o ++ (ys ++ drop (length o - w) (drop w o))) (i + 1) (at + len)
+        → State t o₀ (putBack o w ys) (i + 1) (at + len)
     step {len} v =
         let f : readLine (lineAt i) (drop at t) .ended ≡ Taken len = sym ended ∙ v in
         let ns : List ℕ = readLine (lineAt i) (drop at t) .numbers in

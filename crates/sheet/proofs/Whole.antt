@@ -13,7 +13,7 @@ use Rattle.text.specs.declared.LineRead.{LineRead}
 use Rattle.text.specs.declared.LineRead.the-variants.{Taken, Fault}
 use Rattle.text.specs.Field.{agreed}
 use Rattle.text.specs.Line.{Line, Reading, Reads, nothing, refused, after, shift, followed, readNumbers, readLine}
-use Rattle.text.proofs.Stores.{rest-part, sets-zeros, sets-whole}
+use Rattle.text.proofs.Stores.{putBack, rest-part, sets-zeros, sets-whole}
 use Rattle.text.proofs.Field.{agreed-fits}
 use Rattle.text.proofs.Reading.{extent, extent-shift, line-tagged, line-untagged, followed-extent, followed-parts, reads-last, reads-fault, reads-more}
 use Rattle.sheet.specs.declared.Answer.{Answer}
@@ -156,7 +156,7 @@ module _ (t : List ℕ) (h : length t ≤ mostBytes) where
 
   module _ {o₀ o : List ℕ} {at : ℕ} (p : Reads (readLines lines t) o₀ (Taken at) o) {r : LineRead} {ys : List ℕ}
       (q : Reads (readRest (take (length t - at) (drop at t))) (take (length o - 45) (drop 45 o)) r ys) where
-    pub reads-rest : Reads (readSheet t) o₀ (shift at r) (take 45 o ++ (ys ++ drop (length o - 45) (drop 45 o)))
+    pub reads-rest : Reads (readSheet t) o₀ (shift at r) (putBack o 45 ys)
     reads-rest =
         rw (sheet-short t h)
         (reads-more (readLines lines t) readRest t p (lines-counted t at (sym (p .answer))) (rw (rest-part t at) at q))

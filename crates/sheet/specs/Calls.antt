@@ -49,10 +49,10 @@ rowsFit rows a b = leb (length (powersOf rows)) a && leb (length (powersOf rows)
 abbrev pub enginesAnswer : Reading → ℕ → ℕ → Answer
 enginesAnswer p a b = elim (p .ended) [ Taken k ↦ cond (rowsFit (p .numbers) a b) (Count (length (powersOf (p .numbers)))) (Refused noRoom) | Fault number at ↦ Refused number ]
 
--- the column of the rows that goes into a lent slice, where there is room in this one and the other
-abbrev pub columnInto : (List ℕ → List ℕ) → Reading → List ℕ → ℕ → List ℕ
-columnInto column p before other =
+-- the two lent slices: the rows' columns at their starts, where there is room in both
+abbrev pub columnsInto : Reading → List ℕ → List ℕ → List ℕ × List ℕ
+columnsInto p powers weights =
     elim (p .ended) [
-      | Taken k ↦ cond (rowsFit (p .numbers) (length before) other) (startsWith (column (p .numbers)) before) before
-      | Fault number at ↦ before
+      | Taken k ↦ cond (rowsFit (p .numbers) (length powers) (length weights)) (startsWith (powersOf (p .numbers)) powers, startsWith (weightsOf (p .numbers)) weights) (powers, weights)
+      | Fault number at ↦ (powers, weights)
     ]

@@ -6,8 +6,12 @@ use lib.Dec.{ltb}
 use lib.ListN.{length, drop, getD}
 use Rattle.text.specs.declared.LineRead.{LineRead}
 use Rattle.text.specs.declared.LineRead.the-variants.{Taken, Fault}
+use Rattle.sheet.specs.declared.RowsRead.{RowsRead}
+use Rattle.sheet.specs.declared.RowsRead.the-variants.{Rows, NoRows}
+use lib.Seq.{sets}
+use mathlib.Core.Path.{_≡_}
 use Rattle.text.specs.Limit.{allHold}
-use Rattle.text.specs.Line.{Line, Reading, nothing, refused, brokenLine, after, followed, readLine, lineText}
+use Rattle.text.specs.Line.{Line, Reading, nothing, refused, brokenLine, after, readLine, lineText}
 use Rattle.sheet.specs.Lines.{engineLine, mostRows, mostBytes}
 
 -- after a row the text stops, or there is another
@@ -17,7 +21,11 @@ orStop more (b ∷ t) = more (b ∷ t)
 
 -- a row was read as p; the next one's power is above its power
 abbrev pub onRow : Reading → (ℕ → List ℕ → Reading) → List ℕ → Reading
-onRow p more t = followed p (orStop (more (suc (getD (p .numbers) 0 0)))) t
+onRow p more t =
+    elim (p .ended) [
+      | Taken k ↦ after (p .numbers) k (orStop (more (suc (getD (p .numbers) 0 0))) (drop k t))
+      | Fault number at ↦ refused number at
+    ]
 
 -- rows of powers from next on, `left` of them at most: power and weight of each in turn
 unfoldable pub readRows : ℕ → ℕ → List ℕ → Reading
@@ -38,6 +46,16 @@ abbrev pub weightsOf : List ℕ → List ℕ
 weightsOf [] = []
 weightsOf (p ∷ []) = []
 weightsOf (p ∷ w ∷ rows) = w ∷ weightsOf rows
+
+-- how a reading of rows ended: how many there are, or the fault
+abbrev pub rowsEnded : Reading → RowsRead
+rowsEnded p = elim (p .ended) [ Taken k ↦ Rows (length (powersOf (p .numbers))) | Fault number at ↦ NoRows number at ]
+
+-- the rows of p went into the lists a and b
+pub record Rowed (p : Reading) (a₀ b₀ : List ℕ) (r : RowsRead) (a b : List ℕ) : Type 0 where
+  pub answer : r ≡ rowsEnded p
+  pub powers : a ≡ sets a₀ 0 (powersOf (p .numbers))
+  pub weights : b ≡ sets b₀ 0 (weightsOf (p .numbers))
 
 -- ---- the text of rows, and which rows have one
 

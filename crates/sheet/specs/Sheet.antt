@@ -44,10 +44,14 @@ unfoldable pub linesText : List Line → List ℕ → List ℕ
 linesText [] s = []
 linesText (l ∷ ls) s = lineText l s ++ linesText ls (drop (length (l .limits)) s)
 
--- a line for each fitting that is there, from the line number n on
+-- the line of a fitting, if it is there
+unfoldable pub fitText : ℕ → ℕ → List ℕ
+fitText n w = elim (eqb w 0) [ true ↦ [] | false ↦ lineText (fitLine n) (n ∷ w ∷ []) ]
+
+-- the fittings from the line number n on
 unfoldable pub fitsText : ℕ → List ℕ → List ℕ
 fitsText n [] = []
-fitsText n (w ∷ ws) = elim (eqb w 0) [ true ↦ fitsText (suc n) ws | false ↦ lineText (fitLine n) (n ∷ w ∷ []) ++ fitsText (suc n) ws ]
+fitsText n (w ∷ ws) = fitText n w ++ fitsText (suc n) ws
 
 unfoldable pub sheetText : List ℕ → List ℕ
 sheetText s = linesText lines s ++ (fitsText 1 (drop (length (limitsOn lines)) s) ++ lineText endLine [])

@@ -8,7 +8,7 @@ use lib.ListN.{length, take, drop, set, length-append}
 use lib.Seq.{sets}
 use Rattle.text.specs.Number.{digitsOf}
 use Rattle.text.specs.Line.{Laid}
-use Rattle.text.proofs.Stores.{sets-append, sets-out, rest-part, part-sets}
+use Rattle.text.proofs.Stores.{putBack, sets-append, sets-out, rest-part, part-sets}
 use Rattle.text.proofs.Number.{digits-small, digits-more}
 
 pub laid-none : (o : List ℕ) (at : ℕ) → Laid [] o at at o
@@ -30,7 +30,7 @@ pub laid-start : (bs o o₁ : List ℕ) → o₁ ≡ sets o 0 bs → Laid bs o 0
 laid-start bs o o₁ e = record { end = omega arith; laid = e }
 
 -- bytes laid into the part from `at` on, seen from the whole
-pub laid-part : (bs o ys : List ℕ) (at r : ℕ) → Laid bs (take (length o - at) (drop at o)) 0 r ys → Laid bs o at (at + r) (take at o ++ (ys ++ drop (length o - at) (drop at o)))
+pub laid-part : (bs o ys : List ℕ) (at r : ℕ) → Laid bs (take (length o - at) (drop at o)) 0 r ys → Laid bs o at (at + r) (putBack o at ys)
 laid-part bs o ys at r p =
     let e : ys ≡ sets (drop at o) 0 bs = p .laid ∙ rw (rest-part o at) in
     record { end = omega (arith, p .end); laid = rw e (part-sets o at bs) }

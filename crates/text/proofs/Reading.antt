@@ -18,7 +18,7 @@ use Rattle.text.specs.Limit.{Limit, limitsOf}
 use Rattle.text.specs.Field.{agreed}
 use Rattle.text.specs.Line.{Line, lineOf, Reading, Reads, shift, after, nothing, refused, followed, ender, onEntry, readEntry, readNumbers, readLine}
 use Rattle.text.proofs.Field.{agreed-fits}
-use Rattle.text.proofs.Stores.{sets-snoc, rest-part, part-append}
+use Rattle.text.proofs.Stores.{putBack, sets-snoc, rest-part, part-append}
 use Rattle.text.proofs.Limit.{limitAt, limits-more, limits-end, length-limits}
 use Rattle.text.proofs.Entry.{reach, entry-reach}
 
@@ -178,7 +178,7 @@ followed-fault p next t number at e = rw e
 
 -- numbers that p gave are stored, and then those that next gives, into the part after them
 pub reads-more : (p : Reading) (next : List ℕ → Reading) (t : List ℕ) {o₀ o ys : List ℕ} {k n : ℕ} {r : LineRead} → Reads p o₀ (Taken k) o → length (p .numbers) ≡ n
-    → Reads (next (drop k t)) (take (length o - n) (drop n o)) r ys → Reads (followed p next t) o₀ (shift k r) (take n o ++ (ys ++ drop (length o - n) (drop n o)))
+    → Reads (next (drop k t)) (take (length o - n) (drop n o)) r ys → Reads (followed p next t) o₀ (shift k r) (putBack o n ys)
 reads-more p next t {o₀} {o} {ys} {k} {n} {r} a m b =
     let e : followed p next t ≡ after (p .numbers) k (next (drop k t)) = followed-taken p next t k (sym (a .answer)) in
     record {

@@ -45,8 +45,12 @@ drop-more l k h = rw (add-one k, drop-cons l k 0)
 pub rest-part : (t : List ℕ) (a : ℕ) → take (length t - a) (drop a t) ≡ drop a t
 rest-part t a = take-all (length t - a) (drop a t) (omega (arith, length-drop a t))
 
+-- the whole o, when its part from a on comes back as ys
+abbrev pub putBack : List ℕ → ℕ → List ℕ → List ℕ
+putBack o a ys = take a o ++ (ys ++ drop (length o - a) (drop a o))
+
 -- what comes back of a `&mut` part from a on, when bs were stored from its start
-pub part-sets : (o : List ℕ) (a : ℕ) (bs : List ℕ) → take a o ++ (sets (drop a o) 0 bs ++ drop (length o - a) (drop a o)) ≡ sets o a bs
+pub part-sets : (o : List ℕ) (a : ℕ) (bs : List ℕ) → putBack o a (sets (drop a o) 0 bs) ≡ sets o a bs
 part-sets o a bs =
     let e : drop (length o - a) (drop a o) ≡ [] = drop-of-length-le (drop a o) {i = length o - a} (omega (arith, length-drop a o)) in
     let d : drop a (sets o a bs) ≡ sets (drop a o) 0 bs = ap (λ (k : ℕ). drop a (sets o k bs)) (sym (add-zero a)) ∙ drop-sets o a 0 bs in
@@ -55,7 +59,7 @@ part-sets o a bs =
 
 -- ns stored into the part from n on, after the first n elements of o₀ were stored
 pub part-append : (o₀ so ns o ys : List ℕ) (n : ℕ) → o ≡ sets o₀ 0 so → length so ≡ n → ys ≡ sets (take (length o - n) (drop n o)) 0 ns
-    → take n o ++ (ys ++ drop (length o - n) (drop n o)) ≡ sets o₀ 0 (so ++ ns)
+    → putBack o n ys ≡ sets o₀ 0 (so ++ ns)
 part-append o₀ so ns o ys n e m y =
     let w : ys ≡ sets (drop n o) 0 ns = y ∙ rw (rest-part o n) in
     let z : n ≡ 0 + length so = omega arith in
@@ -88,3 +92,7 @@ pub sets-whole : (l xs : List ℕ) → length xs ≡ length l → sets l 0 xs �
 sets-whole l xs h =
     let e : 0 + length xs ≡ length l = omega arith in
     sets-eq xs l 0 (omega arith) ∙ rw (e, drop-length l, append-nil xs)
+
+-- a list stored from the start, with what stands after it
+pub sets-start : (l xs : List ℕ) → length xs ≤ length l → sets l 0 xs ≡ xs ++ drop (length xs) l
+sets-start l xs h = sets-eq xs l 0 (omega arith) ∙ rw (zero-add (length xs))

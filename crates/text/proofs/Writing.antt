@@ -5,7 +5,7 @@ use mathlib.Core.List.{List, [], _∷_, _++_, append-nil, append-assoc}
 use Prim.Native.Nat.{ℕ, suc, _+_, _-_, _*_, _≤_, _<_}
 use native.Mathlib.Omega.{arith}
 use lib.Dec.{eqb}
-use lib.ListN.{length, drop, getD, set, drop-of-length-le}
+use lib.ListN.{length, take, drop, getD, set, drop-of-length-le}
 use Rattle.text.specs.Quoted.{tab, feed, dash}
 use Rattle.text.specs.Number.{elevenDigits, digitsOf}
 use Rattle.text.specs.Limit.{Limit, isNone, limitsOf}
@@ -31,6 +31,13 @@ numbers-none : (ls : List Limit) → numbersText ls [] ≡ []
 unfolding numbersText
 numbers-none [] = refl
 numbers-none (l ∷ ls) = refl
+
+-- only the first numbers are written
+pub numbers-take : (ls : List Limit) (ns : List ℕ) → numbersText ls (take (length ls) ns) ≡ numbersText ls ns
+unfolding numbersText
+numbers-take [] ns = refl
+numbers-take (l ∷ ls) [] = refl
+numbers-take (l ∷ ls) (n ∷ ns) = ap (λ (x : List ℕ). entryText l n ++ (ender ls ∷ x)) (numbers-take ls ns)
 
 pub numbers-end : (table : List (List ℕ)) (ns : List ℕ) (k : ℕ) → length table ≤ k → numbersText (limitsOf (drop k table)) (drop k ns) ≡ []
 unfolding numbersText

@@ -323,13 +323,13 @@ pub fn read_line(tag: &[u8], table: &[Limit], text: &[u8], out: &mut [u32]) -> L
     }
 }
 
-// Lays the tag's bytes at the start of out, as far as out goes.
-fn write_tag(tag: &[u8], out: &mut [u8])
-    ensures { λ r. ⌜ now (out .exit) ≡ sets (now (out .entry)) 0 (now (tag .entry)) ⌝ }
+// Lays bytes at the start of out, as far as out goes.
+pub fn write_bytes(bytes: &[u8], out: &mut [u8])
+    ensures { λ r. ⌜ now (out .exit) ≡ sets (now (out .entry)) 0 (now (bytes .entry)) ⌝ }
 {
     let mut i = 0;
-    while i < tag.len() {
-        store(out, i, tag[i]);
+    while i < bytes.len() {
+        store(out, i, bytes[i]);
         i += 1;
     }
 }
@@ -373,6 +373,6 @@ fn write_numbers(table: &[Limit], numbers: &[u32], out: &mut [u8], start: usize)
 pub fn write_line(tag: &[u8], table: &[Limit], numbers: &[u32], out: &mut [u8]) -> usize
     ensures { λ r. ⌜ Laid (lineText (lineOf (now (tag .entry)) (now (table .entry))) (now (numbers .entry))) (now (out .entry)) 0 r (now (out .exit)) ⌝ }
 {
-    write_tag(tag, out);
+    write_bytes(tag, out);
     write_numbers(table, numbers, out, tag.len())
 }

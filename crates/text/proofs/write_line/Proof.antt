@@ -7,10 +7,10 @@ use Rattle.text.proofs.write_line.Tie as tie
 use Rattle.text.proofs.write_line.Reads as reads
 use Rattle.text.proofs.write_line.Lts as lts
 use Rattle.text.proofs.write_numbers.Reads as write-numbers-reads
-use Rattle.text.proofs.write_tag.Reads as write-tag-reads
+use Rattle.text.proofs.write_bytes.Reads as write-bytes-reads
 
-write-tag-requires : tie.Need-write-tag-requires
-write-tag-requires c κs = search needs
+write-bytes-requires : tie.Need-write-bytes-requires
+write-bytes-requires c κs = search needs
 
 write-numbers-requires : tie.Need-write-numbers-requires
 write-numbers-requires c κs = search needs
@@ -19,8 +19,8 @@ same-length : tie.Need-same-length
 same-length c = search needs
 
 returns : tie.Need-returns
-returns c = laid-more (laid-start (c .before .before .before .before .before .before .before .before .before .before .before .args .tag .now) (c .before .before .before .before .before .before .before .before .before .before .before .args .out .now) _ (c .before .before .before .before .before .before .write-tag .ensures)) (c .before .before .write-numbers .ensures)
+returns c = laid-more (laid-start (c .before .before .before .before .before .before .before .before .before .before .before .args .tag .now) (c .before .before .before .before .before .before .before .before .before .before .before .args .out .now) _ (c .before .before .before .before .before .before .write-bytes .ensures)) (c .before .before .write-numbers .ensures)
 
 pub write-line-spec : {M : Type 1} → statement M
 write-line-spec =
-    tie.close (tie.spec write-tag-requires write-numbers-requires same-length returns)
+    tie.close (tie.spec write-bytes-requires write-numbers-requires same-length returns)

@@ -1,4 +1,4 @@
--- `write_tag` meets its contract. Assumes nothing.
+-- `write_bytes` meets its contract. Assumes nothing.
 use mathlib.Core.Path.{_≡_, refl, ap, _∙_}
 use lib.Seq.{length-sets, take-all}
 use Rattle.text.proofs.Stores.{sets-take}
@@ -8,17 +8,17 @@ use lib.ListN.{length, take}
 use lib.Seq.{sets}
 use native.Mathlib.Omega.{arith}
 use borrow.Author.Needs.{needs}
-use Rattle.text.proofs.write_tag.Statement.{statement}
-use Rattle.text.proofs.write_tag.Tie as tie
-use Rattle.text.proofs.write_tag.Reads as reads
-use Rattle.text.proofs.write_tag.Lts as lts
+use Rattle.text.proofs.write_bytes.Statement.{statement}
+use Rattle.text.proofs.write_bytes.Tie as tie
+use Rattle.text.proofs.write_bytes.Reads as reads
+use Rattle.text.proofs.write_bytes.Lts as lts
 use Rattle.text.proofs.store.Reads as store-reads
 
 abbrev Inv-loop : tie.InvT-loop
-Inv-loop tag out₀ i₀ out i = (i ≤ length tag) × (out ≡ sets out₀ 0 (take i tag))
+Inv-loop bytes out₀ i₀ out i = (i ≤ length bytes) × (out ≡ sets out₀ 0 (take i bytes))
 
 abbrev μ-loop : tie.MeasureT-loop
-μ-loop tag out₀ i₀ out i = length tag - i
+μ-loop bytes out₀ i₀ out i = length bytes - i
 
 loop-holds : tie.Need-loop-holds Inv-loop μ-loop
 loop-holds c = (omega arith, refl)
@@ -39,7 +39,7 @@ loop-again : tie.Need-loop-again Inv-loop μ-loop
 loop-again c =
     let h = c .before .before .before .before .before .before .before .before .before .args in
     let at = c .before .before .before .before .before .before .loop in
-    (omega arith, c .before .before .store .ensures ∙ rw (at .inv .1) (sets-take (h .out .now) (h .tag .now) (at .i) (c .before .before .before .before .before .loop-test .taken)))
+    (omega arith, c .before .before .store .ensures ∙ rw (at .inv .1) (sets-take (h .out .now) (h .bytes .now) (at .i) (c .before .before .before .before .before .loop-test .taken)))
 
 same-length : tie.Need-same-length Inv-loop μ-loop
 same-length c = ap length (c .before .loop .inv .1) ∙ simp length-sets
@@ -49,8 +49,8 @@ returns c =
     let at = c .before .loop in
     at .inv .1 ∙ ap (sets _ 0) (take-all (at .i) _ (c .loop-test .left))
 
-pub write-tag-spec : {M : Type 1} → statement M
-write-tag-spec =
+pub write-bytes-spec : {M : Type 1} → statement M
+write-bytes-spec =
     tie.close
     (tie.spec
     Inv-loop

@@ -1,0 +1,61 @@
+-- `write_fit` meets its contract. Assumes nothing.
+use mathlib.Core.Path.{ap}
+use lib.ListN.{length}
+use Rattle.text.proofs.Laid.{laid-none, laid-part}
+use Rattle.sheet.proofs.Written.{fit-none, fit-some}
+use native.Mathlib.Omega.{arith}
+use borrow.Author.Needs.{needs}
+use Rattle.sheet.proofs.write_fit.Statement.{statement}
+use Rattle.sheet.proofs.write_fit.Tie as tie
+use Rattle.sheet.proofs.write_fit.Reads as reads
+use Rattle.sheet.proofs.write_fit.Lts as lts
+use Rattle.text.proofs.write_line.Reads as write-line-reads
+
+returns : tie.Need-returns
+returns c = rw (fit-none (c .before .before .args .line) (c .before .before .args .weight) (c .if1 .taken)) (laid-none _ _)
+
+slice-aggregate-write-line : tie.Need-slice-aggregate-write-line
+slice-aggregate-write-line c = search needs
+
+slice-aggregate-write-line-2 : tie.Need-slice-aggregate-write-line-2
+slice-aggregate-write-line-2 c = search needs
+
+slice-aggregate-write-line-3 : tie.Need-slice-aggregate-write-line-3
+slice-aggregate-write-line-3 c = search needs
+
+sub-write-line : tie.Need-sub-write-line
+sub-write-line c = search needs
+
+part-write-line-start : tie.Need-part-write-line-start
+part-write-line-start c = search needs
+
+part-write-line-end : tie.Need-part-write-line-end
+part-write-line-end c = search needs
+
+write-line-requires : tie.Need-write-line-requires
+write-line-requires c κs = search needs
+
+add-result : tie.Need-add-result
+add-result c = omega (arith, c .before .before .before .before .before .before .before .before .before .pre, c .before .before .write-line .ensures .end, ap length (fit-some (c .before .before .before .before .before .before .before .before .before .args .line) (c .before .before .before .before .before .before .before .before .before .args .weight) (c .before .before .before .before .before .before .before .if1 .left)), c .before .before .before .before .before .before .before .before .before .good)
+
+same-length : tie.Need-same-length
+same-length c = search needs
+
+returns-2 : tie.Need-returns-2
+returns-2 c = rw (fit-some (c .before .before .before .before .before .before .before .before .before .args .line) (c .before .before .before .before .before .before .before .before .before .args .weight) (c .before .before .before .before .before .before .before .if1 .left)) (laid-part _ (c .before .before .before .before .before .before .before .before .before .args .out .now) _ (c .before .before .before .before .before .before .before .before .before .args .at) _ (c .before .before .write-line .ensures))
+
+pub write-fit-spec : {M : Type 1} → statement M
+write-fit-spec =
+    tie.close
+    (tie.spec
+    returns
+    slice-aggregate-write-line
+    slice-aggregate-write-line-2
+    slice-aggregate-write-line-3
+    sub-write-line
+    part-write-line-start
+    part-write-line-end
+    write-line-requires
+    add-result
+    same-length
+    returns-2)

@@ -1,0 +1,78 @@
+-- `write_sheet` meets its contract. Assumes nothing.
+use lib.Seq.{length-take-le}
+use mathlib.Core.Path.{_≡_, refl, sym, ap, _∙_}
+use mathlib.Core.List.{List}
+use Rattle.text.specs.Limit.{Limit, allHold}
+use Rattle.sheet.specs.Sheet.{sheetLimits, limitsOn}
+use Rattle.sheet.proofs.Forms.{table, table-limits}
+use Rattle.sheet.proofs.Most.{text-most}
+use Rattle.sheet.proofs.Written.{settled-outside, settled-short, written-in, written-most, settled-written}
+use native.Mathlib.Omega.{arith}
+use borrow.Author.Needs.{needs}
+use Rattle.sheet.proofs.write_sheet.Statement.{statement}
+use Rattle.sheet.proofs.write_sheet.Tie as tie
+use Rattle.sheet.proofs.write_sheet.Reads as reads
+use Rattle.sheet.proofs.write_sheet.Lts as lts
+use Rattle.sheet.proofs.write_words.Reads as write-words-reads
+use Rattle.text.proofs.all_hold.Reads as all-hold-reads
+use Rattle.text.proofs.write_bytes.Reads as write-bytes-reads
+
+slice-aggregate-all-hold : tie.Need-slice-aggregate-all-hold
+slice-aggregate-all-hold c = search needs
+
+all-hold-requires : tie.Need-all-hold-requires
+all-hold-requires c κs = search needs
+
+slice-aggregate-write-words : tie.Need-slice-aggregate-write-words
+slice-aggregate-write-words c = search needs
+
+write-words-requires : tie.Need-write-words-requires
+unfolding table sheetLimits limitsOn
+write-words-requires c κs = (search needs, text-most (c .before .before .before .before .before .before .before .args .sheet .now) (sym (ap (λ (ls : List Limit). allHold ls 0 (c .before .before .before .before .before .before .before .args .sheet .now)) table-limits) ∙ sym (c .before .before .before .all-hold .ensures) ∙ c .before .before .if1 .taken))
+
+returns : tie.Need-returns
+unfolding table sheetLimits limitsOn
+returns c = settled-short (c .before .before .before .before .before .before .before .before .before .before .args .sheet .now) (c .before .before .before .before .before .before .before .before .before .before .args .out .now) (sym (ap (λ (ls : List Limit). allHold ls 0 (c .before .before .before .before .before .before .before .before .before .before .args .sheet .now)) table-limits) ∙ sym (c .before .before .before .before .before .before .all-hold .ensures) ∙ c .before .before .before .before .before .if1 .taken) (c .before .before .write-words .ensures) (c .if2 .taken)
+
+array-share-prefix-bytes : tie.Need-array-share-prefix-bytes
+unfolding table sheetLimits limitsOn
+array-share-prefix-bytes c = written-in (c .before .before .before .before .before .before .before .before .before .before .args .sheet .now) (c .before .before .before .before .before .before .before .before .before .before .args .out .now) (sym (ap (λ (ls : List Limit). allHold ls 0 (c .before .before .before .before .before .before .before .before .before .before .args .sheet .now)) table-limits) ∙ sym (c .before .before .before .before .before .before .all-hold .ensures) ∙ c .before .before .before .before .before .if1 .taken) (c .before .before .write-words .ensures) (text-most (c .before .before .before .before .before .before .before .before .before .before .args .sheet .now) (sym (ap (λ (ls : List Limit). allHold ls 0 (c .before .before .before .before .before .before .before .before .before .before .args .sheet .now)) table-limits) ∙ sym (c .before .before .before .before .before .before .all-hold .ensures) ∙ c .before .before .before .before .before .if1 .taken))
+
+slice-aggregate-write-bytes : tie.Need-slice-aggregate-write-bytes
+unfolding table sheetLimits limitsOn
+slice-aggregate-write-bytes c = sym (length-take-le _ _ (written-in (c .before .before .before .before .before .before .before .before .before .before .before .args .sheet .now) (c .before .before .before .before .before .before .before .before .before .before .before .args .out .now) (sym (ap (λ (ls : List Limit). allHold ls 0 (c .before .before .before .before .before .before .before .before .before .before .before .args .sheet .now)) table-limits) ∙ sym (c .before .before .before .before .before .before .before .all-hold .ensures) ∙ c .before .before .before .before .before .before .if1 .taken) (c .before .before .before .write-words .ensures) (text-most (c .before .before .before .before .before .before .before .before .before .before .before .args .sheet .now) (sym (ap (λ (ls : List Limit). allHold ls 0 (c .before .before .before .before .before .before .before .before .before .before .before .args .sheet .now)) table-limits) ∙ sym (c .before .before .before .before .before .before .before .all-hold .ensures) ∙ c .before .before .before .before .before .before .if1 .taken))))
+
+write-bytes-requires : tie.Need-write-bytes-requires
+write-bytes-requires c κs = search needs
+
+cast-t92 : tie.Need-cast-t92
+unfolding table sheetLimits limitsOn
+cast-t92 c = let m = written-most (c .before .before .before .before .before .before .before .before .before .before .before .before .before .before .before .args .sheet .now) (c .before .before .before .before .before .before .before .before .before .before .before .before .before .before .before .args .out .now) (sym (ap (λ (ls : List Limit). allHold ls 0 (c .before .before .before .before .before .before .before .before .before .before .before .before .before .before .before .args .sheet .now)) table-limits) ∙ sym (c .before .before .before .before .before .before .before .before .before .before .before .all-hold .ensures) ∙ c .before .before .before .before .before .before .before .before .before .before .if1 .taken) (c .before .before .before .before .before .before .before .write-words .ensures) (text-most (c .before .before .before .before .before .before .before .before .before .before .before .before .before .before .before .args .sheet .now) (sym (ap (λ (ls : List Limit). allHold ls 0 (c .before .before .before .before .before .before .before .before .before .before .before .before .before .before .before .args .sheet .now)) table-limits) ∙ sym (c .before .before .before .before .before .before .before .before .before .before .before .all-hold .ensures) ∙ c .before .before .before .before .before .before .before .before .before .before .if1 .taken)) in omega arith
+
+same-length : tie.Need-same-length
+same-length c = search needs
+
+returns-2 : tie.Need-returns-2
+unfolding table sheetLimits limitsOn
+returns-2 c = settled-written (c .before .before .before .before .before .before .before .before .before .before .before .before .before .before .before .args .sheet .now) (c .before .before .before .before .before .before .before .before .before .before .before .before .before .before .before .args .out .now) (sym (ap (λ (ls : List Limit). allHold ls 0 (c .before .before .before .before .before .before .before .before .before .before .before .before .before .before .before .args .sheet .now)) table-limits) ∙ sym (c .before .before .before .before .before .before .before .before .before .before .before .all-hold .ensures) ∙ c .before .before .before .before .before .before .before .before .before .before .if1 .taken) (c .before .before .before .before .before .before .before .write-words .ensures) (text-most (c .before .before .before .before .before .before .before .before .before .before .before .before .before .before .before .args .sheet .now) (sym (ap (λ (ls : List Limit). allHold ls 0 (c .before .before .before .before .before .before .before .before .before .before .before .before .before .before .before .args .sheet .now)) table-limits) ∙ sym (c .before .before .before .before .before .before .before .before .before .before .before .all-hold .ensures) ∙ c .before .before .before .before .before .before .before .before .before .before .if1 .taken)) (c .before .before .before .before .before .if2 .left) (c .before .before .write-bytes .ensures)
+
+returns-3 : tie.Need-returns-3
+unfolding table sheetLimits limitsOn
+returns-3 c = settled-outside (c .before .before .before .before .before .args .sheet .now) (c .before .before .before .before .before .args .out .now) (sym (ap (λ (ls : List Limit). allHold ls 0 (c .before .before .before .before .before .args .sheet .now)) table-limits) ∙ sym (c .before .all-hold .ensures) ∙ c .if1 .left)
+
+pub write-sheet-spec : {M : Type 1} → statement M
+write-sheet-spec =
+    tie.close
+    (tie.spec
+    slice-aggregate-all-hold
+    all-hold-requires
+    slice-aggregate-write-words
+    write-words-requires
+    returns
+    array-share-prefix-bytes
+    slice-aggregate-write-bytes
+    write-bytes-requires
+    cast-t92
+    same-length
+    returns-2
+    returns-3)
