@@ -9,7 +9,7 @@ use native.Mathlib.Omega.{arith}
 use borrow.Author.Tests.{lt-ltb, le-ltb, le-leb, lt-leb}
 use lib.Dec.{leb, ltb}
 use lib.ListN.{length, take, drop, getD, set, length-append, length-drop, drop-of-length-le}
-use lib.Seq.{sets, length-sets, drop-drop, take-at}
+use lib.Seq.{sets, length-sets, length-take-le, drop-drop, take-at}
 use Rattle.text.specs.declared.LineRead.{LineRead}
 use Rattle.text.specs.declared.LineRead.the-variants.{Taken, Fault}
 use Rattle.text.specs.Line.{Reading, Reads, nothing, refused, after, shift, readLine}
@@ -202,9 +202,6 @@ module _ {t a₀ b₀ a b : List ℕ} {rows at next : ℕ} (s : State t a₀ b�
       followed : readRows (mostRows - rows) next (drop at t) ≡ after (read-row .n ∷ read-row .w ∷ []) len (orStop (readRows (mostRows - (rows + 1)) (suc (read-row .n))) (drop (at + len) t))
       followed = entered ∙ rw (taken, same, drop-drop len at t)
 
-      so₁ : List ℕ
-      so₁ = s .so ++ (read-row .n ∷ read-row .w ∷ [])
-
       powers₁ : set a rows (getD pair 0 0) ≡ sets a₀ 0 (powersOf (s .so ++ (read-row .n ∷ read-row .w ∷ [])))
       powers₁ =
           let e : getD pair 0 0 ≡ read-row .n = ap (λ (l : List ℕ). getD l 0 0) (read-row .are) in
@@ -292,9 +289,6 @@ module _ (t a b : List ℕ) (h : length t ≤ mostBytes) where
       record { answered = rw (q, e); kept = rw (q, e) }
 
   module _ {a₀ b₀ c d : List ℕ} {n : ℕ} (p : Rowed (readRows mostRows 1 t) a₀ b₀ (Rows n) c d) (u : length a₀ ≡ mostRows) (v : length b₀ ≡ mostRows) where
-    ns : List ℕ
-    ns = readRows mostRows 1 t .numbers
-
     read : (k : ℕ) × (readRows mostRows 1 t .ended ≡ Taken k) × (n ≡ length (powersOf (readRows mostRows 1 t .numbers)))
     read = ended-rows (readRows mostRows 1 t) n (p .answer)
 
@@ -309,6 +303,12 @@ module _ (t a b : List ℕ) (h : length t ≤ mostBytes) where
 
     pub weights-in : n ≤ length d
     weights-in = omega (arith, rows-few, ap length (p .weights), length-sets b₀ 0 (weightsOf (readRows mostRows 1 t .numbers)))
+
+    pub powers-fit : n ≤ length a → length (take n c) ≤ length a
+    powers-fit l = rw (length-take-le n c powers-in) l
+
+    pub weights-fit : n ≤ length b → length (take n d) ≤ length b
+    weights-fit l = rw (length-take-le n d weights-in) l
 
     no-room : rowsFit (readRows mostRows 1 t .numbers) (length a) (length b) ≡ false → Promise t a b (Refused 16) a b
     no-room f = let q = engines-short t h in let e = read .1 in record { answered = rw (q, e, f); kept = rw (q, e, f) }

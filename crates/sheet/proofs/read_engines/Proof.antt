@@ -1,4 +1,8 @@
 -- `read_engines` meets its contract. Assumes nothing.
+use mathlib.Core.Path.{refl, sym, ap, _∙_}
+use lib.ListN.{length}
+use lib.Seq.{length-take-le}
+use Rattle.sheet.proofs.Engines.{settled-long, settled-fault, rows-few, powers-in, weights-in, powers-fit, weights-fit, settled-few-powers, settled-few-weights, settled-read}
 use native.Mathlib.Omega.{arith}
 use borrow.Author.Needs.{needs}
 use Rattle.sheet.proofs.read_engines.Statement.{statement}
@@ -9,7 +13,7 @@ use Rattle.sheet.proofs.copy_numbers.Reads as copy-numbers-reads
 use Rattle.sheet.proofs.read_rows.Reads as read-rows-reads
 
 returns : tie.Need-returns
-returns c = ?
+returns c = settled-long (c .before .before .before .before .args .text .now) (c .before .before .before .before .args .powers .now) (c .before .before .before .before .args .weights .now) (c .if1 .taken)
 
 slice-aggregate-read-rows : tie.Need-slice-aggregate-read-rows
 slice-aggregate-read-rows c = search needs
@@ -27,34 +31,34 @@ enum-known-rows : tie.Need-enum-known-rows
 enum-known-rows c = search needs
 
 returns-2 : tie.Need-returns-2
-returns-2 c = ?
+returns-2 c = settled-few-powers (c .before .before .before .before .before .before .before .before .before .before .before .before .before .args .text .now) (c .before .before .before .before .before .before .before .before .before .before .before .before .before .args .powers .now) (c .before .before .before .before .before .before .before .before .before .before .before .before .before .args .weights .now) (c .before .before .before .before .before .before .before .before .before .if1 .left) (rw (c .before .before .rows .given .1) at (c .before .before .before .before .before .before .read-rows .ensures)) refl refl (c .if2 .taken)
 
 returns-3 : tie.Need-returns-3
-returns-3 c = ?
+returns-3 c = settled-few-weights (c .before .before .before .before .before .before .before .before .before .before .before .before .before .before .args .text .now) (c .before .before .before .before .before .before .before .before .before .before .before .before .before .before .args .powers .now) (c .before .before .before .before .before .before .before .before .before .before .before .before .before .before .args .weights .now) (c .before .before .before .before .before .before .before .before .before .before .if1 .left) (rw (c .before .before .before .rows .given .1) at (c .before .before .before .before .before .before .before .read-rows .ensures)) refl refl (c .before .if2 .left) (c .if3 .taken)
 
 array-share-prefix-read-powers : tie.Need-array-share-prefix-read-powers
-array-share-prefix-read-powers c = search needs
+array-share-prefix-read-powers c = powers-in (c .before .before .before .before .before .before .before .before .before .before .before .before .before .before .args .text .now) (c .before .before .before .before .before .before .before .before .before .before .before .before .before .before .args .powers .now) (c .before .before .before .before .before .before .before .before .before .before .before .before .before .before .args .weights .now) (c .before .before .before .before .before .before .before .before .before .before .if1 .left) (rw (c .before .before .before .rows .given .1) at (c .before .before .before .before .before .before .before .read-rows .ensures)) refl refl
 
 slice-aggregate-copy-numbers : tie.Need-slice-aggregate-copy-numbers
-slice-aggregate-copy-numbers c = search needs
+slice-aggregate-copy-numbers c = sym (length-take-le _ _ (powers-in (c .before .before .before .before .before .before .before .before .before .before .before .before .before .before .before .args .text .now) (c .before .before .before .before .before .before .before .before .before .before .before .before .before .before .before .args .powers .now) (c .before .before .before .before .before .before .before .before .before .before .before .before .before .before .before .args .weights .now) (c .before .before .before .before .before .before .before .before .before .before .before .if1 .left) (rw (c .before .before .before .before .rows .given .1) at (c .before .before .before .before .before .before .before .before .read-rows .ensures)) refl refl))
 
 copy-numbers-requires : tie.Need-copy-numbers-requires
-copy-numbers-requires c κs = search needs
+copy-numbers-requires c κs = powers-fit (c .before .before .before .before .before .before .before .before .before .before .before .before .before .before .before .before .args .text .now) (c .before .before .before .before .before .before .before .before .before .before .before .before .before .before .before .before .args .powers .now) (c .before .before .before .before .before .before .before .before .before .before .before .before .before .before .before .before .args .weights .now) (c .before .before .before .before .before .before .before .before .before .before .before .before .if1 .left) (rw (c .before .before .before .before .before .rows .given .1) at (c .before .before .before .before .before .before .before .before .before .read-rows .ensures)) refl refl (c .before .before .before .if2 .left)
 
 array-share-prefix-read-weights : tie.Need-array-share-prefix-read-weights
-array-share-prefix-read-weights c = search needs
+array-share-prefix-read-weights c = weights-in (c .before .before .before .before .before .before .before .before .before .before .before .before .before .before .before .before .before .before .before .args .text .now) (c .before .before .before .before .before .before .before .before .before .before .before .before .before .before .before .before .before .before .before .args .powers .now) (c .before .before .before .before .before .before .before .before .before .before .before .before .before .before .before .before .before .before .before .args .weights .now) (c .before .before .before .before .before .before .before .before .before .before .before .before .before .before .before .if1 .left) (rw (c .before .before .before .before .before .before .before .before .rows .given .1) at (c .before .before .before .before .before .before .before .before .before .before .before .before .read-rows .ensures)) refl refl
 
 slice-aggregate-copy-numbers-2 : tie.Need-slice-aggregate-copy-numbers-2
-slice-aggregate-copy-numbers-2 c = search needs
+slice-aggregate-copy-numbers-2 c = sym (length-take-le _ _ (weights-in (c .before .before .before .before .before .before .before .before .before .before .before .before .before .before .before .before .before .before .before .before .args .text .now) (c .before .before .before .before .before .before .before .before .before .before .before .before .before .before .before .before .before .before .before .before .args .powers .now) (c .before .before .before .before .before .before .before .before .before .before .before .before .before .before .before .before .before .before .before .before .args .weights .now) (c .before .before .before .before .before .before .before .before .before .before .before .before .before .before .before .before .if1 .left) (rw (c .before .before .before .before .before .before .before .before .before .rows .given .1) at (c .before .before .before .before .before .before .before .before .before .before .before .before .before .read-rows .ensures)) refl refl))
 
 copy-numbers-requires-2 : tie.Need-copy-numbers-requires-2
-copy-numbers-requires-2 c κs = search needs
+copy-numbers-requires-2 c κs = weights-fit (c .before .before .before .before .before .before .before .before .before .before .before .before .before .before .before .before .before .before .before .before .before .args .text .now) (c .before .before .before .before .before .before .before .before .before .before .before .before .before .before .before .before .before .before .before .before .before .args .powers .now) (c .before .before .before .before .before .before .before .before .before .before .before .before .before .before .before .before .before .before .before .before .before .args .weights .now) (c .before .before .before .before .before .before .before .before .before .before .before .before .before .before .before .before .before .if1 .left) (rw (c .before .before .before .before .before .before .before .before .before .before .rows .given .1) at (c .before .before .before .before .before .before .before .before .before .before .before .before .before .before .read-rows .ensures)) refl refl (c .before .before .before .before .before .before .before .if3 .left)
 
 cast-t27 : tie.Need-cast-t27
-cast-t27 c = search needs
+cast-t27 c = omega (arith, rows-few (c .before .before .before .before .before .before .before .before .before .before .before .before .before .before .before .before .before .before .before .before .before .before .before .before .args .text .now) (c .before .before .before .before .before .before .before .before .before .before .before .before .before .before .before .before .before .before .before .before .before .before .before .before .args .powers .now) (c .before .before .before .before .before .before .before .before .before .before .before .before .before .before .before .before .before .before .before .before .before .before .before .before .args .weights .now) (c .before .before .before .before .before .before .before .before .before .before .before .before .before .before .before .before .before .before .before .before .if1 .left) (rw (c .before .before .before .before .before .before .before .before .before .before .before .before .before .rows .given .1) at (c .before .before .before .before .before .before .before .before .before .before .before .before .before .before .before .before .before .read-rows .ensures)) refl refl)
 
 returns-4 : tie.Need-returns-4
-returns-4 c = ?
+returns-4 c = settled-fault (c .before .before .before .before .before .before .before .before .before .before .before .before .args .text .now) (c .before .before .before .before .before .before .before .before .before .before .before .before .args .powers .now) (c .before .before .before .before .before .before .before .before .before .before .before .before .args .weights .now) (c .before .before .before .before .before .before .before .before .if1 .left) (rw (c .before .refusal .given .1) at (c .before .before .before .before .before .read-rows .ensures))
 
 same-length : tie.Need-same-length
 same-length c = search needs
@@ -63,7 +67,7 @@ same-length-2 : tie.Need-same-length-2
 same-length-2 c = search needs
 
 returns-5 : tie.Need-returns-5
-returns-5 c = ?
+returns-5 c = settled-read (c .before .before .before .before .before .before .before .before .before .before .before .before .before .before .before .before .before .before .before .before .before .before .before .before .args .text .now) (c .before .before .before .before .before .before .before .before .before .before .before .before .before .before .before .before .before .before .before .before .before .before .before .before .args .powers .now) (c .before .before .before .before .before .before .before .before .before .before .before .before .before .before .before .before .before .before .before .before .before .before .before .before .args .weights .now) (c .before .before .before .before .before .before .before .before .before .before .before .before .before .before .before .before .before .before .before .before .if1 .left) (rw (c .before .before .before .before .before .before .before .before .before .before .before .before .before .rows .given .1) at (c .before .before .before .before .before .before .before .before .before .before .before .before .before .before .before .before .before .read-rows .ensures)) refl refl (c .before .before .before .before .before .before .before .before .before .before .before .if2 .left) (c .before .before .before .before .before .before .before .before .before .before .if3 .left) (c .before .before .before .before .before .before .before .copy-numbers .ensures) (c .before .before .copy-numbers2 .ensures)
 
 pub read-engines-spec : {M : Type 1} → statement M
 read-engines-spec =
