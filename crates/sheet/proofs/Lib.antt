@@ -7,3 +7,4 @@ pub mod Held
 pub mod Written
 pub mod Most
 pub mod Engines
+pub mod RoundTrip

@@ -28,7 +28,7 @@ use Rattle.sheet.proofs.Fits.{fits-extent, fits-count}
 
 -- ---- END
 
-end-line : (t : List ℕ) → agreed (endLine .tag) t ≡ 4 → readLine endLine t ≡ record { ended = Taken 4; numbers = [] }
+pub end-line : (t : List ℕ) → agreed (endLine .tag) t ≡ 4 → readLine endLine t ≡ record { ended = Taken 4; numbers = [] }
 unfolding readNumbers
 end-line t e = line-tagged endLine t e
 
