@@ -8,3 +8,6 @@ pub mod Written
 pub mod Most
 pub mod Engines
 pub mod RoundTrip
+pub mod EngineTrip
+pub mod Calls
+pub mod Examples

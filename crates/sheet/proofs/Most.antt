@@ -31,11 +31,11 @@ entry-most l last n h = go (isNone l n) refl
     go true e = omega (arith, one, length-digits-mono 0 (l .high) (omega arith))
     go false e = length-digits-mono n (l .high) (within-high l last n (holds-within l last n h e))
 
-unfoldable numbersMost : List Limit → ℕ
+unfoldable pub numbersMost : List Limit → ℕ
 numbersMost [] = 0
 numbersMost (l ∷ ls) = length (digitsOf (l .high)) + suc (numbersMost ls)
 
-numbers-most : (ls : List Limit) (last : ℕ) (ns : List ℕ) → allHold ls last ns ≡ true → length (numbersText ls ns) ≤ numbersMost ls
+pub numbers-most : (ls : List Limit) (last : ℕ) (ns : List ℕ) → allHold ls last ns ≡ true → length (numbersText ls ns) ≤ numbersMost ls
 unfolding allHold numbersText numbersMost
 numbers-most [] last [] h = omega arith
 numbers-most [] last (n ∷ ns) h = absurd (true≢false (sym h))

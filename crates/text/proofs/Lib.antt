@@ -8,3 +8,4 @@ pub mod Reading
 pub mod Laid
 pub mod Writing
 pub mod RoundTrip
+pub mod Examples

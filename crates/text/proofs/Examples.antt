@@ -1,0 +1,66 @@
+-- Worked fields and numbers, computed: one statement over each list of them. Assumes nothing.
+use mathlib.Core.Path.{_≡_, refl}
+use mathlib.Core.List.{List, [], _∷_, map}
+use Prim.Native.Nat.{ℕ}
+use Prim.Native.String.{String}
+use Rattle.text.specs.declared.NumberRead.{NumberRead}
+use Rattle.text.specs.declared.NumberRead.the-variants.{Value, Malformed}
+use Rattle.text.specs.declared.EntryRead.{EntryRead}
+use Rattle.text.specs.declared.EntryRead.the-variants.{Number, Misread}
+use Rattle.text.specs.Quoted.{bytes, tab}
+use Rattle.text.specs.Field.{fieldOf}
+use Rattle.text.specs.Number.{restOf, numberOf, digitsIn, digitsOf}
+use Rattle.text.specs.Limit.{Limit, between, betweenCapped, betweenOrNone}
+use Rattle.text.specs.Line.{readEntry}
+
+-- ---- a number: 1 to 10 digits, no leading zero but 0 itself
+
+numbers : List String
+numbers = "0" ∷ "7" ∷ "4294967295" ∷ "4294967296" ∷ "9999999999" ∷ "" ∷ "00" ∷ "07" ∷ "10000000000" ∷ "12x" ∷ "-" ∷ "-1" ∷ " 1" ∷ []
+
+numbers-right :
+    map (λ (s : String). numberOf (bytes s)) numbers
+    ≡ Value 0 ∷ Value 7 ∷ Value 4294967295 ∷ Value 4294967296 ∷ Value 9999999999 ∷ Malformed 0 ∷ Malformed 1 ∷ Malformed 1 ∷ Malformed 10 ∷ Malformed 2 ∷ Malformed 0 ∷ Malformed 0 ∷ Malformed 0 ∷ []
+unfolding numbers numberOf restOf
+numbers-right = refl
+
+digits-right : map digitsOf (0 ∷ 10 ∷ 4294967296 ∷ 9999999999 ∷ []) ≡ bytes "0" ∷ bytes "10" ∷ bytes "4294967296" ∷ bytes "9999999999" ∷ []
+unfolding digitsOf digitsIn
+digits-right = refl
+
+-- ---- a number with its ending byte: the form with that byte before the limits
+
+record Case : Type 0 where
+  limit : Limit
+  text : String
+
+-- after the number 4000, ended by a tab
+read : Case → EntryRead
+read c = readEntry (c .limit) 4000 tab (bytes (c .text))
+
+entries : List Case
+entries =
+    record { limit = between 1 24; text = "24\t" }
+    ∷ record { limit = between 1 24; text = "25\t" }
+    ∷ record { limit = between 1 24; text = "0\t" }
+    -- out of limits and ended by the wrong byte: 2, not 3
+    ∷ record { limit = between 1 24; text = "25\n" }
+    ∷ record { limit = between 1 24; text = "25" }
+    ∷ record { limit = between 1 24; text = "10000000000\t" }
+    ∷ record { limit = between 1 24; text = "9999999999\t" }
+    ∷ record { limit = between 1 24; text = "4294967297\t" }
+    ∷ record { limit = between 1 24; text = "-\t" }
+    ∷ record { limit = betweenOrNone 1 24; text = "-\t" }
+    ∷ record { limit = betweenOrNone 1 24; text = "0\t" }
+    ∷ record { limit = betweenOrNone 0 24; text = "0\t" }
+    ∷ record { limit = betweenOrNone 1 24; text = "-\n" }
+    ∷ record { limit = betweenOrNone 1 24; text = "-5\t" }
+    ∷ record { limit = betweenCapped 2000 6000; text = "4000\t" }
+    ∷ record { limit = betweenCapped 2000 6000; text = "4001\t" }
+    ∷ []
+
+entries-right :
+    map read entries
+    ≡ Number 24 3 ∷ Misread 3 0 ∷ Misread 3 0 ∷ Misread 2 2 ∷ Misread 2 2 ∷ Misread 2 10 ∷ Misread 3 0 ∷ Misread 3 0 ∷ Misread 2 0 ∷ Number 0 2 ∷ Misread 3 0 ∷ Misread 3 0 ∷ Misread 2 1 ∷ Misread 2 1 ∷ Number 4000 5 ∷ Misread 3 0 ∷ []
+unfolding read entries readEntry fieldOf numberOf restOf
+entries-right = refl
