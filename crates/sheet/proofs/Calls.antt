@@ -1,23 +1,20 @@
 -- The single text as a caller sees it, over the very terms that the calls promise; and a promise allows one outcome. Assumes nothing.
 use mathlib.Core.Path.{_≡_, refl, sym, ap, _∙_}
-use mathlib.Core.Bool.{Bool, true, false}
-use mathlib.Core.List.{List, [], _∷_, _++_}
+use mathlib.Core.Bool.{true}
+use mathlib.Core.List.{List}
 use Prim.Native.Nat.{ℕ, _≤_}
 use native.Mathlib.Omega.{arith}
 use borrow.Author.Tests.{le-leb}
-use lib.Dec.{leb}
 use lib.ListN.{length, take, drop}
 use lib.Seq.{take-append-seam}
 use Rattle.text.specs.declared.LineRead.{LineRead}
 use Rattle.text.specs.declared.LineRead.the-variants.{Taken, Fault}
-use Rattle.text.specs.Line.{Reading}
-use Rattle.sheet.specs.declared.Answer.{Answer}
-use Rattle.sheet.specs.declared.Answer.the-variants.{Refused, Done, Count}
+use Rattle.sheet.specs.declared.Answer.the-variants.{Done, Count}
 use Rattle.sheet.specs.Settled.{Settled}
 use Rattle.sheet.specs.Sheet.{sheetOk, sheetText}
 use Rattle.sheet.specs.Reading.{readSheet}
 use Rattle.sheet.specs.Calls.{readAnswer, readInto, writeAnswer, writeInto}
-use Rattle.sheet.proofs.RoundTrip as trip
+use Rattle.sheet.proofs.SheetTrip as trip
 
 -- two outcomes that a promise allows are equal
 pub one-outcome : {A B : Type 0} {answer r q : A} {buffers x y : B} → Settled answer buffers r x → Settled answer buffers q y → (r ≡ q) × (x ≡ y)

@@ -1,24 +1,26 @@
 -- Engine rows have one text: rows within the limits that are written read back as themselves, and a text that reads as rows is what they are written as. Assumes nothing.
 use mathlib.Core.Path.{_≡_, refl, sym, ap, _∙_}
-use mathlib.Core.Bool.{Bool, true, false, _&&_, true≢false}
-use mathlib.Core.List.{List, [], _∷_, _++_, append-nil, append-assoc}
+use mathlib.Core.Bool.{Bool, true, false, true≢false}
+use mathlib.Core.List.{List, [], _∷_, _++_}
 use Prim.Native.Nat.{ℕ, zero, suc, _+_, _*_, _≤_, _<_}
 use native.Mathlib.Omega.{arith}
 use borrow.Author.Tests.{ltb-true, ltb-false}
 use lib.Dec.{ltb}
 use lib.ListN.{length, drop, length-append}
 use lib.Seq.{drop-append-seam}
-use Rattle.text.specs.declared.LineRead.{LineRead}
 use Rattle.text.specs.declared.LineRead.the-variants.{Taken, Fault}
 use Rattle.text.specs.Number.{digitsIn, digitsOf}
 use Rattle.text.specs.Limit.{allHold}
 use Rattle.text.specs.Line.{Reading, readLine, numbersText, lineText}
 use Rattle.text.proofs.Number.{both-hold}
-use Rattle.text.proofs.RoundTrip.{Led, got, narrow, line-forth, line-back}
+use Rattle.text.proofs.Led.{Led}
+use Rattle.text.proofs.EntryTrip.{narrow}
+use Rattle.text.proofs.LineTrip.{got, line-forth, line-back}
 use Rattle.sheet.specs.Lines.{engineLine, mostRows, mostBytes}
 use Rattle.sheet.specs.Engines.{orStop, readRows, readEngines, powersOf, rowsText, rowsOk}
 use Rattle.sheet.proofs.Most.{numbersMost, numbers-most}
-use Rattle.sheet.proofs.Engines.{rows-more, rows-parts, stop-not, engines-long, engines-short}
+use Rattle.sheet.proofs.Engines.{rows-more, rows-parts, stop-not}
+use Rattle.sheet.proofs.EnginesCall.{engines-long, engines-short}
 
 -- ---- lengths
 

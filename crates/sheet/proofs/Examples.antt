@@ -4,13 +4,12 @@ use mathlib.Core.List.{List, [], _∷_, _++_, map}
 use Prim.Native.Nat.{ℕ, suc}
 use Prim.Native.String.{String}
 use lib.ListN.{replicate}
-use Rattle.text.specs.declared.LineRead.{LineRead}
 use Rattle.text.specs.declared.LineRead.the-variants.{Taken, Fault}
 use Rattle.text.specs.Quoted.{bytes}
 use Rattle.text.specs.Field.{fieldOf, agreed}
 use Rattle.text.specs.Number.{restOf, numberOf, digitsIn, digitsOf}
 use Rattle.text.specs.Line.{readEntry, readNumbers, readLine, numbersText}
-use Rattle.text.proofs.RoundTrip.{got}
+use Rattle.text.proofs.LineTrip.{got}
 use Rattle.sheet.specs.Sheet.{fitText, fitsText, sheetText, linesText, limitsOn}
 use Rattle.sheet.specs.Reading.{readLines, readFits, readEnd, readRest, readSheet}
 use Rattle.sheet.specs.Engines.{readRows, readEngines}

@@ -1,12 +1,12 @@
 -- Numbers within the limits of several lines, taken apart and put together. Only a limit that caps a number by the one before it looks back, and no line
 -- starts with one, so each line can be judged by itself. Assumes nothing.
-use mathlib.Core.Path.{_≡_, refl, sym, ap, _∙_}
+use mathlib.Core.Path.{_≡_, refl, sym, _∙_}
 use mathlib.Core.Bool.{Bool, true, false, not, _&&_, true≢false}
 use mathlib.Core.List.{List, [], _∷_, _++_, append-assoc}
-use Prim.Native.Nat.{ℕ, zero, suc}
+use Prim.Native.Nat.{ℕ}
 use lib.Dec.{eqb}
 use lib.ListN.{length, take, drop}
-use Rattle.text.specs.Limit.{Limit, capped, isNone, within, holds, allHold}
+use Rattle.text.specs.Limit.{Limit, capped, holds, allHold}
 use Rattle.text.specs.Line.{Line}
 use Rattle.text.proofs.Number.{both-hold}
 use Rattle.sheet.specs.Sheet.{limitsOn}

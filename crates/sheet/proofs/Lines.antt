@@ -8,11 +8,13 @@ use lib.ListN.{length, take, drop, length-append, length-drop, drop-of-length-le
 use lib.Seq.{sets, length-sets, drop-drop}
 use Rattle.text.specs.declared.LineRead.{LineRead}
 use Rattle.text.specs.declared.LineRead.the-variants.{Taken, Fault}
-use Rattle.text.specs.Line.{Line, Reading, Reads, nothing, after, shift, followed, readLine}
+use Rattle.text.specs.Line.{Line, Reading, Reads, nothing, after, followed, readLine}
 use Rattle.text.proofs.Stores.{putBack, rest-part, part-append}
 use Rattle.text.proofs.Limit.{hold-length}
-use Rattle.text.proofs.Reading.{extent, line-extent, after-nothing, after-after, followed-taken, followed-fault, followed-extent, followed-parts}
-use Rattle.text.proofs.RoundTrip.{line-back}
+use Rattle.text.proofs.Reading.{after-nothing, after-after}
+use Rattle.text.proofs.Line.{extent, line-extent}
+use Rattle.text.proofs.Followed.{followed-taken, followed-fault, followed-extent, followed-parts}
+use Rattle.text.proofs.LineTrip.{line-back}
 use Rattle.sheet.specs.Lines.{lines}
 use Rattle.sheet.specs.Reading.{readLines}
 use Rattle.sheet.specs.Sheet.{lineAt, wordAt, limitsOn}

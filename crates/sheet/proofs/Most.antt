@@ -1,6 +1,6 @@
 -- The greatest length of a sheet's text, 610 bytes, and the sheet that reaches it. Assumes nothing.
-use mathlib.Core.Path.{_≡_, refl, sym, ap, _∙_}
-use mathlib.Core.Bool.{Bool, true, false, _&&_, cond, true≢false}
+use mathlib.Core.Path.{_≡_, refl, sym, _∙_}
+use mathlib.Core.Bool.{Bool, true, false, cond, true≢false}
 use mathlib.Core.List.{List, [], _∷_, _++_, map}
 use Prim.Native.Nat.{ℕ, zero, suc, _+_, _≤_}
 use native.Mathlib.Omega.{arith}
@@ -14,7 +14,7 @@ use Rattle.text.specs.Line.{Line, ender, entryText, numbersText, lineText}
 use Rattle.text.proofs.Number.{both-hold, length-digits-mono}
 use Rattle.text.proofs.Limit.{within-high}
 use Rattle.text.proofs.Writing.{numbers-take}
-use Rattle.text.proofs.RoundTrip.{holds-within}
+use Rattle.text.proofs.EntryTrip.{holds-within}
 use Rattle.sheet.specs.Lines.{lines, fittings, fittingHigh, fitLine, endLine}
 use Rattle.sheet.specs.Sheet.{limitsOn, sheetLimits, sheetOk, linesText, fitText, fitsText, sheetText}
 use Rattle.sheet.proofs.Held.{opens, linesOpen, hold-free, hold-split, lines-split}

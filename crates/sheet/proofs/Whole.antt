@@ -2,28 +2,23 @@
 use mathlib.Core.Path.{_≡_, refl, sym, ap, _∙_}
 use mathlib.Core.Bool.{Bool, true, false}
 use mathlib.Core.List.{List, [], _∷_, _++_, append-nil}
-use Prim.Native.Nat.{ℕ, zero, suc, _+_, _-_, _≤_, _<_}
-use native.Mathlib.Nat.{add-zero}
+use Prim.Native.Nat.{ℕ, _+_, _-_, _≤_, _<_}
 use native.Mathlib.Omega.{arith}
 use borrow.Author.Tests.{lt-ltb, le-ltb, ltb-true, ltb-false, eqb-true, eqb-false}
 use lib.Dec.{eqb, ltb}
 use lib.ListN.{length, take, drop, replicate, length-append, length-drop, length-replicate}
 use lib.Seq.{drop-at}
-use Rattle.text.specs.declared.LineRead.{LineRead}
 use Rattle.text.specs.declared.LineRead.the-variants.{Taken, Fault}
 use Rattle.text.specs.Field.{agreed}
-use Rattle.text.specs.Line.{Line, Reading, Reads, nothing, refused, after, shift, followed, readNumbers, readLine}
-use Rattle.text.proofs.Stores.{putBack, rest-part, sets-zeros, sets-whole}
+use Rattle.text.specs.Line.{Reading, Reads, nothing, refused, followed, readNumbers, readLine}
+use Rattle.text.proofs.Stores.{rest-part, sets-zeros, sets-whole}
 use Rattle.text.proofs.Field.{agreed-fits}
-use Rattle.text.proofs.Reading.{extent, extent-shift, line-tagged, line-untagged, followed-extent, followed-parts, reads-last, reads-fault, reads-more}
-use Rattle.sheet.specs.declared.Answer.{Answer}
-use Rattle.sheet.specs.declared.Answer.the-variants.{Refused, Done}
-use Rattle.sheet.specs.Settled.{Settled}
-use Rattle.sheet.specs.Calls.{readAnswer, readInto}
+use Rattle.text.proofs.Line.{extent, extent-shift, line-tagged, line-untagged}
+use Rattle.text.proofs.Followed.{followed-extent, followed-parts}
 use Rattle.sheet.specs.Lines.{lines, endLine, fittings, mostBytes}
 use Rattle.sheet.specs.Sheet.{textWords, limitsOn}
 use Rattle.sheet.specs.Reading.{readLines, readFits, readStop, readEnd, readRest, readSheet}
-use Rattle.sheet.proofs.Lines.{lines-count, lines-extent}
+use Rattle.sheet.proofs.Lines.{lines-count}
 use Rattle.sheet.proofs.Fits.{fits-extent, fits-count}
 
 -- ---- END
@@ -131,56 +126,3 @@ sheet-count t k e = go (ltb mostBytes (length t)) refl
 -- every word stored over the zeros that were lent
 pub sheet-stored : (t o : List ℕ) (k : ℕ) → Reads (readSheet t) (replicate textWords 0) (Taken k) o → o ≡ readSheet t .numbers
 sheet-stored t o k p = p .stored ∙ sets-whole (replicate textWords 0) (readSheet t .numbers) (sheet-count t k (sym (p .answer)) ∙ sym (length-replicate {A = ℕ} textWords 0))
-
--- ---- what the code leaves, reading by reading
-
-pub fits-in : (t : List ℕ) {o₀ o : List ℕ} {r : LineRead} → Reads (readFits fittings 1 t) o₀ r o → extent r ≤ length t
-fits-in t p = omega (arith, ap extent (p .answer), fits-extent fittings 1 t)
-
-module _ (t : List ℕ) {o₀ o : List ℕ} {at : ℕ} (p : Reads (readFits fittings 1 t) o₀ (Taken at) o) {r : LineRead} (e : r ≡ readEnd (take (length t - at) (drop at t)) .ended) where
-  pub reads-end : Reads (readRest t) o₀ (shift at r) o
-  unfolding readRest
-  reads-end = reads-last (readFits fittings 1 t) readEnd t p (e ∙ rw (rest-part t at)) (end-numbers (drop at t))
-
-  pub end-in : at + extent r ≤ length t
-  end-in =
-      let n : length (take (length t - at) (drop at t)) ≡ length t - at = ap length (rest-part t at) ∙ length-drop at t in
-      omega (arith, ap extent e, end-extent (take (length t - at) (drop at t)), fits-in t p)
-
-pub lines-in : (t : List ℕ) {o₀ o : List ℕ} {r : LineRead} → Reads (readLines lines t) o₀ r o → extent r ≤ length t
-lines-in t p = omega (arith, ap extent (p .answer), lines-extent lines t)
-
-module _ (t : List ℕ) (h : length t ≤ mostBytes) where
-  pub reads-broken : {o₀ o : List ℕ} {number place : ℕ} → Reads (readLines lines t) o₀ (Fault number place) o → Reads (readSheet t) o₀ (Fault number place) o
-  reads-broken p = rw (sheet-short t h) (reads-fault (readLines lines t) readRest t p)
-
-  module _ {o₀ o : List ℕ} {at : ℕ} (p : Reads (readLines lines t) o₀ (Taken at) o) {r : LineRead} {ys : List ℕ}
-      (q : Reads (readRest (take (length t - at) (drop at t))) (take (length o - 45) (drop 45 o)) r ys) where
-    pub reads-rest : Reads (readSheet t) o₀ (shift at r) (putBack o 45 ys)
-    reads-rest =
-        rw (sheet-short t h)
-        (reads-more (readLines lines t) readRest t p (lines-counted t at (sym (p .answer))) (rw (rest-part t at) at q))
-
-    pub rest-in : at + extent r ≤ length t
-    rest-in =
-        let n : length (take (length t - at) (drop at t)) ≡ length t - at = ap length (rest-part t at) ∙ length-drop at t in
-        omega (arith, ap extent (q .answer), rest-extent (take (length t - at) (drop at t)), lines-in t p)
-
-pub reads-fits : (t : List ℕ) {o₀ o : List ℕ} {number place : ℕ} → Reads (readFits fittings 1 t) o₀ (Fault number place) o → Reads (readRest t) o₀ (Fault number place) o
-unfolding readRest
-reads-fits t p = reads-fault (readFits fittings 1 t) readEnd t p
-
-pub reads-long : (t o : List ℕ) → mostBytes < length t → Reads (readSheet t) o (Fault 2 0) o
-reads-long t o h = record { answer = rw (sheet-long t h); stored = rw (sheet-long t h) }
-
--- ---- the call
-
-pub settled-refused : (t s : List ℕ) {o₀ o : List ℕ} (number place : ℕ) → Reads (readSheet t) o₀ (Fault number place) o → Settled (readAnswer (readSheet t .ended)) (readInto (readSheet t) s) (Refused number) s
-settled-refused t s number place p =
-    let e : readSheet t .ended ≡ Fault number place = sym (p .answer) in
-    record { answered = rw e; kept = rw e }
-
-pub settled-read : (t s o : List ℕ) (k : ℕ) → Reads (readSheet t) (replicate textWords 0) (Taken k) o → Settled (readAnswer (readSheet t .ended)) (readInto (readSheet t) s) Done o
-settled-read t s o k p =
-    let e : readSheet t .ended ≡ Taken k = sym (p .answer) in
-    record { answered = rw e; kept = rw e (sheet-stored t o k p) }

@@ -1,8 +1,8 @@
 -- The calls on texts without the register: what each answers, and what it leaves in each lent buffer. A refusal leaves them as they stood.
 -- 01, Refusal numbers: 2 and 3 of a text; 3 for a sheet outside the limits; 16 comes last. Assumes nothing: these are definitions.
 use Prim.Native.Nat.{ℕ}
-use mathlib.Core.Bool.{Bool, true, false, _&&_, cond}
-use mathlib.Core.List.{List, [], _∷_, _++_}
+use mathlib.Core.Bool.{Bool, _&&_, cond}
+use mathlib.Core.List.{List, _++_}
 use lib.Dec.{leb}
 use lib.ListN.{length, drop}
 use Rattle.text.specs.declared.LineRead.{LineRead}
@@ -11,8 +11,7 @@ use Rattle.text.specs.Line.{Reading, outsideLimits}
 use Rattle.sheet.specs.declared.Answer.{Answer}
 use Rattle.sheet.specs.declared.Answer.the-variants.{Refused, Done, Count}
 use Rattle.sheet.specs.Sheet.{sheetOk, sheetText}
-use Rattle.sheet.specs.Reading.{readSheet}
-use Rattle.sheet.specs.Engines.{readEngines, powersOf, weightsOf}
+use Rattle.sheet.specs.Engines.{powersOf, weightsOf}
 
 -- the lent output is too short
 abbrev pub noRoom : ℕ

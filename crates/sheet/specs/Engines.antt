@@ -4,14 +4,13 @@ use mathlib.Core.Bool.{Bool, true, false, _&&_, cond}
 use mathlib.Core.List.{List, [], _∷_, _++_}
 use lib.Dec.{ltb}
 use lib.ListN.{length, drop, getD}
-use Rattle.text.specs.declared.LineRead.{LineRead}
 use Rattle.text.specs.declared.LineRead.the-variants.{Taken, Fault}
 use Rattle.sheet.specs.declared.RowsRead.{RowsRead}
 use Rattle.sheet.specs.declared.RowsRead.the-variants.{Rows, NoRows}
 use lib.Seq.{sets}
 use mathlib.Core.Path.{_≡_}
 use Rattle.text.specs.Limit.{allHold}
-use Rattle.text.specs.Line.{Line, Reading, nothing, refused, brokenLine, after, readLine, lineText}
+use Rattle.text.specs.Line.{Reading, nothing, refused, brokenLine, after, readLine, lineText}
 use Rattle.sheet.specs.Lines.{engineLine, mostRows, mostBytes}
 
 -- after a row the text stops, or there is another

@@ -1,8 +1,8 @@
 -- 01, The sheet: the table of lines, with the limits of each number, in its order. This is the one table of limits: the reader, the writer and the
 -- register's check go by it. FIT and ENG lines rise: their first number starts at `next`, one above the last line's. Assumes nothing: these are definitions.
-use Prim.Native.Nat.{ℕ, _+_}
+use Prim.Native.Nat.{ℕ}
 use Prim.Native.String.{String}
-use mathlib.Core.List.{List, [], _∷_, _++_}
+use mathlib.Core.List.{List, [], _∷_}
 use lib.ListN.{replicate}
 use Rattle.text.specs.Quoted.{bytes}
 use Rattle.text.specs.Limit.{Limit, between, betweenCapped, betweenOrNone}

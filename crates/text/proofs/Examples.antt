@@ -1,9 +1,7 @@
 -- Worked fields and numbers, computed: one statement over each list of them. Assumes nothing.
 use mathlib.Core.Path.{_≡_, refl}
 use mathlib.Core.List.{List, [], _∷_, map}
-use Prim.Native.Nat.{ℕ}
 use Prim.Native.String.{String}
-use Rattle.text.specs.declared.NumberRead.{NumberRead}
 use Rattle.text.specs.declared.NumberRead.the-variants.{Value, Malformed}
 use Rattle.text.specs.declared.EntryRead.{EntryRead}
 use Rattle.text.specs.declared.EntryRead.the-variants.{Number, Misread}

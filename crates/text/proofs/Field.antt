@@ -2,7 +2,7 @@
 use mathlib.Core.Path.{_≡_, refl, sym, ap, _∙_}
 use mathlib.Core.Bool.{Bool, true, false, _||_, true≢false}
 use mathlib.Core.List.{List, [], _∷_, _++_, append-nil, append-assoc}
-use Prim.Native.Nat.{ℕ, zero, suc, _+_, _≤_, _<_}
+use Prim.Native.Nat.{ℕ, suc, _+_, _≤_, _<_}
 use native.Mathlib.Numerals.{add-one}
 use native.Mathlib.Omega.{arith}
 use borrow.Author.Tests.{eq-eqb, ne-eqb, eqb-true}
@@ -13,9 +13,6 @@ use Rattle.text.specs.Quoted.{tab, feed}
 use Rattle.text.specs.Field.{fieldOf, begins, agreed}
 
 -- ---- a byte at the start
-
-pub begins-at : (b : ℕ) (t : List ℕ) (i : ℕ) → i < length t → begins b (drop i t) ≡ eqb (getD t i 0) b
-begins-at b t i h = rw (drop-cons t i 0)
 
 pub begins-past : (b : ℕ) (t : List ℕ) → length t ≡ 0 → begins b t ≡ false
 begins-past b [] h = refl

@@ -2,10 +2,15 @@
 pub mod Stores
 pub mod Field
 pub mod Number
+pub mod NumberTrip
 pub mod Limit
 pub mod Entry
 pub mod Reading
+pub mod Line
+pub mod Followed
 pub mod Laid
 pub mod Writing
-pub mod RoundTrip
+pub mod Led
+pub mod EntryTrip
+pub mod LineTrip
 pub mod Examples

@@ -8,8 +8,6 @@ use native.Mathlib.Omega.{arith}
 use borrow.Author.Needs.{needs}
 use Rattle.sheet.proofs.copy_numbers.Statement.{statement}
 use Rattle.sheet.proofs.copy_numbers.Tie as tie
-use Rattle.sheet.proofs.copy_numbers.Reads as reads
-use Rattle.sheet.proofs.copy_numbers.Lts as lts
 
 abbrev Inv-loop : tie.InvT-loop
 Inv-loop numbers out₀ i₀ out i = (i ≤ length numbers) × (out ≡ sets out₀ 0 (take i numbers))

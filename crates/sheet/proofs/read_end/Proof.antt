@@ -1,7 +1,5 @@
 -- `read_end` meets its contract. Assumes nothing.
-use mathlib.Core.Path.{sym, _∙_}
-use mathlib.Core.List.{List}
-use Prim.Native.Nat.{ℕ}
+use mathlib.Core.Path.{sym}
 use Rattle.text.proofs.Field.{agreed-most}
 use Rattle.sheet.specs.Lines.{endLine}
 use Rattle.sheet.proofs.Whole.{end-broken, end-more, end-last}
@@ -9,9 +7,6 @@ use native.Mathlib.Omega.{arith}
 use borrow.Author.Needs.{needs}
 use Rattle.sheet.proofs.read_end.Statement.{statement}
 use Rattle.sheet.proofs.read_end.Tie as tie
-use Rattle.sheet.proofs.read_end.Reads as reads
-use Rattle.sheet.proofs.read_end.Lts as lts
-use Rattle.text.proofs.agreement.Reads as agreement-reads
 
 slice-aggregate-agreement : tie.Need-slice-aggregate-agreement
 slice-aggregate-agreement c = search needs

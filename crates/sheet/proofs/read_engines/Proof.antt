@@ -1,16 +1,11 @@
 -- `read_engines` meets its contract. Assumes nothing.
-use mathlib.Core.Path.{refl, sym, ap, _∙_}
-use lib.ListN.{length}
+use mathlib.Core.Path.{refl, sym}
 use lib.Seq.{length-take-le}
-use Rattle.sheet.proofs.Engines.{settled-long, settled-fault, rows-few, powers-in, weights-in, powers-fit, weights-fit, settled-few-powers, settled-few-weights, settled-read}
+use Rattle.sheet.proofs.EnginesCall.{settled-long, settled-fault, rows-few, powers-in, weights-in, powers-fit, weights-fit, settled-few-powers, settled-few-weights, settled-read}
 use native.Mathlib.Omega.{arith}
 use borrow.Author.Needs.{needs}
 use Rattle.sheet.proofs.read_engines.Statement.{statement}
 use Rattle.sheet.proofs.read_engines.Tie as tie
-use Rattle.sheet.proofs.read_engines.Reads as reads
-use Rattle.sheet.proofs.read_engines.Lts as lts
-use Rattle.sheet.proofs.copy_numbers.Reads as copy-numbers-reads
-use Rattle.sheet.proofs.read_rows.Reads as read-rows-reads
 
 returns : tie.Need-returns
 returns c = settled-long (c .before .before .before .before .args .text .now) (c .before .before .before .before .args .powers .now) (c .before .before .before .before .args .weights .now) (c .if1 .taken)

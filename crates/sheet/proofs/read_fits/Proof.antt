@@ -1,20 +1,15 @@
 -- `read_fits` meets its contract. Assumes nothing.
 use mathlib.Core.Path.{sym, ap, _∙_}
-use lib.ListN.{length, length-set}
 use Rattle.text.specs.Field.{begins}
 use Rattle.sheet.specs.Reading.{fitByte}
 use Rattle.text.proofs.Stores.{rest-part}
-use Rattle.text.proofs.Reading.{extent}
-use Rattle.sheet.proofs.Fits.{State, start, kept, length-zeros, full, stop, place-in, fault, line-low, line-high, step}
+use Rattle.text.proofs.Line.{extent}
+use Rattle.sheet.proofs.FitsLoop.{State, start, kept, length-zeros, full, stop, place-in, fault, line-low, line-high, step}
 use Prim.Native.Nat.{_-_}
 use native.Mathlib.Omega.{arith}
 use borrow.Author.Needs.{needs}
 use Rattle.sheet.proofs.read_fits.Statement.{statement}
 use Rattle.sheet.proofs.read_fits.Tie as tie
-use Rattle.sheet.proofs.read_fits.Reads as reads
-use Rattle.sheet.proofs.read_fits.Lts as lts
-use Rattle.text.proofs.read_line.Reads as read-line-reads
-use Rattle.text.proofs.starts.Reads as starts-reads
 
 abbrev Inv-loop : tie.InvT-loop
 Inv-loop text weights₀ read₀ at₀ next₀ t11 weights read at next = State text weights₀ weights read at next

@@ -7,10 +7,6 @@ use native.Mathlib.Omega.{arith}
 use borrow.Author.Needs.{needs}
 use Rattle.sheet.proofs.read_line_at.Statement.{statement}
 use Rattle.sheet.proofs.read_line_at.Tie as tie
-use Rattle.sheet.proofs.read_line_at.Reads as reads
-use Rattle.sheet.proofs.read_line_at.Lts as lts
-use Rattle.sheet.proofs.word_at.Reads as word-at-reads
-use Rattle.text.proofs.read_line.Reads as read-line-reads
 
 mul-tag : tie.Need-mul-tag
 mul-tag c = search needs

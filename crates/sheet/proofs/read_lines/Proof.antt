@@ -1,7 +1,7 @@
 -- `read_lines` meets its contract. Assumes nothing.
 use mathlib.Core.Path.{ap}
 use Prim.Native.Nat.{_-_}
-use Rattle.text.proofs.Reading.{extent}
+use Rattle.text.proofs.Line.{extent}
 use Rattle.sheet.proofs.Forms.{word-part}
 use Rattle.sheet.proofs.Lines.{State, start, done, kept, place-in, fault, step}
 use Rattle.sheet.proofs.Lines as lines
@@ -9,10 +9,6 @@ use native.Mathlib.Omega.{arith}
 use borrow.Author.Needs.{needs}
 use Rattle.sheet.proofs.read_lines.Statement.{statement}
 use Rattle.sheet.proofs.read_lines.Tie as tie
-use Rattle.sheet.proofs.read_lines.Reads as reads
-use Rattle.sheet.proofs.read_lines.Lts as lts
-use Rattle.sheet.proofs.read_line_at.Reads as read-line-at-reads
-use Rattle.sheet.proofs.word_at.Reads as word-at-reads
 
 abbrev Inv-loop : tie.InvT-loop
 Inv-loop text words₀ i₀ at₀ words i at = State text words₀ words i at

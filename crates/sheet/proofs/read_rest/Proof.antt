@@ -1,15 +1,11 @@
 -- `read_rest` meets its contract. Assumes nothing.
 use mathlib.Core.Path.{ap}
-use Rattle.text.proofs.Reading.{extent}
-use Rattle.sheet.proofs.Whole.{fits-in, reads-fits, reads-end, end-in}
+use Rattle.text.proofs.Line.{extent}
+use Rattle.sheet.proofs.ReadCall.{fits-in, reads-fits, reads-end, end-in}
 use native.Mathlib.Omega.{arith}
 use borrow.Author.Needs.{needs}
 use Rattle.sheet.proofs.read_rest.Statement.{statement}
 use Rattle.sheet.proofs.read_rest.Tie as tie
-use Rattle.sheet.proofs.read_rest.Reads as reads
-use Rattle.sheet.proofs.read_rest.Lts as lts
-use Rattle.sheet.proofs.read_end.Reads as read-end-reads
-use Rattle.sheet.proofs.read_fits.Reads as read-fits-reads
 
 read-fits-requires : tie.Need-read-fits-requires
 read-fits-requires c κs = search needs

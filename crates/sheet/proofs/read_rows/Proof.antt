@@ -1,16 +1,13 @@
 -- `read_rows` meets its contract. Assumes nothing.
-use mathlib.Core.Path.{ap, _∙_}
+use mathlib.Core.Path.{ap}
 use Prim.Native.Nat.{_-_}
-use lib.ListN.{length, length-set}
-use Rattle.text.proofs.Reading.{extent}
-use Rattle.sheet.proofs.Engines.{State, start, powers-kept, weights-kept, full, place-in, fault, power-high, last, step}
+use lib.ListN.{length-set}
+use Rattle.text.proofs.Line.{extent}
+use Rattle.sheet.proofs.EnginesLoop.{State, start, powers-kept, weights-kept, full, place-in, fault, power-high, last, step}
 use native.Mathlib.Omega.{arith}
 use borrow.Author.Needs.{needs}
 use Rattle.sheet.proofs.read_rows.Statement.{statement}
 use Rattle.sheet.proofs.read_rows.Tie as tie
-use Rattle.sheet.proofs.read_rows.Reads as reads
-use Rattle.sheet.proofs.read_rows.Lts as lts
-use Rattle.text.proofs.read_line.Reads as read-line-reads
 
 abbrev Inv-loop : tie.InvT-loop
 Inv-loop text powers₀ weights₀ rows₀ at₀ next₀ t12 powers weights rows at next = State text powers₀ weights₀ powers weights rows at next

@@ -1,12 +1,8 @@
 -- `read_sheet` meets its contract. Assumes nothing.
-use Rattle.sheet.proofs.Whole.{settled-refused, settled-read}
-use native.Mathlib.Omega.{arith}
+use Rattle.sheet.proofs.ReadCall.{settled-refused, settled-read}
 use borrow.Author.Needs.{needs}
 use Rattle.sheet.proofs.read_sheet.Statement.{statement}
 use Rattle.sheet.proofs.read_sheet.Tie as tie
-use Rattle.sheet.proofs.read_sheet.Reads as reads
-use Rattle.sheet.proofs.read_sheet.Lts as lts
-use Rattle.sheet.proofs.read_words.Reads as read-words-reads
 
 slice-aggregate-read-words : tie.Need-slice-aggregate-read-words
 slice-aggregate-read-words c = search needs

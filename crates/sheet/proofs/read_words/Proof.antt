@@ -2,17 +2,14 @@
 use mathlib.Core.Path.{ap, _∙_}
 use Prim.Native.Nat.{ℕ}
 use lib.ListN.{length, length-replicate}
-use Rattle.text.proofs.Reading.{extent}
+use Rattle.text.proofs.Line.{extent}
 use Rattle.sheet.specs.Sheet.{textWords}
-use Rattle.sheet.proofs.Whole.{reads-long, lines-in, rest-zeros, reads-broken, reads-rest, rest-in}
+use Rattle.sheet.proofs.Whole.{rest-zeros}
+use Rattle.sheet.proofs.ReadCall.{reads-long, lines-in, reads-broken, reads-rest, rest-in}
 use native.Mathlib.Omega.{arith}
 use borrow.Author.Needs.{needs}
 use Rattle.sheet.proofs.read_words.Statement.{statement}
 use Rattle.sheet.proofs.read_words.Tie as tie
-use Rattle.sheet.proofs.read_words.Reads as reads
-use Rattle.sheet.proofs.read_words.Lts as lts
-use Rattle.sheet.proofs.read_lines.Reads as read-lines-reads
-use Rattle.sheet.proofs.read_rest.Reads as read-rest-reads
 
 returns : tie.Need-returns
 returns c = reads-long (c .before .before .before .args .text .now) _ (c .if1 .taken)

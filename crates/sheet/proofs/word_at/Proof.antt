@@ -1,11 +1,8 @@
 -- `word_at` meets its contract. Assumes nothing.
 use Rattle.sheet.proofs.Forms.{place-at}
-use native.Mathlib.Omega.{arith}
 use borrow.Author.Needs.{needs}
 use Rattle.sheet.proofs.word_at.Statement.{statement}
 use Rattle.sheet.proofs.word_at.Tie as tie
-use Rattle.sheet.proofs.word_at.Reads as reads
-use Rattle.sheet.proofs.word_at.Lts as lts
 
 mul-result : tie.Need-mul-result
 mul-result c = search needs

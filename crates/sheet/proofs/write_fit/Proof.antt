@@ -7,9 +7,6 @@ use native.Mathlib.Omega.{arith}
 use borrow.Author.Needs.{needs}
 use Rattle.sheet.proofs.write_fit.Statement.{statement}
 use Rattle.sheet.proofs.write_fit.Tie as tie
-use Rattle.sheet.proofs.write_fit.Reads as reads
-use Rattle.sheet.proofs.write_fit.Lts as lts
-use Rattle.text.proofs.write_line.Reads as write-line-reads
 
 returns : tie.Need-returns
 returns c = rw (fit-none (c .before .before .args .line) (c .before .before .args .weight) (c .if1 .taken)) (laid-none _ _)

@@ -6,9 +6,6 @@ use native.Mathlib.Omega.{arith}
 use borrow.Author.Needs.{needs}
 use Rattle.sheet.proofs.write_fits.Statement.{statement}
 use Rattle.sheet.proofs.write_fits.Tie as tie
-use Rattle.sheet.proofs.write_fits.Reads as reads
-use Rattle.sheet.proofs.write_fits.Lts as lts
-use Rattle.sheet.proofs.write_fit.Reads as write-fit-reads
 
 abbrev Inv-loop : tie.InvT-loop
 Inv-loop weights out₀ line₀ i₀ at₀ out line i at = FitState weights out₀ out line i at

@@ -1,16 +1,11 @@
 -- `write_lines` meets its contract. Assumes nothing.
 use Prim.Native.Nat.{_-_}
-use lib.ListN.{length}
 use Rattle.sheet.proofs.Forms.{word-part}
 use Rattle.sheet.proofs.Written.{State, start, done, place-in, step, laid-length}
 use native.Mathlib.Omega.{arith}
 use borrow.Author.Needs.{needs}
 use Rattle.sheet.proofs.write_lines.Statement.{statement}
 use Rattle.sheet.proofs.write_lines.Tie as tie
-use Rattle.sheet.proofs.write_lines.Reads as reads
-use Rattle.sheet.proofs.write_lines.Lts as lts
-use Rattle.sheet.proofs.word_at.Reads as word-at-reads
-use Rattle.sheet.proofs.write_line_at.Reads as write-line-at-reads
 
 abbrev Inv-loop : tie.InvT-loop
 Inv-loop sheet out₀ i₀ at₀ out i at = State sheet out₀ out i at

@@ -1,21 +1,16 @@
 -- `write_sheet` meets its contract. Assumes nothing.
 use lib.Seq.{length-take-le}
-use mathlib.Core.Path.{_≡_, refl, sym, ap, _∙_}
+use mathlib.Core.Path.{sym, ap, _∙_}
 use mathlib.Core.List.{List}
 use Rattle.text.specs.Limit.{Limit, allHold}
 use Rattle.sheet.specs.Sheet.{sheetLimits, limitsOn}
 use Rattle.sheet.proofs.Forms.{table, table-limits}
 use Rattle.sheet.proofs.Most.{text-most}
-use Rattle.sheet.proofs.Written.{settled-outside, settled-short, written-in, written-most, settled-written}
+use Rattle.sheet.proofs.WriteCall.{settled-outside, settled-short, written-in, written-most, settled-written}
 use native.Mathlib.Omega.{arith}
 use borrow.Author.Needs.{needs}
 use Rattle.sheet.proofs.write_sheet.Statement.{statement}
 use Rattle.sheet.proofs.write_sheet.Tie as tie
-use Rattle.sheet.proofs.write_sheet.Reads as reads
-use Rattle.sheet.proofs.write_sheet.Lts as lts
-use Rattle.sheet.proofs.write_words.Reads as write-words-reads
-use Rattle.text.proofs.all_hold.Reads as all-hold-reads
-use Rattle.text.proofs.write_bytes.Reads as write-bytes-reads
 
 slice-aggregate-all-hold : tie.Need-slice-aggregate-all-hold
 slice-aggregate-all-hold c = search needs

@@ -1,15 +1,11 @@
 -- `write_words` meets its contract. Assumes nothing.
-use mathlib.Core.Path.{refl, _∙_}
-use Rattle.sheet.proofs.Written.{laid-length, sheet-lengths, lines-in, weights-many, fits-room, end-place, end-length, words-laid}
+use mathlib.Core.Path.{refl}
+use Rattle.sheet.proofs.Written.{laid-length}
+use Rattle.sheet.proofs.WriteCall.{sheet-lengths, lines-in, weights-many, fits-room, end-place, end-length, words-laid}
 use native.Mathlib.Omega.{arith}
 use borrow.Author.Needs.{needs}
 use Rattle.sheet.proofs.write_words.Statement.{statement}
 use Rattle.sheet.proofs.write_words.Tie as tie
-use Rattle.sheet.proofs.write_words.Reads as reads
-use Rattle.sheet.proofs.write_words.Lts as lts
-use Rattle.sheet.proofs.write_fits.Reads as write-fits-reads
-use Rattle.sheet.proofs.write_lines.Reads as write-lines-reads
-use Rattle.text.proofs.write_bytes.Reads as write-bytes-reads
 
 write-lines-requires : tie.Need-write-lines-requires
 write-lines-requires c κs = (c .before .before .before .pre .0, omega (arith, c .before .before .before .pre .1, sheet-lengths (c .before .before .before .args .sheet .now)))

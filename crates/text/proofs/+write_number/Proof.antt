@@ -1,6 +1,5 @@
 -- `write_number` meets its contract. Assumes nothing.
 use Rattle.text.proofs.Number.{length-digits-twenty}
-use mathlib.Core.Path.{_≡_}
 use Rattle.text.proofs.Laid.{laid-digit, laid-digits}
 use native.Mathlib.Omega.{arith}
 use borrow.Author.Needs.{needs}

@@ -1,16 +1,13 @@
 -- `agreement` meets its contract. Assumes nothing.
 use Rattle.text.proofs.Field.{agreed-past, agreed-done, agreed-differs, agreed-more}
-use mathlib.Core.Path.{_≡_, refl}
+use mathlib.Core.Path.{_≡_}
 use Prim.Native.Nat.{_≤_, _-_, _+_}
 use lib.ListN.{length, drop}
-use borrow.Author.Tests.{eq-eqb, ne-eqb}
 use Rattle.text.specs.Field.{agreed}
 use native.Mathlib.Omega.{arith}
 use borrow.Author.Needs.{needs}
 use Rattle.text.proofs.agreement.Statement.{statement}
 use Rattle.text.proofs.agreement.Tie as tie
-use Rattle.text.proofs.agreement.Reads as reads
-use Rattle.text.proofs.agreement.Lts as lts
 
 abbrev Inv-loop : tie.InvT-loop
 Inv-loop tag text i₀ i = (i ≤ length tag) × (i ≤ length text) × (agreed tag text ≡ i + agreed (drop i tag) (drop i text))

@@ -8,9 +8,6 @@ use native.Mathlib.Omega.{arith}
 use borrow.Author.Needs.{needs}
 use Rattle.text.proofs.all_hold.Statement.{statement}
 use Rattle.text.proofs.all_hold.Tie as tie
-use Rattle.text.proofs.all_hold.Reads as reads
-use Rattle.text.proofs.all_hold.Lts as lts
-use Rattle.text.proofs.may_stand.Reads as may-stand-reads
 
 abbrev Inv-loop : tie.InvT-loop
 Inv-loop table numbers k₀ last₀ k last = (k ≤ length numbers) × (allHold (limitsOf table) 0 numbers ≡ allHold (limitsOf (drop k table)) last (drop k numbers))

@@ -1,11 +1,7 @@
 -- `ender_before` meets its contract. Assumes nothing.
 use borrow.Author.Tests.{eq-eqb, ne-eqb}
-use native.Mathlib.Omega.{arith}
-use borrow.Author.Needs.{needs}
 use Rattle.text.proofs.ender_before.Statement.{statement}
 use Rattle.text.proofs.ender_before.Tie as tie
-use Rattle.text.proofs.ender_before.Reads as reads
-use Rattle.text.proofs.ender_before.Lts as lts
 
 returns : tie.Need-returns
 returns c = simp (eq-eqb _ _ (c .if1 .taken))

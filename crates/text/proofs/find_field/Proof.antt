@@ -10,8 +10,6 @@ use native.Mathlib.Omega.{arith}
 use borrow.Author.Needs.{needs}
 use Rattle.text.proofs.find_field.Statement.{statement}
 use Rattle.text.proofs.find_field.Tie as tie
-use Rattle.text.proofs.find_field.Reads as reads
-use Rattle.text.proofs.find_field.Lts as lts
 
 abbrev Inv-loop : tie.InvT-loop
 Inv-loop text i₀ i = (i ≤ length text) × Walked text i

@@ -1,11 +1,7 @@
 -- `goes_on` meets its contract. Assumes nothing.
-use native.Mathlib.Omega.{arith}
 use borrow.Author.Needs.{needs}
 use Rattle.text.proofs.goes_on.Statement.{statement}
 use Rattle.text.proofs.goes_on.Tie as tie
-use Rattle.text.proofs.goes_on.Reads as reads
-use Rattle.text.proofs.goes_on.Lts as lts
-use Rattle.text.proofs.is_digit.Reads as is-digit-reads
 
 is-digit-requires : tie.Need-is-digit-requires
 is-digit-requires c κs = search needs

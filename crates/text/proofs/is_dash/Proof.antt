@@ -1,12 +1,8 @@
 -- `is_dash` meets its contract. Assumes nothing.
 use borrow.Author.Tests.{eq-eqb, ne-eqb}
-use native.Mathlib.Omega.{arith}
 use borrow.Author.Needs.{needs}
 use Rattle.text.proofs.is_dash.Statement.{statement}
 use Rattle.text.proofs.is_dash.Tie as tie
-use Rattle.text.proofs.is_dash.Reads as reads
-use Rattle.text.proofs.is_dash.Lts as lts
-use Rattle.text.proofs.starts.Reads as starts-reads
 
 array-read-rule : tie.Need-array-read-rule
 array-read-rule c = search needs

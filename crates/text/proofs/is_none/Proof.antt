@@ -1,11 +1,8 @@
 -- `is_none` meets its contract. Assumes nothing.
 use borrow.Author.Tests.{eq-eqb, ne-eqb}
-use native.Mathlib.Omega.{arith}
 use borrow.Author.Needs.{needs}
 use Rattle.text.proofs.is_none.Statement.{statement}
 use Rattle.text.proofs.is_none.Tie as tie
-use Rattle.text.proofs.is_none.Reads as reads
-use Rattle.text.proofs.is_none.Lts as lts
 
 array-read-rule : tie.Need-array-read-rule
 array-read-rule c = search needs

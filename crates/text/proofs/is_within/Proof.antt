@@ -2,12 +2,9 @@
 use mathlib.Core.Path.{sym}
 use Rattle.text.specs.Limit.{limitOf}
 use Rattle.text.proofs.Limit.{within-below, within-above, within-or-none, within-capped, within-plain}
-use native.Mathlib.Omega.{arith}
 use borrow.Author.Needs.{needs}
 use Rattle.text.proofs.is_within.Statement.{statement}
 use Rattle.text.proofs.is_within.Tie as tie
-use Rattle.text.proofs.is_within.Reads as reads
-use Rattle.text.proofs.is_within.Lts as lts
 
 array-read-low : tie.Need-array-read-low
 array-read-low c = search needs

@@ -1,12 +1,7 @@
 -- `may_stand` meets its contract. Assumes nothing.
-use native.Mathlib.Omega.{arith}
 use borrow.Author.Needs.{needs}
 use Rattle.text.proofs.may_stand.Statement.{statement}
 use Rattle.text.proofs.may_stand.Tie as tie
-use Rattle.text.proofs.may_stand.Reads as reads
-use Rattle.text.proofs.may_stand.Lts as lts
-use Rattle.text.proofs.is_none.Reads as is-none-reads
-use Rattle.text.proofs.is_within.Reads as is-within-reads
 
 is-none-requires : tie.Need-is-none-requires
 is-none-requires c κs = search needs

@@ -14,13 +14,6 @@ use native.Mathlib.Omega.{arith}
 use borrow.Author.Needs.{needs}
 use Rattle.text.proofs.read_entry.Statement.{statement}
 use Rattle.text.proofs.read_entry.Tie as tie
-use Rattle.text.proofs.read_entry.Reads as reads
-use Rattle.text.proofs.read_entry.Lts as lts
-use Rattle.text.proofs.find_field.Reads as find-field-reads
-use Rattle.text.proofs.is_dash.Reads as is-dash-reads
-use Rattle.text.proofs.is_within.Reads as is-within-reads
-use Rattle.text.proofs.read_number.Reads as read-number-reads
-use Rattle.text.proofs.starts.Reads as starts-reads
 
 is-dash-requires : tie.Need-is-dash-requires
 is-dash-requires c κs = search needs

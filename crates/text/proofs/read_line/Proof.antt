@@ -1,14 +1,10 @@
 -- `read_line` meets its contract. Assumes nothing.
 use mathlib.Core.Path.{ap}
-use Rattle.text.proofs.Reading.{extent, reads-untagged, tag-fits, reads-tagged, tagged-in}
+use Rattle.text.proofs.Line.{extent, reads-untagged, tag-fits, reads-tagged, tagged-in}
 use native.Mathlib.Omega.{arith}
 use borrow.Author.Needs.{needs}
 use Rattle.text.proofs.read_line.Statement.{statement}
 use Rattle.text.proofs.read_line.Tie as tie
-use Rattle.text.proofs.read_line.Reads as reads
-use Rattle.text.proofs.read_line.Lts as lts
-use Rattle.text.proofs.agreement.Reads as agreement-reads
-use Rattle.text.proofs.read_numbers.Reads as read-numbers-reads
 
 agreement-requires : tie.Need-agreement-requires
 agreement-requires c κs = search needs

@@ -6,18 +6,12 @@ use Prim.Native.Nat.{ℕ}
 use mathlib.Core.Path.{_≡_}
 use Prim.Native.Nat.{_≤_, _-_, _<_}
 use lib.ListN.{length, drop, getD}
-use borrow.Author.Tests.{eq-eqb, ne-eqb}
 use Rattle.text.specs.Number.{numberOf, restOf, elevenDigits}
 use Rattle.text.proofs.Number.{number-empty, number-no-digit, number-zero, number-more, zero-alone, zero-led, rest-more, rest-stops, rest-end}
 use native.Mathlib.Omega.{arith}
 use borrow.Author.Needs.{needs}
 use Rattle.text.proofs.read_number.Statement.{statement}
 use Rattle.text.proofs.read_number.Tie as tie
-use Rattle.text.proofs.read_number.Reads as reads
-use Rattle.text.proofs.read_number.Lts as lts
-use Rattle.text.proofs.digit.Reads as digit-reads
-use Rattle.text.proofs.goes_on.Reads as goes-on-reads
-use Rattle.text.proofs.is_digit.Reads as is-digit-reads
 
 abbrev Inv-loop : tie.InvT-loop
 Inv-loop f first n₀ i₀ n i = (i ≤ length f) × (n < elevenDigits) × (numberOf f ≡ restOf n i (drop i f))

@@ -13,11 +13,6 @@ use native.Mathlib.Omega.{arith}
 use borrow.Author.Needs.{needs}
 use Rattle.text.proofs.read_numbers.Statement.{statement}
 use Rattle.text.proofs.read_numbers.Tie as tie
-use Rattle.text.proofs.read_numbers.Reads as reads
-use Rattle.text.proofs.read_numbers.Lts as lts
-use Rattle.text.proofs.ender_before.Reads as ender-before-reads
-use Rattle.text.proofs.read_entry.Reads as read-entry-reads
-use Rattle.text.proofs.store_number.Reads as store-number-reads
 
 abbrev Inv-loop : tie.InvT-loop
 Inv-loop table text out₀ count k₀ last₀ at₀ out k last at = State table text out₀ out k last at × (count ≡ length table)

@@ -5,8 +5,6 @@ use native.Mathlib.Omega.{arith}
 use borrow.Author.Needs.{needs}
 use Rattle.text.proofs.starts.Statement.{statement}
 use Rattle.text.proofs.starts.Tie as tie
-use Rattle.text.proofs.starts.Reads as reads
-use Rattle.text.proofs.starts.Lts as lts
 
 shared-slice-read-result : tie.Need-shared-slice-read-result
 shared-slice-read-result c = search needs

@@ -1,12 +1,9 @@
 -- `store` meets its contract. Assumes nothing.
 use mathlib.Core.Path.{sym}
 use lib.Seq.{set-out}
-use native.Mathlib.Omega.{arith}
 use borrow.Author.Needs.{needs}
 use Rattle.text.proofs.store.Statement.{statement}
 use Rattle.text.proofs.store.Tie as tie
-use Rattle.text.proofs.store.Reads as reads
-use Rattle.text.proofs.store.Lts as lts
 
 slice-write-out : tie.Need-slice-write-out
 slice-write-out c = search needs

@@ -1,12 +1,9 @@
 -- `store_number` meets its contract. Assumes nothing.
 use mathlib.Core.Path.{sym}
 use lib.Seq.{set-out}
-use native.Mathlib.Omega.{arith}
 use borrow.Author.Needs.{needs}
 use Rattle.text.proofs.store_number.Statement.{statement}
 use Rattle.text.proofs.store_number.Tie as tie
-use Rattle.text.proofs.store_number.Reads as reads
-use Rattle.text.proofs.store_number.Lts as lts
 
 mul-out : tie.Need-mul-out
 mul-out c = search needs

@@ -5,11 +5,6 @@ use native.Mathlib.Omega.{arith}
 use borrow.Author.Needs.{needs}
 use Rattle.text.proofs.write_entry.Statement.{statement}
 use Rattle.text.proofs.write_entry.Tie as tie
-use Rattle.text.proofs.write_entry.Reads as reads
-use Rattle.text.proofs.write_entry.Lts as lts
-use Rattle.text.proofs.is_none.Reads as is-none-reads
-use Rattle.text.proofs.store.Reads as store-reads
-use Rattle.text.proofs.write_number.Reads as write-number-reads
 
 is-none-requires : tie.Need-is-none-requires
 is-none-requires c κs = search needs

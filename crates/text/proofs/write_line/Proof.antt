@@ -1,13 +1,8 @@
 -- `write_line` meets its contract. Assumes nothing.
 use Rattle.text.proofs.Laid.{laid-start, laid-more}
-use native.Mathlib.Omega.{arith}
 use borrow.Author.Needs.{needs}
 use Rattle.text.proofs.write_line.Statement.{statement}
 use Rattle.text.proofs.write_line.Tie as tie
-use Rattle.text.proofs.write_line.Reads as reads
-use Rattle.text.proofs.write_line.Lts as lts
-use Rattle.text.proofs.write_numbers.Reads as write-numbers-reads
-use Rattle.text.proofs.write_bytes.Reads as write-bytes-reads
 
 write-bytes-requires : tie.Need-write-bytes-requires
 write-bytes-requires c κs = search needs

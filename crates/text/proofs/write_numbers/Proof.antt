@@ -11,11 +11,6 @@ use native.Mathlib.Omega.{arith}
 use borrow.Author.Needs.{needs}
 use Rattle.text.proofs.write_numbers.Statement.{statement}
 use Rattle.text.proofs.write_numbers.Tie as tie
-use Rattle.text.proofs.write_numbers.Reads as reads
-use Rattle.text.proofs.write_numbers.Lts as lts
-use Rattle.text.proofs.ender_before.Reads as ender-before-reads
-use Rattle.text.proofs.store.Reads as store-reads
-use Rattle.text.proofs.write_entry.Reads as write-entry-reads
 
 abbrev Inv-loop : tie.InvT-loop
 Inv-loop table numbers out₀ start count k₀ at₀ out k at = State table numbers out₀ out start k at × (count ≡ length table)

@@ -1,47 +1,27 @@
--- What is written reads back, and what is read is what would be written: a number with its ending byte, numbers, a line, of any form. Assumes nothing.
+-- A number with its ending byte that is written reads back, and what reads as one is what it is written as. Assumes nothing.
 use mathlib.Core.Path.{_≡_, refl, sym, ap, _∙_}
-use mathlib.Core.Bool.{Bool, true, false, _&&_, _||_, cond, and-false, true≢false}
+use mathlib.Core.Bool.{Bool, true, false, _&&_, _||_, cond, and-false}
 use mathlib.Core.List.{List, [], _∷_, _++_, append-nil, append-assoc}
 use Prim.Native.Nat.{ℕ, zero, suc, _+_, _/_, _%_, _≤_, _<_}
-use native.Mathlib.Nat.{add-zero}
 use native.Mathlib.Omega.{arith}
-use borrow.Author.Tests.{eq-eqb, ne-eqb, lt-ltb, eqb-true, eqb-false, ltb-true, ltb-false}
+use borrow.Author.Tests.{eq-eqb, ne-eqb, eqb-true, ltb-true, ltb-false}
 use lib.Dec.{eqb, leb, ltb}
 use lib.ListN.{length, drop, length-append}
-use lib.Seq.{drop-append-seam, drop-drop, drop-at}
+use lib.Seq.{drop-append-seam, drop-drop}
 use Rattle.text.specs.declared.NumberRead.{NumberRead}
 use Rattle.text.specs.declared.NumberRead.the-variants.{Value, Malformed}
-use Rattle.text.specs.declared.EntryRead.{EntryRead}
 use Rattle.text.specs.declared.EntryRead.the-variants.{Number, Misread}
-use Rattle.text.specs.declared.LineRead.{LineRead}
-use Rattle.text.specs.declared.LineRead.the-variants.{Taken, Fault}
 use Rattle.text.specs.Quoted.{tab, feed, dash}
-use Rattle.text.specs.Field.{fieldOf, begins, agreed}
+use Rattle.text.specs.Field.{fieldOf, begins}
 use Rattle.text.specs.Number.{elevenDigits, numberOf, digitsOf}
-use Rattle.text.specs.Limit.{Limit, orNone, capped, isNone, within, holds, allHold}
-use Rattle.text.specs.Line.{Line, Reading, shift, after, ender, onEntry, judged, readDash, readEntry, readNumbers, readLine, entryText, numbersText, lineText}
-use Rattle.text.proofs.Field.{begins-cons, field-split, field-stop, field-more, agreed-whole, agreed-self}
-use Rattle.text.proofs.Number.{both-hold, digits-small, digits-more, read-writes, written-reads}
+use Rattle.text.specs.Limit.{Limit, orNone, capped, isNone, within, holds}
+use Rattle.text.specs.Line.{ender, judged, readDash, readEntry, entryText}
+use Rattle.text.proofs.Field.{begins-cons, field-split, field-stop, field-more}
+use Rattle.text.proofs.Number.{both-hold, digits-small, digits-more}
+use Rattle.text.proofs.NumberTrip.{read-writes, written-reads}
 use Rattle.text.proofs.Limit.{within-high}
 use Rattle.text.proofs.Entry.{dash-ended, taken}
-use Rattle.text.proofs.Reading.{shift-taken, line-tagged, line-untagged}
-
--- ---- a text led by another
-
--- x stands at the start of t, and is k bytes long
-pub record Led (x t : List ℕ) (k : ℕ) : Type 0 where
-  pub start : t ≡ x ++ drop k t
-  pub count : k ≡ length x
-
-pub led-none : (t : List ℕ) → Led [] t 0
-led-none t = record { start = refl; count = refl }
-
-pub led-more : {x y t : List ℕ} {j k : ℕ} → Led x t j → Led y (drop j t) k → Led (x ++ y) t (j + k)
-led-more {x} {y} {t} {j} {k} p q =
-    record {
-      start = p .start ∙ ap (λ (z : List ℕ). x ++ z) (q .start ∙ rw (drop-drop k j t)) ∙ sym (append-assoc x y (drop (j + k) t));
-      count = omega (arith, p .count, q .count, length-append x y);
-    }
+use Rattle.text.proofs.Led.{Led}
 
 -- ---- limits
 
@@ -68,7 +48,7 @@ unfoldable pub narrow : List Limit → Bool
 narrow [] = true
 narrow (l ∷ ls) = ltb (l .high) elevenDigits && narrow ls
 
-holds-small : (l : Limit) (last n : ℕ) → ltb (l .high) elevenDigits ≡ true → holds l last n ≡ true → n < elevenDigits
+pub holds-small : (l : Limit) (last n : ℕ) → ltb (l .high) elevenDigits ≡ true → holds l last n ≡ true → n < elevenDigits
 holds-small l last n w e = go (isNone l n) refl
   where
     go : (u : Bool) → isNone l n ≡ u → n < elevenDigits
@@ -182,80 +162,3 @@ entry-back l last e t n k v = go (eqb (l .rule) orNone && begins dash t) refl v
         → cond u (readDash e t) (judged (numberOf (fieldOf t)) l last e (length (fieldOf t)) (drop (length (fieldOf t)) t)) ≡ Number n k → Back l last e t n k
     go true d w = dash-back l last e t n k d w
     go false d w = judged-back (numberOf (fieldOf t)) l last e t n k refl w
-
--- ---- numbers
-
-abbrev pub got : ℕ → List ℕ → Reading
-got k ns = record { ended = Taken k; numbers = ns }
-
-pub numbers-forth : (ls : List Limit) (last : ℕ) (ns rest : List ℕ) → narrow ls ≡ true → allHold ls last ns ≡ true
-    → readNumbers ls last (numbersText ls ns ++ rest) ≡ got (length (numbersText ls ns)) ns
-unfolding readNumbers numbersText allHold narrow
-numbers-forth [] last [] rest w h = refl
-numbers-forth [] last (n ∷ ns) rest w h = absurd (true≢false (sym h))
-numbers-forth (l ∷ ls) last [] rest w h = absurd (true≢false (sym h))
-numbers-forth (l ∷ ls) last (n ∷ ns) rest w h =
-    let hs = both-hold (holds l last n) (allHold ls n ns) h in
-    let ws = both-hold (ltb (l .high) elevenDigits) (narrow ls) w in
-    let x : List ℕ = entryText l n in
-    let more : List ℕ = numbersText ls ns in
-    let f = entry-forth l last (ender ls) n (more ++ rest) (ender-ends ls) (hs .0) (holds-small l last n (ws .0) (hs .0)) in
-    let d : drop (length x + 1) (x ++ (ender ls ∷ (more ++ rest))) ≡ more ++ rest = sym (drop-drop 1 (length x) (x ++ (ender ls ∷ (more ++ rest)))) ∙ rw (drop-append-seam x (ender ls ∷ (more ++ rest))) in
-    let c : length x + 1 + length more ≡ length (x ++ (ender ls ∷ more)) = omega (arith, length-append x (ender ls ∷ more)) in
-    rw (append-assoc x (ender ls ∷ more) rest, f, d, numbers-forth ls n ns rest (ws .1) (hs .1), c)
-
--- what reads as numbers is what they are written as, and each may stand where it does
-pub record BackAll (ls : List Limit) (last : ℕ) (x t : List ℕ) (k : ℕ) (ns : List ℕ) : Type 0 where
-  pub led : Led x t k
-  pub held : allHold ls last ns ≡ true
-
-entered-back : (l : Limit) (ls : List Limit) (last : ℕ) (t : List ℕ) (r : EntryRead) (k : ℕ) → readEntry l last (ender ls) t ≡ r
-    → ((n : ℕ) (u : List ℕ) (i : ℕ) → readNumbers ls n u .ended ≡ Taken i → BackAll ls n (numbersText ls (readNumbers ls n u .numbers)) u i (readNumbers ls n u .numbers))
-    → onEntry r (readNumbers ls) t .ended ≡ Taken k
-    → BackAll (l ∷ ls) last (numbersText (l ∷ ls) (onEntry r (readNumbers ls) t .numbers)) t k (onEntry r (readNumbers ls) t .numbers)
-unfolding numbersText allHold
-entered-back l ls last t (Misread number at) k v ih e = let z : _≡_ {A = ℕ} 0 1 = cc in absurd (omega arith)
-entered-back l ls last t (Number n j) k v ih e =
-    let b = entry-back l last (ender ls) t n j v in
-    let s = shift-taken j (readNumbers ls n (drop j t) .ended) k e in
-    let p = ih n (drop j t) (s .0) (s .1) in
-    record {
-      led = rw (s .2) (rw (append-assoc (entryText l n) (ender ls ∷ []) (numbersText ls (readNumbers ls n (drop j t) .numbers))) at (led-more (b .led) (p .led)));
-      held = rw (b .held, p .held);
-    }
-
-pub numbers-back : (ls : List Limit) (last : ℕ) (t : List ℕ) (k : ℕ) → readNumbers ls last t .ended ≡ Taken k
-    → BackAll ls last (numbersText ls (readNumbers ls last t .numbers)) t k (readNumbers ls last t .numbers)
-unfolding readNumbers numbersText allHold
-numbers-back [] last t k e =
-    let z : 0 ≡ k = cc in
-    rw (← z) (record { led = led-none t; held = refl })
-numbers-back (l ∷ ls) last t k e = entered-back l ls last t (readEntry l last (ender ls) t) k refl (numbers-back ls) e
-
--- ---- a line
-
--- for every form, what is written reads back
-pub line-forth : (l : Line) (ns rest : List ℕ) → narrow (l .limits) ≡ true → allHold (l .limits) 0 ns ≡ true → readLine l (lineText l ns ++ rest) ≡ got (length (lineText l ns)) ns
-line-forth l ns rest w h =
-    let x : List ℕ = numbersText (l .limits) ns in
-    let t : lineText l ns ++ rest ≡ l .tag ++ (x ++ rest) = append-assoc (l .tag) x rest in
-    let r : readLine l (l .tag ++ (x ++ rest)) ≡ after [] (length (l .tag)) (readNumbers (l .limits) 0 (drop (length (l .tag)) (l .tag ++ (x ++ rest)))) = line-tagged l (l .tag ++ (x ++ rest)) (agreed-self (l .tag) (x ++ rest)) in
-    rw (t, r, drop-append-seam (l .tag) (x ++ rest), numbers-forth (l .limits) 0 ns rest w h, length-append (l .tag) x)
-
--- and what is read is what would be written
-pub line-back : (l : Line) (t : List ℕ) (k : ℕ) → readLine l t .ended ≡ Taken k → BackAll (l .limits) 0 (lineText l (readLine l t .numbers)) t k (readLine l t .numbers)
-line-back l t k e = go (eqb (agreed (l .tag) t) (length (l .tag))) refl
-  where
-    go : (u : Bool) → eqb (agreed (l .tag) t) (length (l .tag)) ≡ u → BackAll (l .limits) 0 (lineText l (readLine l t .numbers)) t k (readLine l t .numbers)
-    go true d =
-        let a = eqb-true (agreed (l .tag) t) (length (l .tag)) d in
-        let r = line-tagged l t a in
-        let s = shift-taken (length (l .tag)) (readNumbers (l .limits) 0 (drop (length (l .tag)) t) .ended) k (rw r at e) in
-        let p = numbers-back (l .limits) 0 (drop (length (l .tag)) t) (s .0) (s .1) in
-        let q : Led (l .tag) t (length (l .tag)) = record { start = agreed-whole (l .tag) t a; count = refl } in
-        rw r (record { led = rw (s .2) (led-more q (p .led)); held = p .held })
-    go false d =
-        let r = line-untagged l t (eqb-false (agreed (l .tag) t) (length (l .tag)) d) in
-        let f : Fault 2 (agreed (l .tag) t) ≡ Taken k = rw r at e in
-        let z : _≡_ {A = ℕ} 0 1 = cc in
-        absurd (omega arith)
