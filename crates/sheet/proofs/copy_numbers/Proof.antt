@@ -28,7 +28,10 @@ mul-out-2 : tie.Need-mul-out-2 Inv-loop μ-loop
 mul-out-2 c = search needs
 
 slice-write-out : tie.Need-slice-write-out Inv-loop μ-loop
-slice-write-out c = let e = ap length (c .before .before .loop .inv .1) ∙ length-sets (c .before .before .before .args .out .now) 0 (take (c .before .before .loop .i) (c .before .before .before .args .numbers .now)) in omega arith
+slice-write-out c =
+    let start = c .before .before .before in
+    let at-loop = c .before .before in
+    let e = ap length (at-loop .loop .inv .1) ∙ length-sets (start .args .out .now) 0 (take (at-loop .loop .i) (start .args .numbers .now)) in omega arith
 
 add-i : tie.Need-add-i Inv-loop μ-loop
 add-i c = search needs
@@ -37,13 +40,19 @@ loop-less : tie.Need-loop-less Inv-loop μ-loop
 loop-less c = search needs
 
 loop-again : tie.Need-loop-again Inv-loop μ-loop
-loop-again c = (omega arith, rw (c .before .before .loop .inv .1) (sets-take (c .before .before .before .args .out .now) (c .before .before .before .args .numbers .now) (c .before .before .loop .i) (c .before .loop-test .taken)))
+loop-again c =
+    let start = c .before .before .before in
+    let at-loop = c .before .before in
+    (omega arith, rw (at-loop .loop .inv .1) (sets-take (start .args .out .now) (start .args .numbers .now) (at-loop .loop .i) (c .before .loop-test .taken)))
 
 same-length : tie.Need-same-length Inv-loop μ-loop
 same-length c = ap length (c .before .loop .inv .1) ∙ simp length-sets
 
 returns : tie.Need-returns Inv-loop μ-loop
-returns c = c .before .loop .inv .1 ∙ ap (sets _ 0) (take-all (c .before .loop .i) _ (c .loop-test .left)) ∙ sets-start (c .before .before .args .out .now) (c .before .before .args .numbers .now) (c .before .before .pre)
+returns c =
+    let start = c .before .before in
+    let at-loop = c .before in
+    at-loop .loop .inv .1 ∙ ap (sets _ 0) (take-all (at-loop .loop .i) _ (c .loop-test .left)) ∙ sets-start (start .args .out .now) (start .args .numbers .now) (start .pre)
 
 pub copy-numbers-spec : {M : Type 1} → statement M
 copy-numbers-spec =

@@ -15,13 +15,20 @@ agreement-requires : tie.Need-agreement-requires
 agreement-requires c κs = search needs
 
 returns : tie.Need-returns
-returns c = sym (rw (c .before .agreement .ensures) (end-broken (c .before .before .before .before .args .text .now) (rw (c .before .agreement .ensures) at (c .if1 .taken))))
+returns c =
+    let start = c .before .before .before .before in
+    let at-agreement = c .before in
+    sym (rw (at-agreement .agreement .ensures) (end-broken (start .args .text .now) (rw (at-agreement .agreement .ensures) at (c .if1 .taken))))
 
 returns-2 : tie.Need-returns-2
-returns-2 c = sym (end-more (c .before .before .before .before .before .args .text .now) (omega (arith, c .before .before .agreement .ensures, c .before .if1 .left, agreed-most (endLine .tag) (c .before .before .before .before .before .args .text .now))) (c .if2 .taken))
+returns-2 c =
+    let start = c .before .before .before .before .before in
+    sym (end-more (start .args .text .now) (omega (arith, c .before .before .agreement .ensures, c .before .if1 .left, agreed-most (endLine .tag) (start .args .text .now))) (c .if2 .taken))
 
 returns-3 : tie.Need-returns-3
-returns-3 c = sym (end-last (c .before .before .before .before .before .args .text .now) (omega (arith, c .before .before .agreement .ensures, c .before .if1 .left, agreed-most (endLine .tag) (c .before .before .before .before .before .args .text .now))) (c .if2 .left))
+returns-3 c =
+    let start = c .before .before .before .before .before in
+    sym (end-last (start .args .text .now) (omega (arith, c .before .before .agreement .ensures, c .before .if1 .left, agreed-most (endLine .tag) (start .args .text .now))) (c .if2 .left))
 
 pub read-end-spec : {M : Type 1} → statement M
 read-end-spec =

@@ -58,14 +58,29 @@ enum-known-refusal c = search needs
 
 add-t31 : tie.Need-add-t31 Inv-loop μ-loop
 add-t31 c =
-    let h = place-in (c .before .before .before .before .before .before .before .before .before .before .before .before .before .loop .inv) (c .before .before .before .before .before .before .before .before .before .before .before .before .loop-test .taken) (sym (ap (begins fitByte) (rest-part (c .before .before .before .before .before .before .before .before .before .before .before .before .before .before .before .before .args .text .now) (c .before .before .before .before .before .before .before .before .before .before .before .before .before .loop .at))) ∙ sym (c .before .before .before .before .before .before .before .before .before .before .starts .ensures) ∙ c .before .before .before .before .before .before .before .before .before .if1 .taken) (c .before .before .before .before .read-line .ensures) in
+    let start = c .before .before .before .before .before .before .before .before .before .before .before .before .before .before .before .before in
+    let at-loop = c .before .before .before .before .before .before .before .before .before .before .before .before .before in
+    let at-loop-test = c .before .before .before .before .before .before .before .before .before .before .before .before in
+    let at-starts = c .before .before .before .before .before .before .before .before .before .before in
+    let at-if1 = c .before .before .before .before .before .before .before .before .before in
+    let at-read-line = c .before .before .before .before in
+    let h = place-in (at-loop .loop .inv) (at-loop-test .loop-test .taken) (sym (ap (begins fitByte) (rest-part (start .args .text .now) (at-loop .loop .at))) ∙ sym (at-starts .starts .ensures) ∙ at-if1 .if1 .taken) (at-read-line .read-line .ensures) in
     omega (arith, ap extent (c .before .refusal .given .1))
 
 same-length : tie.Need-same-length Inv-loop μ-loop
-same-length c = kept (c .before .before .before .before .before .before .before .before .before .before .before .before .before .loop .inv)
+same-length c =
+    let at-loop = c .before .before .before .before .before .before .before .before .before .before .before .before .before in
+    kept (at-loop .loop .inv)
 
 returns : tie.Need-returns Inv-loop μ-loop
-returns c = fault (c .before .before .before .before .before .before .before .before .before .before .before .before .before .loop .inv) (c .before .before .before .before .before .before .before .before .before .before .before .before .loop-test .taken) (sym (ap (begins fitByte) (rest-part (c .before .before .before .before .before .before .before .before .before .before .before .before .before .before .before .before .args .text .now) (c .before .before .before .before .before .before .before .before .before .before .before .before .before .loop .at))) ∙ sym (c .before .before .before .before .before .before .before .before .before .before .starts .ensures) ∙ c .before .before .before .before .before .before .before .before .before .if1 .taken) (c .before .before .before .before .read-line .ensures) (c .before .refusal .given .1)
+returns c =
+    let start = c .before .before .before .before .before .before .before .before .before .before .before .before .before .before .before .before in
+    let at-loop = c .before .before .before .before .before .before .before .before .before .before .before .before .before in
+    let at-loop-test = c .before .before .before .before .before .before .before .before .before .before .before .before in
+    let at-starts = c .before .before .before .before .before .before .before .before .before .before in
+    let at-if1 = c .before .before .before .before .before .before .before .before .before in
+    let at-read-line = c .before .before .before .before in
+    fault (at-loop .loop .inv) (at-loop-test .loop-test .taken) (sym (ap (begins fitByte) (rest-part (start .args .text .now) (at-loop .loop .at))) ∙ sym (at-starts .starts .ensures) ∙ at-if1 .if1 .taken) (at-read-line .read-line .ensures) (c .before .refusal .given .1)
 
 enum-known-len : tie.Need-enum-known-len Inv-loop μ-loop
 enum-known-len c = search needs
@@ -77,26 +92,72 @@ array-read-weights-2 : tie.Need-array-read-weights-2 Inv-loop μ-loop
 array-read-weights-2 c = search needs
 
 cast-weights : tie.Need-cast-weights Inv-loop μ-loop
-cast-weights c = omega (arith, line-low (c .before .before .before .before .before .before .before .before .before .before .before .before .before .loop .inv) (c .before .before .before .before .before .before .before .before .before .before .before .before .loop-test .taken) (sym (ap (begins fitByte) (rest-part (c .before .before .before .before .before .before .before .before .before .before .before .before .before .before .before .before .args .text .now) (c .before .before .before .before .before .before .before .before .before .before .before .before .before .loop .at))) ∙ sym (c .before .before .before .before .before .before .before .before .before .before .starts .ensures) ∙ c .before .before .before .before .before .before .before .before .before .if1 .taken) (c .before .before .before .before .read-line .ensures) (c .before .len .given .1), line-high (c .before .before .before .before .before .before .before .before .before .before .before .before .before .loop .inv) (c .before .before .before .before .before .before .before .before .before .before .before .before .loop-test .taken) (sym (ap (begins fitByte) (rest-part (c .before .before .before .before .before .before .before .before .before .before .before .before .before .before .before .before .args .text .now) (c .before .before .before .before .before .before .before .before .before .before .before .before .before .loop .at))) ∙ sym (c .before .before .before .before .before .before .before .before .before .before .starts .ensures) ∙ c .before .before .before .before .before .before .before .before .before .if1 .taken) (c .before .before .before .before .read-line .ensures) (c .before .len .given .1), kept (c .before .before .before .before .before .before .before .before .before .before .before .before .before .loop .inv), length-zeros (c .before .before .before .before .before .before .before .before .before .before .before .before .before .loop .inv))
+cast-weights c =
+    let start = c .before .before .before .before .before .before .before .before .before .before .before .before .before .before .before .before in
+    let at-loop = c .before .before .before .before .before .before .before .before .before .before .before .before .before in
+    let at-loop-test = c .before .before .before .before .before .before .before .before .before .before .before .before in
+    let at-starts = c .before .before .before .before .before .before .before .before .before .before in
+    let at-if1 = c .before .before .before .before .before .before .before .before .before in
+    let at-read-line = c .before .before .before .before in
+    let at-len = c .before in
+    omega (arith, line-low (at-loop .loop .inv) (at-loop-test .loop-test .taken) (sym (ap (begins fitByte) (rest-part (start .args .text .now) (at-loop .loop .at))) ∙ sym (at-starts .starts .ensures) ∙ at-if1 .if1 .taken) (at-read-line .read-line .ensures) (at-len .len .given .1), line-high (at-loop .loop .inv) (at-loop-test .loop-test .taken) (sym (ap (begins fitByte) (rest-part (start .args .text .now) (at-loop .loop .at))) ∙ sym (at-starts .starts .ensures) ∙ at-if1 .if1 .taken) (at-read-line .read-line .ensures) (at-len .len .given .1), kept (at-loop .loop .inv), length-zeros (at-loop .loop .inv))
 
 sub-weights : tie.Need-sub-weights Inv-loop μ-loop
-sub-weights c = omega (arith, line-low (c .before .before .before .before .before .before .before .before .before .before .before .before .before .loop .inv) (c .before .before .before .before .before .before .before .before .before .before .before .before .loop-test .taken) (sym (ap (begins fitByte) (rest-part (c .before .before .before .before .before .before .before .before .before .before .before .before .before .before .before .before .args .text .now) (c .before .before .before .before .before .before .before .before .before .before .before .before .before .loop .at))) ∙ sym (c .before .before .before .before .before .before .before .before .before .before .starts .ensures) ∙ c .before .before .before .before .before .before .before .before .before .if1 .taken) (c .before .before .before .before .read-line .ensures) (c .before .len .given .1), line-high (c .before .before .before .before .before .before .before .before .before .before .before .before .before .loop .inv) (c .before .before .before .before .before .before .before .before .before .before .before .before .loop-test .taken) (sym (ap (begins fitByte) (rest-part (c .before .before .before .before .before .before .before .before .before .before .before .before .before .before .before .before .args .text .now) (c .before .before .before .before .before .before .before .before .before .before .before .before .before .loop .at))) ∙ sym (c .before .before .before .before .before .before .before .before .before .before .starts .ensures) ∙ c .before .before .before .before .before .before .before .before .before .if1 .taken) (c .before .before .before .before .read-line .ensures) (c .before .len .given .1), kept (c .before .before .before .before .before .before .before .before .before .before .before .before .before .loop .inv), length-zeros (c .before .before .before .before .before .before .before .before .before .before .before .before .before .loop .inv))
+sub-weights c =
+    let start = c .before .before .before .before .before .before .before .before .before .before .before .before .before .before .before .before in
+    let at-loop = c .before .before .before .before .before .before .before .before .before .before .before .before .before in
+    let at-loop-test = c .before .before .before .before .before .before .before .before .before .before .before .before in
+    let at-starts = c .before .before .before .before .before .before .before .before .before .before in
+    let at-if1 = c .before .before .before .before .before .before .before .before .before in
+    let at-read-line = c .before .before .before .before in
+    let at-len = c .before in
+    omega (arith, line-low (at-loop .loop .inv) (at-loop-test .loop-test .taken) (sym (ap (begins fitByte) (rest-part (start .args .text .now) (at-loop .loop .at))) ∙ sym (at-starts .starts .ensures) ∙ at-if1 .if1 .taken) (at-read-line .read-line .ensures) (at-len .len .given .1), line-high (at-loop .loop .inv) (at-loop-test .loop-test .taken) (sym (ap (begins fitByte) (rest-part (start .args .text .now) (at-loop .loop .at))) ∙ sym (at-starts .starts .ensures) ∙ at-if1 .if1 .taken) (at-read-line .read-line .ensures) (at-len .len .given .1), kept (at-loop .loop .inv), length-zeros (at-loop .loop .inv))
 
 mul-weights : tie.Need-mul-weights Inv-loop μ-loop
-mul-weights c = omega (arith, line-low (c .before .before .before .before .before .before .before .before .before .before .before .before .before .loop .inv) (c .before .before .before .before .before .before .before .before .before .before .before .before .loop-test .taken) (sym (ap (begins fitByte) (rest-part (c .before .before .before .before .before .before .before .before .before .before .before .before .before .before .before .before .args .text .now) (c .before .before .before .before .before .before .before .before .before .before .before .before .before .loop .at))) ∙ sym (c .before .before .before .before .before .before .before .before .before .before .starts .ensures) ∙ c .before .before .before .before .before .before .before .before .before .if1 .taken) (c .before .before .before .before .read-line .ensures) (c .before .len .given .1), line-high (c .before .before .before .before .before .before .before .before .before .before .before .before .before .loop .inv) (c .before .before .before .before .before .before .before .before .before .before .before .before .loop-test .taken) (sym (ap (begins fitByte) (rest-part (c .before .before .before .before .before .before .before .before .before .before .before .before .before .before .before .before .args .text .now) (c .before .before .before .before .before .before .before .before .before .before .before .before .before .loop .at))) ∙ sym (c .before .before .before .before .before .before .before .before .before .before .starts .ensures) ∙ c .before .before .before .before .before .before .before .before .before .if1 .taken) (c .before .before .before .before .read-line .ensures) (c .before .len .given .1), kept (c .before .before .before .before .before .before .before .before .before .before .before .before .before .loop .inv), length-zeros (c .before .before .before .before .before .before .before .before .before .before .before .before .before .loop .inv))
+mul-weights c =
+    let start = c .before .before .before .before .before .before .before .before .before .before .before .before .before .before .before .before in
+    let at-loop = c .before .before .before .before .before .before .before .before .before .before .before .before .before in
+    let at-loop-test = c .before .before .before .before .before .before .before .before .before .before .before .before in
+    let at-starts = c .before .before .before .before .before .before .before .before .before .before in
+    let at-if1 = c .before .before .before .before .before .before .before .before .before in
+    let at-read-line = c .before .before .before .before in
+    let at-len = c .before in
+    omega (arith, line-low (at-loop .loop .inv) (at-loop-test .loop-test .taken) (sym (ap (begins fitByte) (rest-part (start .args .text .now) (at-loop .loop .at))) ∙ sym (at-starts .starts .ensures) ∙ at-if1 .if1 .taken) (at-read-line .read-line .ensures) (at-len .len .given .1), line-high (at-loop .loop .inv) (at-loop-test .loop-test .taken) (sym (ap (begins fitByte) (rest-part (start .args .text .now) (at-loop .loop .at))) ∙ sym (at-starts .starts .ensures) ∙ at-if1 .if1 .taken) (at-read-line .read-line .ensures) (at-len .len .given .1), kept (at-loop .loop .inv), length-zeros (at-loop .loop .inv))
 
 slice-write-weights : tie.Need-slice-write-weights Inv-loop μ-loop
-slice-write-weights c = omega (arith, line-low (c .before .before .before .before .before .before .before .before .before .before .before .before .before .loop .inv) (c .before .before .before .before .before .before .before .before .before .before .before .before .loop-test .taken) (sym (ap (begins fitByte) (rest-part (c .before .before .before .before .before .before .before .before .before .before .before .before .before .before .before .before .args .text .now) (c .before .before .before .before .before .before .before .before .before .before .before .before .before .loop .at))) ∙ sym (c .before .before .before .before .before .before .before .before .before .before .starts .ensures) ∙ c .before .before .before .before .before .before .before .before .before .if1 .taken) (c .before .before .before .before .read-line .ensures) (c .before .len .given .1), line-high (c .before .before .before .before .before .before .before .before .before .before .before .before .before .loop .inv) (c .before .before .before .before .before .before .before .before .before .before .before .before .loop-test .taken) (sym (ap (begins fitByte) (rest-part (c .before .before .before .before .before .before .before .before .before .before .before .before .before .before .before .before .args .text .now) (c .before .before .before .before .before .before .before .before .before .before .before .before .before .loop .at))) ∙ sym (c .before .before .before .before .before .before .before .before .before .before .starts .ensures) ∙ c .before .before .before .before .before .before .before .before .before .if1 .taken) (c .before .before .before .before .read-line .ensures) (c .before .len .given .1), kept (c .before .before .before .before .before .before .before .before .before .before .before .before .before .loop .inv), length-zeros (c .before .before .before .before .before .before .before .before .before .before .before .before .before .loop .inv))
+slice-write-weights c =
+    let start = c .before .before .before .before .before .before .before .before .before .before .before .before .before .before .before .before in
+    let at-loop = c .before .before .before .before .before .before .before .before .before .before .before .before .before in
+    let at-loop-test = c .before .before .before .before .before .before .before .before .before .before .before .before in
+    let at-starts = c .before .before .before .before .before .before .before .before .before .before in
+    let at-if1 = c .before .before .before .before .before .before .before .before .before in
+    let at-read-line = c .before .before .before .before in
+    let at-len = c .before in
+    omega (arith, line-low (at-loop .loop .inv) (at-loop-test .loop-test .taken) (sym (ap (begins fitByte) (rest-part (start .args .text .now) (at-loop .loop .at))) ∙ sym (at-starts .starts .ensures) ∙ at-if1 .if1 .taken) (at-read-line .read-line .ensures) (at-len .len .given .1), line-high (at-loop .loop .inv) (at-loop-test .loop-test .taken) (sym (ap (begins fitByte) (rest-part (start .args .text .now) (at-loop .loop .at))) ∙ sym (at-starts .starts .ensures) ∙ at-if1 .if1 .taken) (at-read-line .read-line .ensures) (at-len .len .given .1), kept (at-loop .loop .inv), length-zeros (at-loop .loop .inv))
 
 array-read-next : tie.Need-array-read-next Inv-loop μ-loop
 array-read-next c = search needs
 
 add-next : tie.Need-add-next Inv-loop μ-loop
-add-next c = omega (arith, line-low (c .before .before .before .before .before .before .before .before .before .before .before .before .before .loop .inv) (c .before .before .before .before .before .before .before .before .before .before .before .before .loop-test .taken) (sym (ap (begins fitByte) (rest-part (c .before .before .before .before .before .before .before .before .before .before .before .before .before .before .before .before .args .text .now) (c .before .before .before .before .before .before .before .before .before .before .before .before .before .loop .at))) ∙ sym (c .before .before .before .before .before .before .before .before .before .before .starts .ensures) ∙ c .before .before .before .before .before .before .before .before .before .if1 .taken) (c .before .before .before .before .read-line .ensures) (c .before .len .given .1), line-high (c .before .before .before .before .before .before .before .before .before .before .before .before .before .loop .inv) (c .before .before .before .before .before .before .before .before .before .before .before .before .loop-test .taken) (sym (ap (begins fitByte) (rest-part (c .before .before .before .before .before .before .before .before .before .before .before .before .before .before .before .before .args .text .now) (c .before .before .before .before .before .before .before .before .before .before .before .before .before .loop .at))) ∙ sym (c .before .before .before .before .before .before .before .before .before .before .starts .ensures) ∙ c .before .before .before .before .before .before .before .before .before .if1 .taken) (c .before .before .before .before .read-line .ensures) (c .before .len .given .1), kept (c .before .before .before .before .before .before .before .before .before .before .before .before .before .loop .inv), length-zeros (c .before .before .before .before .before .before .before .before .before .before .before .before .before .loop .inv))
+add-next c =
+    let start = c .before .before .before .before .before .before .before .before .before .before .before .before .before .before .before .before in
+    let at-loop = c .before .before .before .before .before .before .before .before .before .before .before .before .before in
+    let at-loop-test = c .before .before .before .before .before .before .before .before .before .before .before .before in
+    let at-starts = c .before .before .before .before .before .before .before .before .before .before in
+    let at-if1 = c .before .before .before .before .before .before .before .before .before in
+    let at-read-line = c .before .before .before .before in
+    let at-len = c .before in
+    omega (arith, line-low (at-loop .loop .inv) (at-loop-test .loop-test .taken) (sym (ap (begins fitByte) (rest-part (start .args .text .now) (at-loop .loop .at))) ∙ sym (at-starts .starts .ensures) ∙ at-if1 .if1 .taken) (at-read-line .read-line .ensures) (at-len .len .given .1), line-high (at-loop .loop .inv) (at-loop-test .loop-test .taken) (sym (ap (begins fitByte) (rest-part (start .args .text .now) (at-loop .loop .at))) ∙ sym (at-starts .starts .ensures) ∙ at-if1 .if1 .taken) (at-read-line .read-line .ensures) (at-len .len .given .1), kept (at-loop .loop .inv), length-zeros (at-loop .loop .inv))
 
 add-at : tie.Need-add-at Inv-loop μ-loop
 add-at c =
-    let h = place-in (c .before .before .before .before .before .before .before .before .before .before .before .before .before .loop .inv) (c .before .before .before .before .before .before .before .before .before .before .before .before .loop-test .taken) (sym (ap (begins fitByte) (rest-part (c .before .before .before .before .before .before .before .before .before .before .before .before .before .before .before .before .args .text .now) (c .before .before .before .before .before .before .before .before .before .before .before .before .before .loop .at))) ∙ sym (c .before .before .before .before .before .before .before .before .before .before .starts .ensures) ∙ c .before .before .before .before .before .before .before .before .before .if1 .taken) (c .before .before .before .before .read-line .ensures) in
+    let start = c .before .before .before .before .before .before .before .before .before .before .before .before .before .before .before .before in
+    let at-loop = c .before .before .before .before .before .before .before .before .before .before .before .before .before in
+    let at-loop-test = c .before .before .before .before .before .before .before .before .before .before .before .before in
+    let at-starts = c .before .before .before .before .before .before .before .before .before .before in
+    let at-if1 = c .before .before .before .before .before .before .before .before .before in
+    let at-read-line = c .before .before .before .before in
+    let h = place-in (at-loop .loop .inv) (at-loop-test .loop-test .taken) (sym (ap (begins fitByte) (rest-part (start .args .text .now) (at-loop .loop .at))) ∙ sym (at-starts .starts .ensures) ∙ at-if1 .if1 .taken) (at-read-line .read-line .ensures) in
     omega (arith, ap extent (c .before .len .given .1))
 
 add-read : tie.Need-add-read Inv-loop μ-loop
@@ -106,13 +167,25 @@ loop-less : tie.Need-loop-less Inv-loop μ-loop
 loop-less c = search needs
 
 loop-again : tie.Need-loop-again Inv-loop μ-loop
-loop-again c = step (c .before .before .before .before .before .before .before .before .before .before .before .before .before .loop .inv) (c .before .before .before .before .before .before .before .before .before .before .before .before .loop-test .taken) (sym (ap (begins fitByte) (rest-part (c .before .before .before .before .before .before .before .before .before .before .before .before .before .before .before .before .args .text .now) (c .before .before .before .before .before .before .before .before .before .before .before .before .before .loop .at))) ∙ sym (c .before .before .before .before .before .before .before .before .before .before .starts .ensures) ∙ c .before .before .before .before .before .before .before .before .before .if1 .taken) (c .before .before .before .before .read-line .ensures) (c .before .len .given .1)
+loop-again c =
+    let start = c .before .before .before .before .before .before .before .before .before .before .before .before .before .before .before .before in
+    let at-loop = c .before .before .before .before .before .before .before .before .before .before .before .before .before in
+    let at-loop-test = c .before .before .before .before .before .before .before .before .before .before .before .before in
+    let at-starts = c .before .before .before .before .before .before .before .before .before .before in
+    let at-if1 = c .before .before .before .before .before .before .before .before .before in
+    let at-read-line = c .before .before .before .before in
+    step (at-loop .loop .inv) (at-loop-test .loop-test .taken) (sym (ap (begins fitByte) (rest-part (start .args .text .now) (at-loop .loop .at))) ∙ sym (at-starts .starts .ensures) ∙ at-if1 .if1 .taken) (at-read-line .read-line .ensures) (c .before .len .given .1)
 
 same-length-2 : tie.Need-same-length-2 Inv-loop μ-loop
-same-length-2 c = kept (c .before .before .before .before .loop .inv)
+same-length-2 c =
+    let at-loop = c .before .before .before .before in
+    kept (at-loop .loop .inv)
 
 returns-2 : tie.Need-returns-2 Inv-loop μ-loop
-returns-2 c = stop (c .before .before .before .before .loop .inv) (sym (ap (begins fitByte) (rest-part (c .before .before .before .before .before .before .before .args .text .now) (c .before .before .before .before .loop .at))) ∙ sym (c .before .starts .ensures) ∙ c .if1 .left)
+returns-2 c =
+    let start = c .before .before .before .before .before .before .before in
+    let at-loop = c .before .before .before .before in
+    stop (at-loop .loop .inv) (sym (ap (begins fitByte) (rest-part (start .args .text .now) (at-loop .loop .at))) ∙ sym (c .before .starts .ensures) ∙ c .if1 .left)
 
 same-length-3 : tie.Need-same-length-3 Inv-loop μ-loop
 same-length-3 c = kept (c .before .loop .inv)

@@ -33,25 +33,44 @@ word-at-requires-2 : tie.Need-word-at-requires-2
 word-at-requires-2 c κs = search needs
 
 sub-read-line : tie.Need-sub-read-line
-sub-read-line c = tag-part (c .before .before .before .before .args .i) (c .before .before .before .before .pre) .order
+sub-read-line c =
+    let start = c .before .before .before .before in
+    tag-part (start .args .i) (start .pre) .order
 
 part-read-line-start : tie.Need-part-read-line-start
-part-read-line-start c = tag-part (c .before .before .before .before .before .args .i) (c .before .before .before .before .before .pre) .order
+part-read-line-start c =
+    let start = c .before .before .before .before .before in
+    tag-part (start .args .i) (start .pre) .order
 
 part-read-line-end : tie.Need-part-read-line-end
-part-read-line-end c = tag-part (c .before .before .before .before .before .args .i) (c .before .before .before .before .before .pre) .end
+part-read-line-end c =
+    let start = c .before .before .before .before .before in
+    tag-part (start .args .i) (start .pre) .end
 
 mul-read-line : tie.Need-mul-read-line
-mul-read-line c = omega (arith, word-part (c .before .before .before .before .before .before .args .i) (c .before .before .before .before .before .before .pre) .order, word-part (c .before .before .before .before .before .before .args .i) (c .before .before .before .before .before .before .pre) .end, c .before .before .before .word-at .ensures, c .before .before .word-at2 .ensures)
+mul-read-line c =
+    let start = c .before .before .before .before .before .before in
+    let at-word-at = c .before .before .before in
+    omega (arith, word-part (start .args .i) (start .pre) .order, word-part (start .args .i) (start .pre) .end, at-word-at .word-at .ensures, c .before .before .word-at2 .ensures)
 
 sub-read-line-2 : tie.Need-sub-read-line-2
-sub-read-line-2 c = omega (arith, word-part (c .before .before .before .before .before .before .args .i) (c .before .before .before .before .before .before .pre) .order, c .before .before .before .word-at .ensures, c .before .before .word-at2 .ensures)
+sub-read-line-2 c =
+    let start = c .before .before .before .before .before .before in
+    let at-word-at = c .before .before .before in
+    omega (arith, word-part (start .args .i) (start .pre) .order, at-word-at .word-at .ensures, c .before .before .word-at2 .ensures)
 
 part-read-line-start-2 : tie.Need-part-read-line-start-2
-part-read-line-start-2 c = omega (arith, word-part (c .before .before .before .before .before .before .before .args .i) (c .before .before .before .before .before .before .before .pre) .order, c .before .before .before .before .word-at .ensures, c .before .before .before .word-at2 .ensures)
+part-read-line-start-2 c =
+    let start = c .before .before .before .before .before .before .before in
+    let at-word-at = c .before .before .before .before in
+    let at-word-at2 = c .before .before .before in
+    omega (arith, word-part (start .args .i) (start .pre) .order, at-word-at .word-at .ensures, at-word-at2 .word-at2 .ensures)
 
 part-read-line-end-2 : tie.Need-part-read-line-end-2
-part-read-line-end-2 c = omega (arith, word-part (c .before .before .before .before .before .before .before .args .i) (c .before .before .before .before .before .before .before .pre) .end, c .before .before .before .word-at2 .ensures)
+part-read-line-end-2 c =
+    let start = c .before .before .before .before .before .before .before in
+    let at-word-at2 = c .before .before .before in
+    omega (arith, word-part (start .args .i) (start .pre) .end, at-word-at2 .word-at2 .ensures)
 
 read-line-requires : tie.Need-read-line-requires
 read-line-requires c κs = search needs
@@ -61,7 +80,11 @@ same-length c = search needs
 
 returns : tie.Need-returns
 unfolding table sheetLimits limitsOn
-returns c = reads-by (c .before .before .before .before .before .before .before .before .before .before .before .before .args .text .now) (form-read (c .before .before .before .before .before .before .before .before .before .before .before .before .args .i) _ _ _ (c .before .before .before .before .before .before .before .before .before .before .before .before .pre) (c .before .before .before .before .before .before .before .before .before .word-at .ensures) (c .before .before .before .before .before .before .before .before .word-at2 .ensures) refl) (c .before .before .read-line .ensures)
+returns c =
+    let start = c .before .before .before .before .before .before .before .before .before .before .before .before in
+    let at-word-at = c .before .before .before .before .before .before .before .before .before in
+    let at-word-at2 = c .before .before .before .before .before .before .before .before in
+    reads-by (start .args .text .now) (form-read (start .args .i) _ _ _ (start .pre) (at-word-at .word-at .ensures) (at-word-at2 .word-at2 .ensures) refl) (c .before .before .read-line .ensures)
 
 pub read-line-at-spec : {M : Type 1} → statement M
 read-line-at-spec =

@@ -32,13 +32,25 @@ part-read-line-at-end : tie.Need-part-read-line-at-end Inv-loop μ-loop
 part-read-line-at-end c = search needs
 
 mul-read-line-at : tie.Need-mul-read-line-at Inv-loop μ-loop
-mul-read-line-at c = omega (arith, word-part (c .before .before .before .loop .i) (c .before .before .loop-test .taken) .order, word-part (c .before .before .before .loop .i) (c .before .before .loop-test .taken) .end, c .before .word-at .ensures, kept (c .before .before .before .loop .inv), c .before .before .before .before .before .before .pre)
+mul-read-line-at c =
+    let start = c .before .before .before .before .before .before in
+    let at-loop = c .before .before .before in
+    let at-loop-test = c .before .before in
+    omega (arith, word-part (at-loop .loop .i) (at-loop-test .loop-test .taken) .order, word-part (at-loop .loop .i) (at-loop-test .loop-test .taken) .end, c .before .word-at .ensures, kept (at-loop .loop .inv), start .pre)
 
 sub-read-line-at-2 : tie.Need-sub-read-line-at-2 Inv-loop μ-loop
-sub-read-line-at-2 c = omega (arith, word-part (c .before .before .before .loop .i) (c .before .before .loop-test .taken) .order, word-part (c .before .before .before .loop .i) (c .before .before .loop-test .taken) .end, c .before .word-at .ensures, kept (c .before .before .before .loop .inv), c .before .before .before .before .before .before .pre)
+sub-read-line-at-2 c =
+    let start = c .before .before .before .before .before .before in
+    let at-loop = c .before .before .before in
+    let at-loop-test = c .before .before in
+    omega (arith, word-part (at-loop .loop .i) (at-loop-test .loop-test .taken) .order, word-part (at-loop .loop .i) (at-loop-test .loop-test .taken) .end, c .before .word-at .ensures, kept (at-loop .loop .inv), start .pre)
 
 part-read-line-at-start-2 : tie.Need-part-read-line-at-start-2 Inv-loop μ-loop
-part-read-line-at-start-2 c = omega (arith, word-part (c .before .before .before .loop .i) (c .before .before .loop-test .taken) .order, word-part (c .before .before .before .loop .i) (c .before .before .loop-test .taken) .end, c .before .word-at .ensures, kept (c .before .before .before .loop .inv), c .before .before .before .before .before .before .pre)
+part-read-line-at-start-2 c =
+    let start = c .before .before .before .before .before .before in
+    let at-loop = c .before .before .before in
+    let at-loop-test = c .before .before in
+    omega (arith, word-part (at-loop .loop .i) (at-loop-test .loop-test .taken) .order, word-part (at-loop .loop .i) (at-loop-test .loop-test .taken) .end, c .before .word-at .ensures, kept (at-loop .loop .inv), start .pre)
 
 part-read-line-at-end-2 : tie.Need-part-read-line-at-end-2 Inv-loop μ-loop
 part-read-line-at-end-2 c = search needs
@@ -51,21 +63,39 @@ enum-known-refusal c = search needs
 
 add-t20 : tie.Need-add-t20 Inv-loop μ-loop
 add-t20 c =
-    let h = place-in (c .before .before .before .before .before .before .before .before .before .before .loop .inv) (c .before .before .before .before .before .before .before .before .before .loop-test .taken) (c .before .before .before .before .before .before .before .before .word-at .ensures) (c .before .before .before .before .before .read-line-at .ensures) in
+    let at-loop = c .before .before .before .before .before .before .before .before .before .before in
+    let at-loop-test = c .before .before .before .before .before .before .before .before .before in
+    let at-word-at = c .before .before .before .before .before .before .before .before in
+    let at-read-line-at = c .before .before .before .before .before in
+    let h = place-in (at-loop .loop .inv) (at-loop-test .loop-test .taken) (at-word-at .word-at .ensures) (at-read-line-at .read-line-at .ensures) in
     omega (arith, ap extent (c .before .refusal .given .1))
 
 same-length : tie.Need-same-length Inv-loop μ-loop
-same-length c = lines.same-length (c .before .before .before .before .before .before .before .before .before .before .loop .inv) (c .before .before .before .before .before .before .before .before .before .loop-test .taken) (c .before .before .before .before .before .before .before .before .word-at .ensures) (c .before .before .before .before .before .read-line-at .ensures)
+same-length c =
+    let at-loop = c .before .before .before .before .before .before .before .before .before .before in
+    let at-loop-test = c .before .before .before .before .before .before .before .before .before in
+    let at-word-at = c .before .before .before .before .before .before .before .before in
+    let at-read-line-at = c .before .before .before .before .before in
+    lines.same-length (at-loop .loop .inv) (at-loop-test .loop-test .taken) (at-word-at .word-at .ensures) (at-read-line-at .read-line-at .ensures)
 
 returns : tie.Need-returns Inv-loop μ-loop
-returns c = fault (c .before .before .before .before .before .before .before .before .before .before .loop .inv) (c .before .before .before .before .before .before .before .before .before .loop-test .taken) (c .before .before .before .before .before .before .before .before .word-at .ensures) (c .before .before .before .before .before .read-line-at .ensures) (c .before .refusal .given .1)
+returns c =
+    let at-loop = c .before .before .before .before .before .before .before .before .before .before in
+    let at-loop-test = c .before .before .before .before .before .before .before .before .before in
+    let at-word-at = c .before .before .before .before .before .before .before .before in
+    let at-read-line-at = c .before .before .before .before .before in
+    fault (at-loop .loop .inv) (at-loop-test .loop-test .taken) (at-word-at .word-at .ensures) (at-read-line-at .read-line-at .ensures) (c .before .refusal .given .1)
 
 enum-known-len : tie.Need-enum-known-len Inv-loop μ-loop
 enum-known-len c = search needs
 
 add-at : tie.Need-add-at Inv-loop μ-loop
 add-at c =
-    let h = place-in (c .before .before .before .before .before .before .before .before .before .before .loop .inv) (c .before .before .before .before .before .before .before .before .before .loop-test .taken) (c .before .before .before .before .before .before .before .before .word-at .ensures) (c .before .before .before .before .before .read-line-at .ensures) in
+    let at-loop = c .before .before .before .before .before .before .before .before .before .before in
+    let at-loop-test = c .before .before .before .before .before .before .before .before .before in
+    let at-word-at = c .before .before .before .before .before .before .before .before in
+    let at-read-line-at = c .before .before .before .before .before in
+    let h = place-in (at-loop .loop .inv) (at-loop-test .loop-test .taken) (at-word-at .word-at .ensures) (at-read-line-at .read-line-at .ensures) in
     omega (arith, ap extent (c .before .len .given .1))
 
 add-i : tie.Need-add-i Inv-loop μ-loop
@@ -75,7 +105,12 @@ loop-less : tie.Need-loop-less Inv-loop μ-loop
 loop-less c = search needs
 
 loop-again : tie.Need-loop-again Inv-loop μ-loop
-loop-again c = step (c .before .before .before .before .before .before .before .before .before .before .loop .inv) (c .before .before .before .before .before .before .before .before .before .loop-test .taken) (c .before .before .before .before .before .before .before .before .word-at .ensures) (c .before .before .before .before .before .read-line-at .ensures) (c .before .len .given .1)
+loop-again c =
+    let at-loop = c .before .before .before .before .before .before .before .before .before .before in
+    let at-loop-test = c .before .before .before .before .before .before .before .before .before in
+    let at-word-at = c .before .before .before .before .before .before .before .before in
+    let at-read-line-at = c .before .before .before .before .before in
+    step (at-loop .loop .inv) (at-loop-test .loop-test .taken) (at-word-at .word-at .ensures) (at-read-line-at .read-line-at .ensures) (c .before .len .given .1)
 
 same-length-2 : tie.Need-same-length-2 Inv-loop μ-loop
 same-length-2 c = kept (c .before .loop .inv)

@@ -44,17 +44,28 @@ enum-known-refusal c = search needs
 
 add-t27 : tie.Need-add-t27 Inv-loop μ-loop
 add-t27 c =
-    let h = place-in (c .before .before .before .before .before .before .before .before .before .before .loop .inv) (c .before .before .before .before .before .before .before .before .before .loop-test .taken) (c .before .before .before .before .read-line .ensures) in
+    let at-loop = c .before .before .before .before .before .before .before .before .before .before in
+    let at-loop-test = c .before .before .before .before .before .before .before .before .before in
+    let at-read-line = c .before .before .before .before in
+    let h = place-in (at-loop .loop .inv) (at-loop-test .loop-test .taken) (at-read-line .read-line .ensures) in
     omega (arith, ap extent (c .before .refusal .given .1))
 
 same-length : tie.Need-same-length Inv-loop μ-loop
-same-length c = powers-kept (c .before .before .before .before .before .before .before .before .before .before .loop .inv)
+same-length c =
+    let at-loop = c .before .before .before .before .before .before .before .before .before .before in
+    powers-kept (at-loop .loop .inv)
 
 same-length-2 : tie.Need-same-length-2 Inv-loop μ-loop
-same-length-2 c = weights-kept (c .before .before .before .before .before .before .before .before .before .before .loop .inv)
+same-length-2 c =
+    let at-loop = c .before .before .before .before .before .before .before .before .before .before in
+    weights-kept (at-loop .loop .inv)
 
 returns : tie.Need-returns Inv-loop μ-loop
-returns c = fault (c .before .before .before .before .before .before .before .before .before .before .loop .inv) (c .before .before .before .before .before .before .before .before .before .loop-test .taken) (c .before .before .before .before .read-line .ensures) (c .before .refusal .given .1)
+returns c =
+    let at-loop = c .before .before .before .before .before .before .before .before .before .before in
+    let at-loop-test = c .before .before .before .before .before .before .before .before .before in
+    let at-read-line = c .before .before .before .before in
+    fault (at-loop .loop .inv) (at-loop-test .loop-test .taken) (at-read-line .read-line .ensures) (c .before .refusal .given .1)
 
 enum-known-len : tie.Need-enum-known-len Inv-loop μ-loop
 enum-known-len c = search needs
@@ -66,7 +77,10 @@ mul-powers : tie.Need-mul-powers Inv-loop μ-loop
 mul-powers c = search needs
 
 slice-write-powers : tie.Need-slice-write-powers Inv-loop μ-loop
-slice-write-powers c = omega (arith, powers-kept (c .before .before .before .before .before .before .before .before .before .before .loop .inv), weights-kept (c .before .before .before .before .before .before .before .before .before .before .loop .inv), c .before .before .before .before .before .before .before .before .before .before .before .before .before .before .pre .0, c .before .before .before .before .before .before .before .before .before .before .before .before .before .before .pre .1)
+slice-write-powers c =
+    let start = c .before .before .before .before .before .before .before .before .before .before .before .before .before .before in
+    let at-loop = c .before .before .before .before .before .before .before .before .before .before in
+    omega (arith, powers-kept (at-loop .loop .inv), weights-kept (at-loop .loop .inv), start .pre .0, start .pre .1)
 
 array-read-weights : tie.Need-array-read-weights Inv-loop μ-loop
 array-read-weights c = search needs
@@ -75,36 +89,58 @@ mul-weights : tie.Need-mul-weights Inv-loop μ-loop
 mul-weights c = search needs
 
 slice-write-weights : tie.Need-slice-write-weights Inv-loop μ-loop
-slice-write-weights c = omega (arith, powers-kept (c .before .before .before .before .before .before .before .before .before .before .loop .inv), weights-kept (c .before .before .before .before .before .before .before .before .before .before .loop .inv), c .before .before .before .before .before .before .before .before .before .before .before .before .before .before .pre .0, c .before .before .before .before .before .before .before .before .before .before .before .before .before .before .pre .1)
+slice-write-weights c =
+    let start = c .before .before .before .before .before .before .before .before .before .before .before .before .before .before in
+    let at-loop = c .before .before .before .before .before .before .before .before .before .before in
+    omega (arith, powers-kept (at-loop .loop .inv), weights-kept (at-loop .loop .inv), start .pre .0, start .pre .1)
 
 array-read-next : tie.Need-array-read-next Inv-loop μ-loop
 array-read-next c = search needs
 
 add-next : tie.Need-add-next Inv-loop μ-loop
-add-next c = omega (arith, power-high (c .before .before .before .before .before .before .before .before .before .before .loop .inv) (c .before .before .before .before .before .before .before .before .before .loop-test .taken) (c .before .before .before .before .read-line .ensures) (c .before .len .given .1))
+add-next c =
+    let at-loop = c .before .before .before .before .before .before .before .before .before .before in
+    let at-loop-test = c .before .before .before .before .before .before .before .before .before in
+    let at-read-line = c .before .before .before .before in
+    omega (arith, power-high (at-loop .loop .inv) (at-loop-test .loop-test .taken) (at-read-line .read-line .ensures) (c .before .len .given .1))
 
 add-at : tie.Need-add-at Inv-loop μ-loop
 add-at c =
-    let h = place-in (c .before .before .before .before .before .before .before .before .before .before .loop .inv) (c .before .before .before .before .before .before .before .before .before .loop-test .taken) (c .before .before .before .before .read-line .ensures) in
+    let at-loop = c .before .before .before .before .before .before .before .before .before .before in
+    let at-loop-test = c .before .before .before .before .before .before .before .before .before in
+    let at-read-line = c .before .before .before .before in
+    let h = place-in (at-loop .loop .inv) (at-loop-test .loop-test .taken) (at-read-line .read-line .ensures) in
     omega (arith, ap extent (c .before .len .given .1))
 
 add-rows : tie.Need-add-rows Inv-loop μ-loop
 add-rows c = search needs
 
 same-length-3 : tie.Need-same-length-3 Inv-loop μ-loop
-same-length-3 c = simp length-set (powers-kept (c .before .before .before .before .before .before .before .before .before .before .before .loop .inv))
+same-length-3 c =
+    let at-loop = c .before .before .before .before .before .before .before .before .before .before .before in
+    simp length-set (powers-kept (at-loop .loop .inv))
 
 same-length-4 : tie.Need-same-length-4 Inv-loop μ-loop
-same-length-4 c = simp length-set (weights-kept (c .before .before .before .before .before .before .before .before .before .before .before .loop .inv))
+same-length-4 c =
+    let at-loop = c .before .before .before .before .before .before .before .before .before .before .before in
+    simp length-set (weights-kept (at-loop .loop .inv))
 
 returns-2 : tie.Need-returns-2 Inv-loop μ-loop
-returns-2 c = last (c .before .before .before .before .before .before .before .before .before .before .before .loop .inv) (c .before .before .before .before .before .before .before .before .before .before .loop-test .taken) (c .before .before .before .before .before .read-line .ensures) (c .before .before .len .given .1) (c .if1 .taken)
+returns-2 c =
+    let at-loop = c .before .before .before .before .before .before .before .before .before .before .before in
+    let at-loop-test = c .before .before .before .before .before .before .before .before .before .before in
+    let at-read-line = c .before .before .before .before .before in
+    last (at-loop .loop .inv) (at-loop-test .loop-test .taken) (at-read-line .read-line .ensures) (c .before .before .len .given .1) (c .if1 .taken)
 
 loop-less : tie.Need-loop-less Inv-loop μ-loop
 loop-less c = search needs
 
 loop-again : tie.Need-loop-again Inv-loop μ-loop
-loop-again c = step (c .before .before .before .before .before .before .before .before .before .before .before .loop .inv) (c .before .before .before .before .before .before .before .before .before .before .loop-test .taken) (c .before .before .before .before .before .read-line .ensures) (c .before .before .len .given .1) (c .if1 .left)
+loop-again c =
+    let at-loop = c .before .before .before .before .before .before .before .before .before .before .before in
+    let at-loop-test = c .before .before .before .before .before .before .before .before .before .before in
+    let at-read-line = c .before .before .before .before .before in
+    step (at-loop .loop .inv) (at-loop-test .loop-test .taken) (at-read-line .read-line .ensures) (c .before .before .len .given .1) (c .if1 .left)
 
 same-length-5 : tie.Need-same-length-5 Inv-loop μ-loop
 same-length-5 c = powers-kept (c .before .loop .inv)

@@ -17,10 +17,16 @@ enum-told : tie.Need-enum-told
 enum-told c = search needs
 
 returns : tie.Need-returns
-returns c = settled-refused (c .before .before .before .before .before .before .before .args .text .now) _ _ _ (rw (c .before .refusal .given .1) at (c .before .before .before .before .read-words .ensures))
+returns c =
+    let start = c .before .before .before .before .before .before .before in
+    let at-read-words = c .before .before .before .before in
+    settled-refused (start .args .text .now) _ _ _ (rw (c .before .refusal .given .1) at (at-read-words .read-words .ensures))
 
 returns-2 : tie.Need-returns-2
-returns-2 c = settled-read (c .before .before .before .before .before .before .args .text .now) _ _ _ (rw (c .enum-told .given .1) at (c .before .before .before .read-words .ensures))
+returns-2 c =
+    let start = c .before .before .before .before .before .before in
+    let at-read-words = c .before .before .before in
+    settled-read (start .args .text .now) _ _ _ (rw (c .enum-told .given .1) at (at-read-words .read-words .ensures))
 
 pub read-sheet-spec : {M : Type 1} → statement M
 read-sheet-spec =

@@ -12,10 +12,14 @@ use Rattle.sheet.proofs.read_words.Statement.{statement}
 use Rattle.sheet.proofs.read_words.Tie as tie
 
 returns : tie.Need-returns
-returns c = reads-long (c .before .before .before .args .text .now) _ (c .if1 .taken)
+returns c =
+    let start = c .before .before .before in
+    reads-long (start .args .text .now) _ (c .if1 .taken)
 
 read-lines-requires : tie.Need-read-lines-requires
-read-lines-requires c κs = ap length (c .before .before .before .before .pre) ∙ length-replicate {A = ℕ} textWords 0
+read-lines-requires c κs =
+    let start = c .before .before .before .before in
+    ap length (start .pre) ∙ length-replicate {A = ℕ} textWords 0
 
 enum-known-refusal : tie.Need-enum-known-refusal
 enum-known-refusal c = search needs
@@ -24,55 +28,99 @@ enum-known-at : tie.Need-enum-known-at
 enum-known-at c = search needs
 
 sub-read-rest : tie.Need-sub-read-rest
-sub-read-rest c = lines-in (c .before .before .before .before .before .before .before .before .before .before .args .text .now) (rw (c .before .at .given .1) at (c .before .before .before .before .before .read-lines .ensures))
+sub-read-rest c =
+    let start = c .before .before .before .before .before .before .before .before .before .before in
+    let at-read-lines = c .before .before .before .before .before in
+    lines-in (start .args .text .now) (rw (c .before .at .given .1) at (at-read-lines .read-lines .ensures))
 
 part-read-rest-start : tie.Need-part-read-rest-start
-part-read-rest-start c = lines-in (c .before .before .before .before .before .before .before .before .before .before .args .text .now) (rw (c .before .at .given .1) at (c .before .before .before .before .before .read-lines .ensures))
+part-read-rest-start c =
+    let start = c .before .before .before .before .before .before .before .before .before .before in
+    let at-read-lines = c .before .before .before .before .before in
+    lines-in (start .args .text .now) (rw (c .before .at .given .1) at (at-read-lines .read-lines .ensures))
 
 part-read-rest-end : tie.Need-part-read-rest-end
 part-read-rest-end c = search needs
 
 sub-read-rest-2 : tie.Need-sub-read-rest-2
-sub-read-rest-2 c = omega (arith, ap length (c .before .before .before .before .before .before .before .before .before .before .before .pre) ∙ length-replicate {A = ℕ} textWords 0, c .before .before .before .before .before .before .read-lines .kept .1 .0)
+sub-read-rest-2 c =
+    let start = c .before .before .before .before .before .before .before .before .before .before .before in
+    let at-read-lines = c .before .before .before .before .before .before in
+    omega (arith, ap length (start .pre) ∙ length-replicate {A = ℕ} textWords 0, at-read-lines .read-lines .kept .1 .0)
 
 part-read-rest-start-2 : tie.Need-part-read-rest-start-2
-part-read-rest-start-2 c = omega (arith, ap length (c .before .before .before .before .before .before .before .before .before .before .before .pre) ∙ length-replicate {A = ℕ} textWords 0, c .before .before .before .before .before .before .read-lines .kept .1 .0)
+part-read-rest-start-2 c =
+    let start = c .before .before .before .before .before .before .before .before .before .before .before in
+    let at-read-lines = c .before .before .before .before .before .before in
+    omega (arith, ap length (start .pre) ∙ length-replicate {A = ℕ} textWords 0, at-read-lines .read-lines .kept .1 .0)
 
 part-read-rest-end-2 : tie.Need-part-read-rest-end-2
 part-read-rest-end-2 c = search needs
 
 read-rest-requires : tie.Need-read-rest-requires
-read-rest-requires c κs = rest-zeros (c .before .before .before .before .before .before .before .before .before .before .before .before .args .text .now) _ _ _ (c .before .before .before .before .before .before .before .before .before .before .before .before .pre) (rw (c .before .before .before .at .given .1) at (c .before .before .before .before .before .before .before .read-lines .ensures))
+read-rest-requires c κs =
+    let start = c .before .before .before .before .before .before .before .before .before .before .before .before in
+    let at-read-lines = c .before .before .before .before .before .before .before in
+    let at-at = c .before .before .before in
+    rest-zeros (start .args .text .now) _ _ _ (start .pre) (rw (at-at .at .given .1) at (at-read-lines .read-lines .ensures))
 
 enum-known-refusal-2 : tie.Need-enum-known-refusal-2
 enum-known-refusal-2 c = search needs
 
 add-t25 : tie.Need-add-t25
-add-t25 c = omega (arith, ap extent (c .before .refusal2 .given .1), rest-in (c .before .before .before .before .before .before .before .before .before .before .before .before .before .before .before .before .before .before .args .text .now) (c .before .before .before .before .before .before .before .before .before .before .before .before .before .before .before .if1 .left) (rw (c .before .before .before .before .before .before .before .before .before .at .given .1) at (c .before .before .before .before .before .before .before .before .before .before .before .before .before .read-lines .ensures)) (c .before .before .before .before .before .read-rest .ensures))
+add-t25 c =
+    let start = c .before .before .before .before .before .before .before .before .before .before .before .before .before .before .before .before .before .before in
+    let at-if1 = c .before .before .before .before .before .before .before .before .before .before .before .before .before .before .before in
+    let at-read-lines = c .before .before .before .before .before .before .before .before .before .before .before .before .before in
+    let at-at = c .before .before .before .before .before .before .before .before .before in
+    let at-read-rest = c .before .before .before .before .before in
+    omega (arith, ap extent (c .before .refusal2 .given .1), rest-in (start .args .text .now) (at-if1 .if1 .left) (rw (at-at .at .given .1) at (at-read-lines .read-lines .ensures)) (at-read-rest .read-rest .ensures))
 
 enum-known-len : tie.Need-enum-known-len
 enum-known-len c = search needs
 
 add-t26 : tie.Need-add-t26
-add-t26 c = omega (arith, ap extent (c .before .len .given .1), rest-in (c .before .before .before .before .before .before .before .before .before .before .before .before .before .before .before .before .before .before .args .text .now) (c .before .before .before .before .before .before .before .before .before .before .before .before .before .before .before .if1 .left) (rw (c .before .before .before .before .before .before .before .before .before .at .given .1) at (c .before .before .before .before .before .before .before .before .before .before .before .before .before .read-lines .ensures)) (c .before .before .before .before .before .read-rest .ensures))
+add-t26 c =
+    let start = c .before .before .before .before .before .before .before .before .before .before .before .before .before .before .before .before .before .before in
+    let at-if1 = c .before .before .before .before .before .before .before .before .before .before .before .before .before .before .before in
+    let at-read-lines = c .before .before .before .before .before .before .before .before .before .before .before .before .before in
+    let at-at = c .before .before .before .before .before .before .before .before .before in
+    let at-read-rest = c .before .before .before .before .before in
+    omega (arith, ap extent (c .before .len .given .1), rest-in (start .args .text .now) (at-if1 .if1 .left) (rw (at-at .at .given .1) at (at-read-lines .read-lines .ensures)) (at-read-rest .read-rest .ensures))
 
 same-length : tie.Need-same-length
 same-length c = search needs
 
 returns-2 : tie.Need-returns-2
-returns-2 c = reads-broken (c .before .before .before .before .before .before .before .before .before .before .args .text .now) (c .before .before .before .before .before .before .before .if1 .left) (rw (c .before .refusal .given .1) at (c .before .before .before .before .before .read-lines .ensures))
+returns-2 c =
+    let start = c .before .before .before .before .before .before .before .before .before .before in
+    let at-if1 = c .before .before .before .before .before .before .before in
+    let at-read-lines = c .before .before .before .before .before in
+    reads-broken (start .args .text .now) (at-if1 .if1 .left) (rw (c .before .refusal .given .1) at (at-read-lines .read-lines .ensures))
 
 same-length-2 : tie.Need-same-length-2
 same-length-2 c = search needs
 
 returns-3 : tie.Need-returns-3
-returns-3 c = rw (c .before .refusal2 .given .1) at (reads-rest (c .before .before .before .before .before .before .before .before .before .before .before .before .before .before .before .before .before .before .args .text .now) (c .before .before .before .before .before .before .before .before .before .before .before .before .before .before .before .if1 .left) (rw (c .before .before .before .before .before .before .before .before .before .at .given .1) at (c .before .before .before .before .before .before .before .before .before .before .before .before .before .read-lines .ensures)) (c .before .before .before .before .before .read-rest .ensures))
+returns-3 c =
+    let start = c .before .before .before .before .before .before .before .before .before .before .before .before .before .before .before .before .before .before in
+    let at-if1 = c .before .before .before .before .before .before .before .before .before .before .before .before .before .before .before in
+    let at-read-lines = c .before .before .before .before .before .before .before .before .before .before .before .before .before in
+    let at-at = c .before .before .before .before .before .before .before .before .before in
+    let at-read-rest = c .before .before .before .before .before in
+    rw (c .before .refusal2 .given .1) at (reads-rest (start .args .text .now) (at-if1 .if1 .left) (rw (at-at .at .given .1) at (at-read-lines .read-lines .ensures)) (at-read-rest .read-rest .ensures))
 
 same-length-3 : tie.Need-same-length-3
 same-length-3 c = search needs
 
 returns-4 : tie.Need-returns-4
-returns-4 c = rw (c .before .len .given .1) at (reads-rest (c .before .before .before .before .before .before .before .before .before .before .before .before .before .before .before .before .before .before .args .text .now) (c .before .before .before .before .before .before .before .before .before .before .before .before .before .before .before .if1 .left) (rw (c .before .before .before .before .before .before .before .before .before .at .given .1) at (c .before .before .before .before .before .before .before .before .before .before .before .before .before .read-lines .ensures)) (c .before .before .before .before .before .read-rest .ensures))
+returns-4 c =
+    let start = c .before .before .before .before .before .before .before .before .before .before .before .before .before .before .before .before .before .before in
+    let at-if1 = c .before .before .before .before .before .before .before .before .before .before .before .before .before .before .before in
+    let at-read-lines = c .before .before .before .before .before .before .before .before .before .before .before .before .before in
+    let at-at = c .before .before .before .before .before .before .before .before .before in
+    let at-read-rest = c .before .before .before .before .before in
+    rw (c .before .len .given .1) at (reads-rest (start .args .text .now) (at-if1 .if1 .left) (rw (at-at .at .given .1) at (at-read-lines .read-lines .ensures)) (at-read-rest .read-rest .ensures))
 
 pub read-words-spec : {M : Type 1} → statement M
 read-words-spec =

@@ -9,7 +9,9 @@ use Rattle.sheet.proofs.write_fit.Statement.{statement}
 use Rattle.sheet.proofs.write_fit.Tie as tie
 
 returns : tie.Need-returns
-returns c = rw (fit-none (c .before .before .args .line) (c .before .before .args .weight) (c .if1 .taken)) (laid-none _ _)
+returns c =
+    let start = c .before .before in
+    rw (fit-none (start .args .line) (start .args .weight) (c .if1 .taken)) (laid-none _ _)
 
 slice-aggregate-write-line : tie.Need-slice-aggregate-write-line
 slice-aggregate-write-line c = search needs
@@ -33,13 +35,19 @@ write-line-requires : tie.Need-write-line-requires
 write-line-requires c κs = search needs
 
 add-result : tie.Need-add-result
-add-result c = omega (arith, c .before .before .before .before .before .before .before .before .before .pre, c .before .before .write-line .ensures .end, ap length (fit-some (c .before .before .before .before .before .before .before .before .before .args .line) (c .before .before .before .before .before .before .before .before .before .args .weight) (c .before .before .before .before .before .before .before .if1 .left)), c .before .before .before .before .before .before .before .before .before .good)
+add-result c =
+    let start = c .before .before .before .before .before .before .before .before .before in
+    let at-if1 = c .before .before .before .before .before .before .before in
+    omega (arith, start .pre, c .before .before .write-line .ensures .end, ap length (fit-some (start .args .line) (start .args .weight) (at-if1 .if1 .left)), start .good)
 
 same-length : tie.Need-same-length
 same-length c = search needs
 
 returns-2 : tie.Need-returns-2
-returns-2 c = rw (fit-some (c .before .before .before .before .before .before .before .before .before .args .line) (c .before .before .before .before .before .before .before .before .before .args .weight) (c .before .before .before .before .before .before .before .if1 .left)) (laid-part _ (c .before .before .before .before .before .before .before .before .before .args .out .now) _ (c .before .before .before .before .before .before .before .before .before .args .at) _ (c .before .before .write-line .ensures))
+returns-2 c =
+    let start = c .before .before .before .before .before .before .before .before .before in
+    let at-if1 = c .before .before .before .before .before .before .before in
+    rw (fit-some (start .args .line) (start .args .weight) (at-if1 .if1 .left)) (laid-part _ (start .args .out .now) _ (start .args .at) _ (c .before .before .write-line .ensures))
 
 pub write-fit-spec : {M : Type 1} → statement M
 write-fit-spec =

@@ -23,10 +23,17 @@ shared-slice-read-write-fit : tie.Need-shared-slice-read-write-fit Inv-loop μ-l
 shared-slice-read-write-fit c = search needs
 
 write-fit-requires : tie.Need-write-fit-requires Inv-loop μ-loop
-write-fit-requires c κs = fit-in (c .before .before .before .loop .inv) (c .before .before .loop-test .taken) (c .before .before .before .before .before .before .pre .1)
+write-fit-requires c κs =
+    let start = c .before .before .before .before .before .before in
+    let at-loop = c .before .before .before in
+    fit-in (at-loop .loop .inv) (c .before .before .loop-test .taken) (start .pre .1)
 
 add-line : tie.Need-add-line Inv-loop μ-loop
-add-line c = omega (arith, c .before .before .before .before .before .before .loop .inv .numbered, c .before .before .before .before .before .loop-test .taken, c .before .before .before .before .before .before .before .before .before .pre .0)
+add-line c =
+    let start = c .before .before .before .before .before .before .before .before .before in
+    let at-loop = c .before .before .before .before .before .before in
+    let at-loop-test = c .before .before .before .before .before in
+    omega (arith, at-loop .loop .inv .numbered, at-loop-test .loop-test .taken, start .pre .0)
 
 add-i : tie.Need-add-i Inv-loop μ-loop
 add-i c = search needs
@@ -35,7 +42,10 @@ loop-less : tie.Need-loop-less Inv-loop μ-loop
 loop-less c = search needs
 
 loop-again : tie.Need-loop-again Inv-loop μ-loop
-loop-again c = fit-step (c .before .before .before .before .before .before .loop .inv) (c .before .before .before .before .before .loop-test .taken) (c .before .before .write-fit .ensures)
+loop-again c =
+    let at-loop = c .before .before .before .before .before .before in
+    let at-loop-test = c .before .before .before .before .before in
+    fit-step (at-loop .loop .inv) (at-loop-test .loop-test .taken) (c .before .before .write-fit .ensures)
 
 same-length : tie.Need-same-length Inv-loop μ-loop
 same-length c = laid-length (c .before .loop .inv .laid)

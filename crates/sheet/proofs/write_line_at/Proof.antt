@@ -33,25 +33,44 @@ word-at-requires-2 : tie.Need-word-at-requires-2
 word-at-requires-2 c κs = search needs
 
 sub-write-line : tie.Need-sub-write-line
-sub-write-line c = tag-part (c .before .before .before .before .args .i) (c .before .before .before .before .pre) .order
+sub-write-line c =
+    let start = c .before .before .before .before in
+    tag-part (start .args .i) (start .pre) .order
 
 part-write-line-start : tie.Need-part-write-line-start
-part-write-line-start c = tag-part (c .before .before .before .before .before .args .i) (c .before .before .before .before .before .pre) .order
+part-write-line-start c =
+    let start = c .before .before .before .before .before in
+    tag-part (start .args .i) (start .pre) .order
 
 part-write-line-end : tie.Need-part-write-line-end
-part-write-line-end c = tag-part (c .before .before .before .before .before .args .i) (c .before .before .before .before .before .pre) .end
+part-write-line-end c =
+    let start = c .before .before .before .before .before in
+    tag-part (start .args .i) (start .pre) .end
 
 mul-write-line : tie.Need-mul-write-line
-mul-write-line c = omega (arith, word-part (c .before .before .before .before .before .before .args .i) (c .before .before .before .before .before .before .pre) .order, word-part (c .before .before .before .before .before .before .args .i) (c .before .before .before .before .before .before .pre) .end, c .before .before .before .word-at .ensures, c .before .before .word-at2 .ensures)
+mul-write-line c =
+    let start = c .before .before .before .before .before .before in
+    let at-word-at = c .before .before .before in
+    omega (arith, word-part (start .args .i) (start .pre) .order, word-part (start .args .i) (start .pre) .end, at-word-at .word-at .ensures, c .before .before .word-at2 .ensures)
 
 sub-write-line-2 : tie.Need-sub-write-line-2
-sub-write-line-2 c = omega (arith, word-part (c .before .before .before .before .before .before .args .i) (c .before .before .before .before .before .before .pre) .order, c .before .before .before .word-at .ensures, c .before .before .word-at2 .ensures)
+sub-write-line-2 c =
+    let start = c .before .before .before .before .before .before in
+    let at-word-at = c .before .before .before in
+    omega (arith, word-part (start .args .i) (start .pre) .order, at-word-at .word-at .ensures, c .before .before .word-at2 .ensures)
 
 part-write-line-start-2 : tie.Need-part-write-line-start-2
-part-write-line-start-2 c = omega (arith, word-part (c .before .before .before .before .before .before .before .args .i) (c .before .before .before .before .before .before .before .pre) .order, c .before .before .before .before .word-at .ensures, c .before .before .before .word-at2 .ensures)
+part-write-line-start-2 c =
+    let start = c .before .before .before .before .before .before .before in
+    let at-word-at = c .before .before .before .before in
+    let at-word-at2 = c .before .before .before in
+    omega (arith, word-part (start .args .i) (start .pre) .order, at-word-at .word-at .ensures, at-word-at2 .word-at2 .ensures)
 
 part-write-line-end-2 : tie.Need-part-write-line-end-2
-part-write-line-end-2 c = omega (arith, word-part (c .before .before .before .before .before .before .before .args .i) (c .before .before .before .before .before .before .before .pre) .end, c .before .before .before .word-at2 .ensures)
+part-write-line-end-2 c =
+    let start = c .before .before .before .before .before .before .before in
+    let at-word-at2 = c .before .before .before in
+    omega (arith, word-part (start .args .i) (start .pre) .end, at-word-at2 .word-at2 .ensures)
 
 write-line-requires : tie.Need-write-line-requires
 write-line-requires c κs = search needs
@@ -61,7 +80,11 @@ same-length c = search needs
 
 returns : tie.Need-returns
 unfolding table sheetLimits limitsOn
-returns c = laid-by (c .before .before .before .before .before .before .before .before .before .before .before .before .args .numbers .now) (form-read (c .before .before .before .before .before .before .before .before .before .before .before .before .args .i) _ _ _ (c .before .before .before .before .before .before .before .before .before .before .before .before .pre) (c .before .before .before .before .before .before .before .before .before .word-at .ensures) (c .before .before .before .before .before .before .before .before .word-at2 .ensures) refl) (c .before .before .write-line .ensures)
+returns c =
+    let start = c .before .before .before .before .before .before .before .before .before .before .before .before in
+    let at-word-at = c .before .before .before .before .before .before .before .before .before in
+    let at-word-at2 = c .before .before .before .before .before .before .before .before in
+    laid-by (start .args .numbers .now) (form-read (start .args .i) _ _ _ (start .pre) (at-word-at .word-at .ensures) (at-word-at2 .word-at2 .ensures) refl) (c .before .before .write-line .ensures)
 
 pub write-line-at-spec : {M : Type 1} → statement M
 write-line-at-spec =

@@ -20,22 +20,40 @@ word-at-requires : tie.Need-word-at-requires Inv-loop μ-loop
 word-at-requires c κs = search needs
 
 mul-write-line-at : tie.Need-mul-write-line-at Inv-loop μ-loop
-mul-write-line-at c = omega (arith, word-part (c .before .before .loop .i) (c .before .loop-test .taken) .order, word-part (c .before .before .loop .i) (c .before .loop-test .taken) .end, c .word-at .ensures, c .before .before .before .before .before .pre .0)
+mul-write-line-at c =
+    let start = c .before .before .before .before .before in
+    let at-loop = c .before .before in
+    let at-loop-test = c .before in
+    omega (arith, word-part (at-loop .loop .i) (at-loop-test .loop-test .taken) .order, word-part (at-loop .loop .i) (at-loop-test .loop-test .taken) .end, c .word-at .ensures, start .pre .0)
 
 sub-write-line-at : tie.Need-sub-write-line-at Inv-loop μ-loop
-sub-write-line-at c = omega (arith, word-part (c .before .before .loop .i) (c .before .loop-test .taken) .order, word-part (c .before .before .loop .i) (c .before .loop-test .taken) .end, c .word-at .ensures, c .before .before .before .before .before .pre .0)
+sub-write-line-at c =
+    let start = c .before .before .before .before .before in
+    let at-loop = c .before .before in
+    let at-loop-test = c .before in
+    omega (arith, word-part (at-loop .loop .i) (at-loop-test .loop-test .taken) .order, word-part (at-loop .loop .i) (at-loop-test .loop-test .taken) .end, c .word-at .ensures, start .pre .0)
 
 part-write-line-at-start : tie.Need-part-write-line-at-start Inv-loop μ-loop
-part-write-line-at-start c = omega (arith, word-part (c .before .before .loop .i) (c .before .loop-test .taken) .order, word-part (c .before .before .loop .i) (c .before .loop-test .taken) .end, c .word-at .ensures, c .before .before .before .before .before .pre .0)
+part-write-line-at-start c =
+    let start = c .before .before .before .before .before in
+    let at-loop = c .before .before in
+    let at-loop-test = c .before in
+    omega (arith, word-part (at-loop .loop .i) (at-loop-test .loop-test .taken) .order, word-part (at-loop .loop .i) (at-loop-test .loop-test .taken) .end, c .word-at .ensures, start .pre .0)
 
 part-write-line-at-end : tie.Need-part-write-line-at-end Inv-loop μ-loop
 part-write-line-at-end c = search needs
 
 sub-write-line-at-2 : tie.Need-sub-write-line-at-2 Inv-loop μ-loop
-sub-write-line-at-2 c = place-in (c .before .before .before .loop .inv) (c .before .before .before .before .before .before .pre .1)
+sub-write-line-at-2 c =
+    let start = c .before .before .before .before .before .before in
+    let at-loop = c .before .before .before in
+    place-in (at-loop .loop .inv) (start .pre .1)
 
 part-write-line-at-start-2 : tie.Need-part-write-line-at-start-2 Inv-loop μ-loop
-part-write-line-at-start-2 c = place-in (c .before .before .before .loop .inv) (c .before .before .before .before .before .before .pre .1)
+part-write-line-at-start-2 c =
+    let start = c .before .before .before .before .before .before in
+    let at-loop = c .before .before .before in
+    place-in (at-loop .loop .inv) (start .pre .1)
 
 part-write-line-at-end-2 : tie.Need-part-write-line-at-end-2 Inv-loop μ-loop
 part-write-line-at-end-2 c = search needs
@@ -45,8 +63,12 @@ write-line-at-requires c κs = search needs
 
 add-at : tie.Need-add-at Inv-loop μ-loop
 add-at c =
-    let s = step (c .before .before .before .before .before .before .before .loop .inv) (c .before .before .before .before .before .before .loop-test .taken) (c .before .before .before .before .before .word-at .ensures) (c .before .before .write-line-at .ensures) in
-    omega (arith, place-in s (c .before .before .before .before .before .before .before .before .before .before .pre .1), laid-length (s .laid), c .before .before .before .before .before .before .before .before .before .before .good)
+    let start = c .before .before .before .before .before .before .before .before .before .before in
+    let at-loop = c .before .before .before .before .before .before .before in
+    let at-loop-test = c .before .before .before .before .before .before in
+    let at-word-at = c .before .before .before .before .before in
+    let s = step (at-loop .loop .inv) (at-loop-test .loop-test .taken) (at-word-at .word-at .ensures) (c .before .before .write-line-at .ensures) in
+    omega (arith, place-in s (start .pre .1), laid-length (s .laid), start .good)
 
 add-i : tie.Need-add-i Inv-loop μ-loop
 add-i c = search needs
@@ -55,7 +77,11 @@ loop-less : tie.Need-loop-less Inv-loop μ-loop
 loop-less c = search needs
 
 loop-again : tie.Need-loop-again Inv-loop μ-loop
-loop-again c = step (c .before .before .before .before .before .before .before .loop .inv) (c .before .before .before .before .before .before .loop-test .taken) (c .before .before .before .before .before .word-at .ensures) (c .before .before .write-line-at .ensures)
+loop-again c =
+    let at-loop = c .before .before .before .before .before .before .before in
+    let at-loop-test = c .before .before .before .before .before .before in
+    let at-word-at = c .before .before .before .before .before in
+    step (at-loop .loop .inv) (at-loop-test .loop-test .taken) (at-word-at .word-at .ensures) (c .before .before .write-line-at .ensures)
 
 same-length : tie.Need-same-length Inv-loop μ-loop
 same-length c = laid-length (c .before .loop .inv .laid)

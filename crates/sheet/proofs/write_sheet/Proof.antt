@@ -23,37 +23,66 @@ slice-aggregate-write-words c = search needs
 
 write-words-requires : tie.Need-write-words-requires
 unfolding table sheetLimits limitsOn
-write-words-requires c κs = (search needs, text-most (c .before .before .before .before .before .before .before .args .sheet .now) (sym (ap (λ (ls : List Limit). allHold ls 0 (c .before .before .before .before .before .before .before .args .sheet .now)) table-limits) ∙ sym (c .before .before .before .all-hold .ensures) ∙ c .before .before .if1 .taken))
+write-words-requires c κs =
+    let start = c .before .before .before .before .before .before .before in
+    let at-all-hold = c .before .before .before in
+    (search needs, text-most (start .args .sheet .now) (sym (ap (λ (ls : List Limit). allHold ls 0 (start .args .sheet .now)) table-limits) ∙ sym (at-all-hold .all-hold .ensures) ∙ c .before .before .if1 .taken))
 
 returns : tie.Need-returns
 unfolding table sheetLimits limitsOn
-returns c = settled-short (c .before .before .before .before .before .before .before .before .before .before .args .sheet .now) (c .before .before .before .before .before .before .before .before .before .before .args .out .now) (sym (ap (λ (ls : List Limit). allHold ls 0 (c .before .before .before .before .before .before .before .before .before .before .args .sheet .now)) table-limits) ∙ sym (c .before .before .before .before .before .before .all-hold .ensures) ∙ c .before .before .before .before .before .if1 .taken) (c .before .before .write-words .ensures) (c .if2 .taken)
+returns c =
+    let start = c .before .before .before .before .before .before .before .before .before .before in
+    let at-all-hold = c .before .before .before .before .before .before in
+    let at-if1 = c .before .before .before .before .before in
+    settled-short (start .args .sheet .now) (start .args .out .now) (sym (ap (λ (ls : List Limit). allHold ls 0 (start .args .sheet .now)) table-limits) ∙ sym (at-all-hold .all-hold .ensures) ∙ at-if1 .if1 .taken) (c .before .before .write-words .ensures) (c .if2 .taken)
 
 array-share-prefix-bytes : tie.Need-array-share-prefix-bytes
 unfolding table sheetLimits limitsOn
-array-share-prefix-bytes c = written-in (c .before .before .before .before .before .before .before .before .before .before .args .sheet .now) (c .before .before .before .before .before .before .before .before .before .before .args .out .now) (sym (ap (λ (ls : List Limit). allHold ls 0 (c .before .before .before .before .before .before .before .before .before .before .args .sheet .now)) table-limits) ∙ sym (c .before .before .before .before .before .before .all-hold .ensures) ∙ c .before .before .before .before .before .if1 .taken) (c .before .before .write-words .ensures) (text-most (c .before .before .before .before .before .before .before .before .before .before .args .sheet .now) (sym (ap (λ (ls : List Limit). allHold ls 0 (c .before .before .before .before .before .before .before .before .before .before .args .sheet .now)) table-limits) ∙ sym (c .before .before .before .before .before .before .all-hold .ensures) ∙ c .before .before .before .before .before .if1 .taken))
+array-share-prefix-bytes c =
+    let start = c .before .before .before .before .before .before .before .before .before .before in
+    let at-all-hold = c .before .before .before .before .before .before in
+    let at-if1 = c .before .before .before .before .before in
+    written-in (start .args .sheet .now) (start .args .out .now) (sym (ap (λ (ls : List Limit). allHold ls 0 (start .args .sheet .now)) table-limits) ∙ sym (at-all-hold .all-hold .ensures) ∙ at-if1 .if1 .taken) (c .before .before .write-words .ensures) (text-most (start .args .sheet .now) (sym (ap (λ (ls : List Limit). allHold ls 0 (start .args .sheet .now)) table-limits) ∙ sym (at-all-hold .all-hold .ensures) ∙ at-if1 .if1 .taken))
 
 slice-aggregate-write-bytes : tie.Need-slice-aggregate-write-bytes
 unfolding table sheetLimits limitsOn
-slice-aggregate-write-bytes c = sym (length-take-le _ _ (written-in (c .before .before .before .before .before .before .before .before .before .before .before .args .sheet .now) (c .before .before .before .before .before .before .before .before .before .before .before .args .out .now) (sym (ap (λ (ls : List Limit). allHold ls 0 (c .before .before .before .before .before .before .before .before .before .before .before .args .sheet .now)) table-limits) ∙ sym (c .before .before .before .before .before .before .before .all-hold .ensures) ∙ c .before .before .before .before .before .before .if1 .taken) (c .before .before .before .write-words .ensures) (text-most (c .before .before .before .before .before .before .before .before .before .before .before .args .sheet .now) (sym (ap (λ (ls : List Limit). allHold ls 0 (c .before .before .before .before .before .before .before .before .before .before .before .args .sheet .now)) table-limits) ∙ sym (c .before .before .before .before .before .before .before .all-hold .ensures) ∙ c .before .before .before .before .before .before .if1 .taken))))
+slice-aggregate-write-bytes c =
+    let start = c .before .before .before .before .before .before .before .before .before .before .before in
+    let at-all-hold = c .before .before .before .before .before .before .before in
+    let at-if1 = c .before .before .before .before .before .before in
+    let at-write-words = c .before .before .before in
+    sym (length-take-le _ _ (written-in (start .args .sheet .now) (start .args .out .now) (sym (ap (λ (ls : List Limit). allHold ls 0 (start .args .sheet .now)) table-limits) ∙ sym (at-all-hold .all-hold .ensures) ∙ at-if1 .if1 .taken) (at-write-words .write-words .ensures) (text-most (start .args .sheet .now) (sym (ap (λ (ls : List Limit). allHold ls 0 (start .args .sheet .now)) table-limits) ∙ sym (at-all-hold .all-hold .ensures) ∙ at-if1 .if1 .taken))))
 
 write-bytes-requires : tie.Need-write-bytes-requires
 write-bytes-requires c κs = search needs
 
 cast-t92 : tie.Need-cast-t92
 unfolding table sheetLimits limitsOn
-cast-t92 c = let m = written-most (c .before .before .before .before .before .before .before .before .before .before .before .before .before .before .before .args .sheet .now) (c .before .before .before .before .before .before .before .before .before .before .before .before .before .before .before .args .out .now) (sym (ap (λ (ls : List Limit). allHold ls 0 (c .before .before .before .before .before .before .before .before .before .before .before .before .before .before .before .args .sheet .now)) table-limits) ∙ sym (c .before .before .before .before .before .before .before .before .before .before .before .all-hold .ensures) ∙ c .before .before .before .before .before .before .before .before .before .before .if1 .taken) (c .before .before .before .before .before .before .before .write-words .ensures) (text-most (c .before .before .before .before .before .before .before .before .before .before .before .before .before .before .before .args .sheet .now) (sym (ap (λ (ls : List Limit). allHold ls 0 (c .before .before .before .before .before .before .before .before .before .before .before .before .before .before .before .args .sheet .now)) table-limits) ∙ sym (c .before .before .before .before .before .before .before .before .before .before .before .all-hold .ensures) ∙ c .before .before .before .before .before .before .before .before .before .before .if1 .taken)) in omega arith
+cast-t92 c =
+    let start = c .before .before .before .before .before .before .before .before .before .before .before .before .before .before .before in
+    let at-all-hold = c .before .before .before .before .before .before .before .before .before .before .before in
+    let at-if1 = c .before .before .before .before .before .before .before .before .before .before in
+    let at-write-words = c .before .before .before .before .before .before .before in
+    let m = written-most (start .args .sheet .now) (start .args .out .now) (sym (ap (λ (ls : List Limit). allHold ls 0 (start .args .sheet .now)) table-limits) ∙ sym (at-all-hold .all-hold .ensures) ∙ at-if1 .if1 .taken) (at-write-words .write-words .ensures) (text-most (start .args .sheet .now) (sym (ap (λ (ls : List Limit). allHold ls 0 (start .args .sheet .now)) table-limits) ∙ sym (at-all-hold .all-hold .ensures) ∙ at-if1 .if1 .taken)) in omega arith
 
 same-length : tie.Need-same-length
 same-length c = search needs
 
 returns-2 : tie.Need-returns-2
 unfolding table sheetLimits limitsOn
-returns-2 c = settled-written (c .before .before .before .before .before .before .before .before .before .before .before .before .before .before .before .args .sheet .now) (c .before .before .before .before .before .before .before .before .before .before .before .before .before .before .before .args .out .now) (sym (ap (λ (ls : List Limit). allHold ls 0 (c .before .before .before .before .before .before .before .before .before .before .before .before .before .before .before .args .sheet .now)) table-limits) ∙ sym (c .before .before .before .before .before .before .before .before .before .before .before .all-hold .ensures) ∙ c .before .before .before .before .before .before .before .before .before .before .if1 .taken) (c .before .before .before .before .before .before .before .write-words .ensures) (text-most (c .before .before .before .before .before .before .before .before .before .before .before .before .before .before .before .args .sheet .now) (sym (ap (λ (ls : List Limit). allHold ls 0 (c .before .before .before .before .before .before .before .before .before .before .before .before .before .before .before .args .sheet .now)) table-limits) ∙ sym (c .before .before .before .before .before .before .before .before .before .before .before .all-hold .ensures) ∙ c .before .before .before .before .before .before .before .before .before .before .if1 .taken)) (c .before .before .before .before .before .if2 .left) (c .before .before .write-bytes .ensures)
+returns-2 c =
+    let start = c .before .before .before .before .before .before .before .before .before .before .before .before .before .before .before in
+    let at-all-hold = c .before .before .before .before .before .before .before .before .before .before .before in
+    let at-if1 = c .before .before .before .before .before .before .before .before .before .before in
+    let at-write-words = c .before .before .before .before .before .before .before in
+    let at-if2 = c .before .before .before .before .before in
+    settled-written (start .args .sheet .now) (start .args .out .now) (sym (ap (λ (ls : List Limit). allHold ls 0 (start .args .sheet .now)) table-limits) ∙ sym (at-all-hold .all-hold .ensures) ∙ at-if1 .if1 .taken) (at-write-words .write-words .ensures) (text-most (start .args .sheet .now) (sym (ap (λ (ls : List Limit). allHold ls 0 (start .args .sheet .now)) table-limits) ∙ sym (at-all-hold .all-hold .ensures) ∙ at-if1 .if1 .taken)) (at-if2 .if2 .left) (c .before .before .write-bytes .ensures)
 
 returns-3 : tie.Need-returns-3
 unfolding table sheetLimits limitsOn
-returns-3 c = settled-outside (c .before .before .before .before .before .args .sheet .now) (c .before .before .before .before .before .args .out .now) (sym (ap (λ (ls : List Limit). allHold ls 0 (c .before .before .before .before .before .args .sheet .now)) table-limits) ∙ sym (c .before .all-hold .ensures) ∙ c .if1 .left)
+returns-3 c =
+    let start = c .before .before .before .before .before in
+    settled-outside (start .args .sheet .now) (start .args .out .now) (sym (ap (λ (ls : List Limit). allHold ls 0 (start .args .sheet .now)) table-limits) ∙ sym (c .before .all-hold .ensures) ∙ c .if1 .left)
 
 pub write-sheet-spec : {M : Type 1} → statement M
 write-sheet-spec =

@@ -8,7 +8,9 @@ use Rattle.sheet.proofs.write_words.Statement.{statement}
 use Rattle.sheet.proofs.write_words.Tie as tie
 
 write-lines-requires : tie.Need-write-lines-requires
-write-lines-requires c κs = (c .before .before .before .pre .0, omega (arith, c .before .before .before .pre .1, sheet-lengths (c .before .before .before .args .sheet .now)))
+write-lines-requires c κs =
+    let start = c .before .before .before in
+    (start .pre .0, omega (arith, start .pre .1, sheet-lengths (start .args .sheet .now)))
 
 sub-write-fits : tie.Need-sub-write-fits
 sub-write-fits c = search needs
@@ -20,28 +22,48 @@ part-write-fits-end : tie.Need-part-write-fits-end
 part-write-fits-end c = search needs
 
 sub-write-fits-2 : tie.Need-sub-write-fits-2
-sub-write-fits-2 c = lines-in (c .before .before .before .before .before .before .before .args .sheet .now) (c .before .before .before .write-lines .ensures) (c .before .before .before .before .before .before .before .pre .0) (c .before .before .before .before .before .before .before .pre .1)
+sub-write-fits-2 c =
+    let start = c .before .before .before .before .before .before .before in
+    let at-write-lines = c .before .before .before in
+    lines-in (start .args .sheet .now) (at-write-lines .write-lines .ensures) (start .pre .0) (start .pre .1)
 
 part-write-fits-start-2 : tie.Need-part-write-fits-start-2
-part-write-fits-start-2 c = lines-in (c .before .before .before .before .before .before .before .args .sheet .now) (c .before .before .before .write-lines .ensures) (c .before .before .before .before .before .before .before .pre .0) (c .before .before .before .before .before .before .before .pre .1)
+part-write-fits-start-2 c =
+    let start = c .before .before .before .before .before .before .before in
+    let at-write-lines = c .before .before .before in
+    lines-in (start .args .sheet .now) (at-write-lines .write-lines .ensures) (start .pre .0) (start .pre .1)
 
 part-write-fits-end-2 : tie.Need-part-write-fits-end-2
 part-write-fits-end-2 c = search needs
 
 write-fits-requires : tie.Need-write-fits-requires
-write-fits-requires c κs = (weights-many (c .before .before .before .before .before .before .before .before .args .sheet .now) (c .before .before .before .before .write-lines .ensures) (c .before .before .before .before .before .before .before .before .pre .0) (c .before .before .before .before .before .before .before .before .pre .1), fits-room (c .before .before .before .before .before .before .before .before .args .sheet .now) (c .before .before .before .before .write-lines .ensures) (c .before .before .before .before .before .before .before .before .pre .0) (c .before .before .before .before .before .before .before .before .pre .1))
+write-fits-requires c κs =
+    let start = c .before .before .before .before .before .before .before .before in
+    let at-write-lines = c .before .before .before .before in
+    (weights-many (start .args .sheet .now) (at-write-lines .write-lines .ensures) (start .pre .0) (start .pre .1), fits-room (start .args .sheet .now) (at-write-lines .write-lines .ensures) (start .pre .0) (start .pre .1))
 
 add-at : tie.Need-add-at
-add-at c = omega (arith, end-place (c .before .before .before .before .before .before .before .before .before .before .before .args .sheet .now) (c .before .before .before .before .before .before .before .write-lines .ensures) (c .before .before .write-fits .ensures), c .before .before .before .before .before .before .before .before .before .before .before .pre .1, c .before .before .before .before .before .before .before .before .before .before .before .good)
+add-at c =
+    let start = c .before .before .before .before .before .before .before .before .before .before .before in
+    let at-write-lines = c .before .before .before .before .before .before .before in
+    omega (arith, end-place (start .args .sheet .now) (at-write-lines .write-lines .ensures) (c .before .before .write-fits .ensures), start .pre .1, start .good)
 
 slice-aggregate-write-bytes : tie.Need-slice-aggregate-write-bytes
 slice-aggregate-write-bytes c = search needs
 
 sub-write-bytes : tie.Need-sub-write-bytes
-sub-write-bytes c = omega (arith, end-place (c .before .before .before .before .before .before .before .before .before .before .before .before .args .sheet .now) (c .before .before .before .before .before .before .before .before .write-lines .ensures) (c .before .before .before .write-fits .ensures), end-length (c .before .before .before .before .before .before .before .before .before .before .before .before .args .sheet .now) (c .before .before .before .before .before .before .before .before .write-lines .ensures) (c .before .before .before .write-fits .ensures), c .before .before .before .before .before .before .before .before .before .before .before .before .pre .1)
+sub-write-bytes c =
+    let start = c .before .before .before .before .before .before .before .before .before .before .before .before in
+    let at-write-lines = c .before .before .before .before .before .before .before .before in
+    let at-write-fits = c .before .before .before in
+    omega (arith, end-place (start .args .sheet .now) (at-write-lines .write-lines .ensures) (at-write-fits .write-fits .ensures), end-length (start .args .sheet .now) (at-write-lines .write-lines .ensures) (at-write-fits .write-fits .ensures), start .pre .1)
 
 part-write-bytes-start : tie.Need-part-write-bytes-start
-part-write-bytes-start c = omega (arith, end-place (c .before .before .before .before .before .before .before .before .before .before .before .before .args .sheet .now) (c .before .before .before .before .before .before .before .before .write-lines .ensures) (c .before .before .before .write-fits .ensures), end-length (c .before .before .before .before .before .before .before .before .before .before .before .before .args .sheet .now) (c .before .before .before .before .before .before .before .before .write-lines .ensures) (c .before .before .before .write-fits .ensures), c .before .before .before .before .before .before .before .before .before .before .before .before .pre .1)
+part-write-bytes-start c =
+    let start = c .before .before .before .before .before .before .before .before .before .before .before .before in
+    let at-write-lines = c .before .before .before .before .before .before .before .before in
+    let at-write-fits = c .before .before .before in
+    omega (arith, end-place (start .args .sheet .now) (at-write-lines .write-lines .ensures) (at-write-fits .write-fits .ensures), end-length (start .args .sheet .now) (at-write-lines .write-lines .ensures) (at-write-fits .write-fits .ensures), start .pre .1)
 
 part-write-bytes-end : tie.Need-part-write-bytes-end
 part-write-bytes-end c = search needs
@@ -50,13 +72,25 @@ write-bytes-requires : tie.Need-write-bytes-requires
 write-bytes-requires c κs = search needs
 
 add-result : tie.Need-add-result
-add-result c = omega (arith, end-place (c .before .before .before .before .before .before .before .before .before .before .before .before .before .before .before .before .args .sheet .now) (c .before .before .before .before .before .before .before .before .before .before .before .before .write-lines .ensures) (c .before .before .before .before .before .before .before .write-fits .ensures), c .before .before .before .before .before .before .before .before .before .before .before .before .before .before .before .before .pre .1, c .before .before .before .before .before .before .before .before .before .before .before .before .before .before .before .before .good)
+add-result c =
+    let start = c .before .before .before .before .before .before .before .before .before .before .before .before .before .before .before .before in
+    let at-write-lines = c .before .before .before .before .before .before .before .before .before .before .before .before in
+    let at-write-fits = c .before .before .before .before .before .before .before in
+    omega (arith, end-place (start .args .sheet .now) (at-write-lines .write-lines .ensures) (at-write-fits .write-fits .ensures), start .pre .1, start .good)
 
 same-length : tie.Need-same-length
-same-length c = laid-length (words-laid (c .before .before .before .before .before .before .before .before .before .before .before .before .before .before .before .before .args .sheet .now) (c .before .before .before .before .before .before .before .before .before .before .before .before .write-lines .ensures) (c .before .before .before .before .before .before .before .write-fits .ensures) _ _ refl (c .before .before .write-bytes .ensures))
+same-length c =
+    let start = c .before .before .before .before .before .before .before .before .before .before .before .before .before .before .before .before in
+    let at-write-lines = c .before .before .before .before .before .before .before .before .before .before .before .before in
+    let at-write-fits = c .before .before .before .before .before .before .before in
+    laid-length (words-laid (start .args .sheet .now) (at-write-lines .write-lines .ensures) (at-write-fits .write-fits .ensures) _ _ refl (c .before .before .write-bytes .ensures))
 
 returns : tie.Need-returns
-returns c = words-laid (c .before .before .before .before .before .before .before .before .before .before .before .before .before .before .before .before .args .sheet .now) (c .before .before .before .before .before .before .before .before .before .before .before .before .write-lines .ensures) (c .before .before .before .before .before .before .before .write-fits .ensures) _ _ refl (c .before .before .write-bytes .ensures)
+returns c =
+    let start = c .before .before .before .before .before .before .before .before .before .before .before .before .before .before .before .before in
+    let at-write-lines = c .before .before .before .before .before .before .before .before .before .before .before .before in
+    let at-write-fits = c .before .before .before .before .before .before .before in
+    words-laid (start .args .sheet .now) (at-write-lines .write-lines .ensures) (at-write-fits .write-fits .ensures) _ _ refl (c .before .before .write-bytes .ensures)
 
 pub write-words-spec : {M : Type 1} → statement M
 write-words-spec =

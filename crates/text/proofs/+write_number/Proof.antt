@@ -91,8 +91,10 @@ write-number-add-result : (t : ℕ) → write-number-lts.Need-add-result (
   write-number.Post,
 ) (write-number-at t) write-number.Post
 write-number-add-result t c =
-    let l = length-digits-twenty (c .before .before .before .before .before .before .before .before .before .before .args .n / 10) (omega arith) in
-    omega (arith, c .before .before .before .before .before .before .write-number .ensures .end)
+    let start = c .before .before .before .before .before .before .before .before .before .before in
+    let at-write-number = c .before .before .before .before .before .before in
+    let l = length-digits-twenty (start .args .n / 10) (omega arith) in
+    omega (arith, at-write-number .write-number .ensures .end)
 
 write-number-same-length : (t : ℕ) → write-number-lts.Need-same-length (
   store-reads.Asked,
@@ -108,7 +110,10 @@ write-number-returns : (t : ℕ) → write-number-lts.Need-returns (
   write-number-below t,
   write-number.Post,
 ) (write-number-at t) write-number.Post
-write-number-returns t c = laid-digit (c .before .before .before .before .before .before .args .n) (c .before .before .before .before .before .before .args .out .now) _ (c .before .before .before .before .if1 .taken) (c .before .before .store .ensures)
+write-number-returns t c =
+    let start = c .before .before .before .before .before .before in
+    let at-if1 = c .before .before .before .before in
+    laid-digit (start .args .n) (start .args .out .now) _ (at-if1 .if1 .taken) (c .before .before .store .ensures)
 
 write-number-same-length-2 : (t : ℕ) → write-number-lts.Need-same-length-2 (
   store-reads.Asked,
@@ -124,7 +129,11 @@ write-number-returns-2 : (t : ℕ) → write-number-lts.Need-returns-2 (
   write-number-below t,
   write-number.Post,
 ) (write-number-at t) write-number.Post
-write-number-returns-2 t c = laid-digits (c .before .before .before .before .before .before .before .before .before .before .args .n) (c .before .before .before .before .before .before .before .before .before .before .args .out .now) _ _ _ (c .before .before .before .before .before .before .before .before .if1 .left) (c .before .before .before .before .before .before .write-number .ensures) (c .before .before .store2 .ensures)
+write-number-returns-2 t c =
+    let start = c .before .before .before .before .before .before .before .before .before .before in
+    let at-if1 = c .before .before .before .before .before .before .before .before in
+    let at-write-number = c .before .before .before .before .before .before in
+    laid-digits (start .args .n) (start .args .out .now) _ _ _ (at-if1 .if1 .left) (at-write-number .write-number .ensures) (c .before .before .store2 .ensures)
 
 pub +write-number-spec : {M : Type 1} → statement M
 +write-number-spec = close μ-write-number λ t. write-number-lts.spec (

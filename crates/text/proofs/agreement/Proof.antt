@@ -19,7 +19,9 @@ loop-holds : tie.Need-loop-holds Inv-loop μ-loop
 loop-holds c = omega arith
 
 returns : tie.Need-returns Inv-loop μ-loop
-returns c = let h = c .before .before .before .args in omega (arith, agreed-past (h .tag .now) (h .text .now) (c .before .before .loop .i) (c .if1 .taken))
+returns c =
+    let start = c .before .before .before in
+    let h = start .args in omega (arith, agreed-past (h .tag .now) (h .text .now) (c .before .before .loop .i) (c .if1 .taken))
 
 shared-slice-read-if2 : tie.Need-shared-slice-read-if2 Inv-loop μ-loop
 shared-slice-read-if2 c = search needs
@@ -28,7 +30,10 @@ shared-slice-read-if2-2 : tie.Need-shared-slice-read-if2-2 Inv-loop μ-loop
 shared-slice-read-if2-2 c = search needs
 
 returns-2 : tie.Need-returns-2 Inv-loop μ-loop
-returns-2 c = let h = c .before .before .before .before .before .before .args in omega (arith, agreed-differs (h .tag .now) (h .text .now) (c .before .before .before .before .before .loop .i) (omega arith) (omega arith) (c .if2 .taken))
+returns-2 c =
+    let start = c .before .before .before .before .before .before in
+    let at-loop = c .before .before .before .before .before in
+    let h = start .args in omega (arith, agreed-differs (h .tag .now) (h .text .now) (at-loop .loop .i) (omega arith) (omega arith) (c .if2 .taken))
 
 add-i : tie.Need-add-i Inv-loop μ-loop
 add-i c = search needs
@@ -37,7 +42,10 @@ loop-less : tie.Need-loop-less Inv-loop μ-loop
 loop-less c = search needs
 
 loop-again : tie.Need-loop-again Inv-loop μ-loop
-loop-again c = let h = c .before .before .before .before .before .before .args in omega (arith, agreed-more (h .tag .now) (h .text .now) (c .before .before .before .before .before .loop .i) (omega arith) (omega arith) (c .if2 .left))
+loop-again c =
+    let start = c .before .before .before .before .before .before in
+    let at-loop = c .before .before .before .before .before in
+    let h = start .args in omega (arith, agreed-more (h .tag .now) (h .text .now) (at-loop .loop .i) (omega arith) (omega arith) (c .if2 .left))
 
 returns-3 : tie.Need-returns-3 Inv-loop μ-loop
 returns-3 c = let h = c .before .before .args in omega (arith, agreed-done (h .tag .now) (h .text .now) (c .before .loop .i) (c .loop-test .left))

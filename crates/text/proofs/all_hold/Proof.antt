@@ -46,19 +46,24 @@ loop-less c = search needs
 
 loop-again : tie.Need-loop-again Inv-loop μ-loop
 loop-again c =
-    let a = c .before .before .before .before .before .before .before .before .args in
-    let at = c .before .before .before .before .before .loop in
+    let start = c .before .before .before .before .before .before .before .before in
+    let at-loop = c .before .before .before .before .before in
+    let a = start .args in
+    let at = at-loop .loop in
     (omega arith, at .inv .1 ∙ step-more (a .table .now) (a .numbers .now) (at .k) (at .last) (omega arith) (omega arith) (sym (c .before .may-stand .ensures) ∙ c .if2 .taken))
 
 returns-2 : tie.Need-returns-2 Inv-loop μ-loop
 returns-2 c =
-    let a = c .before .before .before .before .before .before .before .before .args in
-    let at = c .before .before .before .before .before .loop in
+    let start = c .before .before .before .before .before .before .before .before in
+    let at-loop = c .before .before .before .before .before in
+    let a = start .args in
+    let at = at-loop .loop in
     sym (at .inv .1 ∙ step-fails (a .table .now) (a .numbers .now) (at .k) (at .last) (omega arith) (omega arith) (sym (c .before .may-stand .ensures) ∙ c .if2 .left))
 
 returns-3 : tie.Need-returns-3 Inv-loop μ-loop
 returns-3 c =
-    let a = c .before .before .before .before .args in
+    let start = c .before .before .before .before in
+    let a = start .args in
     let at = c .before .loop in
     sym (at .inv .1 ∙ hold-done (a .table .now) (a .numbers .now) (at .k) (at .last) (omega arith) (omega arith))
 

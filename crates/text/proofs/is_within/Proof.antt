@@ -19,22 +19,34 @@ cast-if1 : tie.Need-cast-if1
 cast-if1 c = search needs
 
 returns : tie.Need-returns
-returns c = sym (within-below (limitOf (c .before .args .t1)) (c .before .args .last) (c .before .args .n) (c .if1 .taken))
+returns c =
+    let start = c .before in
+    sym (within-below (limitOf (start .args .t1)) (start .args .last) (start .args .n) (c .if1 .taken))
 
 cast-if2 : tie.Need-cast-if2
 cast-if2 c = search needs
 
 returns-2 : tie.Need-returns-2
-returns-2 c = sym (within-above (limitOf (c .before .before .args .t1)) (c .before .before .args .last) (c .before .before .args .n) (c .before .if1 .left) (c .if2 .taken))
+returns-2 c =
+    let start = c .before .before in
+    sym (within-above (limitOf (start .args .t1)) (start .args .last) (start .args .n) (c .before .if1 .left) (c .if2 .taken))
 
 returns-3 : tie.Need-returns-3
-returns-3 c = sym (within-or-none (limitOf (c .before .before .before .args .t1)) (c .before .before .before .args .last) (c .before .before .before .args .n) (c .before .before .if1 .left) (c .before .if2 .left) (c .if3 .taken))
+returns-3 c =
+    let start = c .before .before .before in
+    sym (within-or-none (limitOf (start .args .t1)) (start .args .last) (start .args .n) (c .before .before .if1 .left) (c .before .if2 .left) (c .if3 .taken))
 
 returns-4 : tie.Need-returns-4
-returns-4 c = sym (within-capped (limitOf (c .before .before .before .before .args .t1)) (c .before .before .before .before .args .last) (c .before .before .before .before .args .n) (c .before .before .before .if1 .left) (c .before .before .if2 .left) (c .before .if3 .left) (c .if4 .taken))
+returns-4 c =
+    let start = c .before .before .before .before in
+    let at-if1 = c .before .before .before in
+    sym (within-capped (limitOf (start .args .t1)) (start .args .last) (start .args .n) (at-if1 .if1 .left) (c .before .before .if2 .left) (c .before .if3 .left) (c .if4 .taken))
 
 returns-5 : tie.Need-returns-5
-returns-5 c = sym (within-plain (limitOf (c .before .before .before .before .args .t1)) (c .before .before .before .before .args .last) (c .before .before .before .before .args .n) (c .before .before .before .if1 .left) (c .before .before .if2 .left) (c .before .if3 .left) (c .if4 .left))
+returns-5 c =
+    let start = c .before .before .before .before in
+    let at-if1 = c .before .before .before in
+    sym (within-plain (limitOf (start .args .t1)) (start .args .last) (start .args .n) (at-if1 .if1 .left) (c .before .before .if2 .left) (c .before .if3 .left) (c .if4 .left))
 
 pub is-within-spec : {M : Type 1} → statement M
 is-within-spec =

@@ -30,19 +30,24 @@ is-digit-requires c κs = search needs
 
 returns-2 : tie.Need-returns-2 Inv-loop μ-loop
 returns-2 c =
-    let f : List ℕ = c .before .before .before .before .before .before .before .args .f .now in
+    let start = c .before .before .before .before .before .before .before in
+    let at-is-digit = c .before .before .before in
+    let f : List ℕ = start .args .f .now in
     let h : 0 < length f = omega arith in
-    sym (number-zero f h (sym (c .before .before .before .is-digit .ensures) ∙ c .before .before .if2 .taken) (c .before .if3 .taken) ∙ zero-alone f (c .if4 .taken))
+    sym (number-zero f h (sym (at-is-digit .is-digit .ensures) ∙ c .before .before .if2 .taken) (c .before .if3 .taken) ∙ zero-alone f (c .if4 .taken))
 
 returns-3 : tie.Need-returns-3 Inv-loop μ-loop
 returns-3 c =
-    let f : List ℕ = c .before .before .before .before .before .before .before .args .f .now in
+    let start = c .before .before .before .before .before .before .before in
+    let at-is-digit = c .before .before .before in
+    let f : List ℕ = start .args .f .now in
     let h : 0 < length f = omega arith in
-    sym (number-zero f h (sym (c .before .before .before .is-digit .ensures) ∙ c .before .before .if2 .taken) (c .before .if3 .taken) ∙ zero-led f h (c .if4 .left))
+    sym (number-zero f h (sym (at-is-digit .is-digit .ensures) ∙ c .before .before .if2 .taken) (c .before .if3 .taken) ∙ zero-led f h (c .if4 .left))
 
 returns-4 : tie.Need-returns-4 Inv-loop μ-loop
 returns-4 c =
-    let f : List ℕ = c .before .before .before .before .before .args .f .now in
+    let start = c .before .before .before .before .before in
+    let f : List ℕ = start .args .f .now in
     let h : 0 < length f = omega arith in
     sym (number-no-digit f h (sym (c .before .is-digit .ensures) ∙ c .if2 .left))
 
@@ -51,9 +56,11 @@ digit-requires c κs = search needs
 
 loop-holds : tie.Need-loop-holds Inv-loop μ-loop
 loop-holds c =
-    let f : List ℕ = c .before .before .before .before .before .before .before .args .f .now in
+    let start = c .before .before .before .before .before .before .before in
+    let at-is-digit = c .before .before .before in
+    let f : List ℕ = start .args .f .now in
     let h : 0 < length f = omega arith in
-    let d = sym (c .before .before .before .is-digit .ensures) ∙ c .before .before .if2 .taken in
+    let d = sym (at-is-digit .is-digit .ensures) ∙ c .before .before .if2 .taken in
     let high : getD f 0 0 ≤ 57 = digit-high (getD f 0 0) d in
     (omega arith, omega (arith, c .digit .ensures), number-more f h d (c .before .if3 .left) ∙ rw (c .digit .ensures))
 
@@ -71,8 +78,10 @@ digit-requires-2 c κs = search needs
 
 add-n : tie.Need-add-n Inv-loop μ-loop
 add-n c =
-    let at = c .before .before .before .before .before .loop in
-    let b = getD (c .before .before .before .before .before .before .before .before .before .before .before .before .before .args .f .now) (at .i) 0 in
+    let start = c .before .before .before .before .before .before .before .before .before .before .before .before .before in
+    let at-loop = c .before .before .before .before .before in
+    let at = at-loop .loop in
+    let b = getD (start .args .f .now) (at .i) 0 in
     let g = sym (c .before .before .goes-on .ensures) ∙ c .before .if5 .taken in
     omega (arith, goes-small b (at .n) g, goes-digit b (at .n) g, c .digit2 .ensures)
 
@@ -84,19 +93,26 @@ loop-less c = search needs
 
 loop-again : tie.Need-loop-again Inv-loop μ-loop
 loop-again c =
-    let f : List ℕ = c .before .before .before .before .before .before .before .before .before .before .before .before .before .args .f .now in
-    let at = c .before .before .before .before .before .loop in
+    let start = c .before .before .before .before .before .before .before .before .before .before .before .before .before in
+    let at-loop = c .before .before .before .before .before in
+    let f : List ℕ = start .args .f .now in
+    let at = at-loop .loop in
     let b = getD f (at .i) 0 in
     let g = sym (c .before .before .goes-on .ensures) ∙ c .before .if5 .taken in
     (omega arith, omega (arith, goes-small b (at .n) g, goes-digit b (at .n) g, c .digit2 .ensures), at .inv .2 ∙ rest-more (at .n) (at .i) f (at .i) (omega arith) g ∙ rw (c .digit2 .ensures))
 
 returns-5 : tie.Need-returns-5 Inv-loop μ-loop
 returns-5 c =
-    let at = c .before .before .before .before .loop in
-    sym (at .inv .2 ∙ rest-stops (at .n) (at .i) (c .before .before .before .before .before .before .before .before .before .before .before .before .args .f .now) (at .i) (omega arith) (sym (c .before .goes-on .ensures) ∙ c .if5 .left))
+    let start = c .before .before .before .before .before .before .before .before .before .before .before .before in
+    let at-loop = c .before .before .before .before in
+    let at = at-loop .loop in
+    sym (at .inv .2 ∙ rest-stops (at .n) (at .i) (start .args .f .now) (at .i) (omega arith) (sym (c .before .goes-on .ensures) ∙ c .if5 .left))
 
 returns-6 : tie.Need-returns-6 Inv-loop μ-loop
-returns-6 c = sym (c .before .loop .inv .2 ∙ rest-end (c .before .loop .n) (c .before .loop .i) (c .before .before .before .before .before .before .before .before .before .args .f .now) (c .before .loop .i) (c .loop-test .left))
+returns-6 c =
+    let start = c .before .before .before .before .before .before .before .before .before in
+    let at-loop = c .before in
+    sym (at-loop .loop .inv .2 ∙ rest-end (at-loop .loop .n) (at-loop .loop .i) (start .args .f .now) (at-loop .loop .i) (c .loop-test .left))
 
 pub read-number-spec : {M : Type 1} → statement M
 read-number-spec =

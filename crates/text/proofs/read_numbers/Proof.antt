@@ -55,14 +55,27 @@ enum-known-refusal c = search needs
 
 add-t22 : tie.Need-add-t22 Inv-loop μ-loop
 add-t22 c =
-    let h = fault-in (c .before .before .before .before .before .before .before .before .loop .inv .0) (omega (arith, c .before .before .before .before .before .before .before .before .loop .inv .1, c .before .before .before .before .before .before .before .loop-test .taken)) (c .before .before .before .before .before .before .ender-before .result) (c .before .before .before .before .before .before .ender-before .ensures ∙ ap (λ (n : ℕ). cond (eqb (n - c .before .before .before .before .before .before .before .before .loop .k - 1) 0) feed tab) (c .before .before .before .before .before .before .before .before .loop .inv .1)) (sym (ap (readEntry _ _ _) (rest-part (c .before .before .before .before .before .before .before .before .before .before .before .args .text .now) (c .before .before .before .before .before .before .before .before .loop .at))) ∙ sym (c .before .before .before .read-entry .ensures) ∙ c .before .refusal .given .1) in
+    let start = c .before .before .before .before .before .before .before .before .before .before .before in
+    let at-loop = c .before .before .before .before .before .before .before .before in
+    let at-loop-test = c .before .before .before .before .before .before .before in
+    let at-ender-before = c .before .before .before .before .before .before in
+    let at-read-entry = c .before .before .before in
+    let h = fault-in (at-loop .loop .inv .0) (omega (arith, at-loop .loop .inv .1, at-loop-test .loop-test .taken)) (at-ender-before .ender-before .result) (at-ender-before .ender-before .ensures ∙ ap (λ (n : ℕ). cond (eqb (n - at-loop .loop .k - 1) 0) feed tab) (at-loop .loop .inv .1)) (sym (ap (readEntry _ _ _) (rest-part (start .args .text .now) (at-loop .loop .at))) ∙ sym (at-read-entry .read-entry .ensures) ∙ c .before .refusal .given .1) in
     omega arith
 
 same-length : tie.Need-same-length Inv-loop μ-loop
-same-length c = ap length (c .before .before .before .before .before .before .before .before .loop .inv .0 .stored) ∙ simp length-sets
+same-length c =
+    let at-loop = c .before .before .before .before .before .before .before .before in
+    ap length (at-loop .loop .inv .0 .stored) ∙ simp length-sets
 
 returns : tie.Need-returns Inv-loop μ-loop
-returns c = fault (c .before .before .before .before .before .before .before .before .loop .inv .0) (omega (arith, c .before .before .before .before .before .before .before .before .loop .inv .1, c .before .before .before .before .before .before .before .loop-test .taken)) (c .before .before .before .before .before .before .ender-before .result) (c .before .before .before .before .before .before .ender-before .ensures ∙ ap (λ (n : ℕ). cond (eqb (n - c .before .before .before .before .before .before .before .before .loop .k - 1) 0) feed tab) (c .before .before .before .before .before .before .before .before .loop .inv .1)) (sym (ap (readEntry _ _ _) (rest-part (c .before .before .before .before .before .before .before .before .before .before .before .args .text .now) (c .before .before .before .before .before .before .before .before .loop .at))) ∙ sym (c .before .before .before .read-entry .ensures) ∙ c .before .refusal .given .1)
+returns c =
+    let start = c .before .before .before .before .before .before .before .before .before .before .before in
+    let at-loop = c .before .before .before .before .before .before .before .before in
+    let at-loop-test = c .before .before .before .before .before .before .before in
+    let at-ender-before = c .before .before .before .before .before .before in
+    let at-read-entry = c .before .before .before in
+    fault (at-loop .loop .inv .0) (omega (arith, at-loop .loop .inv .1, at-loop-test .loop-test .taken)) (at-ender-before .ender-before .result) (at-ender-before .ender-before .ensures ∙ ap (λ (n : ℕ). cond (eqb (n - at-loop .loop .k - 1) 0) feed tab) (at-loop .loop .inv .1)) (sym (ap (readEntry _ _ _) (rest-part (start .args .text .now) (at-loop .loop .at))) ∙ sym (at-read-entry .read-entry .ensures) ∙ c .before .refusal .given .1)
 
 enum-known-n : tie.Need-enum-known-n Inv-loop μ-loop
 enum-known-n c = search needs
@@ -72,7 +85,13 @@ store-number-requires c κs = search needs
 
 add-at : tie.Need-add-at Inv-loop μ-loop
 add-at c =
-    let h = step-in (c .before .before .before .before .before .before .before .before .before .before .before .before .loop .inv .0) (omega (arith, c .before .before .before .before .before .before .before .before .before .before .before .before .loop .inv .1, c .before .before .before .before .before .before .before .before .before .before .before .loop-test .taken)) (c .before .before .before .before .before .before .before .before .before .before .ender-before .result) (c .before .before .before .before .before .before .before .before .before .before .ender-before .ensures ∙ ap (λ (n : ℕ). cond (eqb (n - c .before .before .before .before .before .before .before .before .before .before .before .before .loop .k - 1) 0) feed tab) (c .before .before .before .before .before .before .before .before .before .before .before .before .loop .inv .1)) (sym (ap (readEntry _ _ _) (rest-part (c .before .before .before .before .before .before .before .before .before .before .before .before .before .before .before .args .text .now) (c .before .before .before .before .before .before .before .before .before .before .before .before .loop .at))) ∙ sym (c .before .before .before .before .before .before .before .read-entry .ensures) ∙ c .before .before .before .before .before .n .given .1) in
+    let start = c .before .before .before .before .before .before .before .before .before .before .before .before .before .before .before in
+    let at-loop = c .before .before .before .before .before .before .before .before .before .before .before .before in
+    let at-loop-test = c .before .before .before .before .before .before .before .before .before .before .before in
+    let at-ender-before = c .before .before .before .before .before .before .before .before .before .before in
+    let at-read-entry = c .before .before .before .before .before .before .before in
+    let at-n = c .before .before .before .before .before in
+    let h = step-in (at-loop .loop .inv .0) (omega (arith, at-loop .loop .inv .1, at-loop-test .loop-test .taken)) (at-ender-before .ender-before .result) (at-ender-before .ender-before .ensures ∙ ap (λ (n : ℕ). cond (eqb (n - at-loop .loop .k - 1) 0) feed tab) (at-loop .loop .inv .1)) (sym (ap (readEntry _ _ _) (rest-part (start .args .text .now) (at-loop .loop .at))) ∙ sym (at-read-entry .read-entry .ensures) ∙ at-n .n .given .1) in
     omega arith
 
 add-k : tie.Need-add-k Inv-loop μ-loop
@@ -82,13 +101,22 @@ loop-less : tie.Need-loop-less Inv-loop μ-loop
 loop-less c = search needs
 
 loop-again : tie.Need-loop-again Inv-loop μ-loop
-loop-again c = (rw (c .before .before .store-number .ensures) (step (c .before .before .before .before .before .before .before .before .before .before .before .before .loop .inv .0) (omega (arith, c .before .before .before .before .before .before .before .before .before .before .before .before .loop .inv .1, c .before .before .before .before .before .before .before .before .before .before .before .loop-test .taken)) (c .before .before .before .before .before .before .before .before .before .before .ender-before .result) (c .before .before .before .before .before .before .before .before .before .before .ender-before .ensures ∙ ap (λ (n : ℕ). cond (eqb (n - c .before .before .before .before .before .before .before .before .before .before .before .before .loop .k - 1) 0) feed tab) (c .before .before .before .before .before .before .before .before .before .before .before .before .loop .inv .1)) (sym (ap (readEntry _ _ _) (rest-part (c .before .before .before .before .before .before .before .before .before .before .before .before .before .before .before .args .text .now) (c .before .before .before .before .before .before .before .before .before .before .before .before .loop .at))) ∙ sym (c .before .before .before .before .before .before .before .read-entry .ensures) ∙ c .before .before .before .before .before .n .given .1)), c .before .before .before .before .before .before .before .before .before .before .before .before .loop .inv .1)
+loop-again c =
+    let start = c .before .before .before .before .before .before .before .before .before .before .before .before .before .before .before in
+    let at-loop = c .before .before .before .before .before .before .before .before .before .before .before .before in
+    let at-loop-test = c .before .before .before .before .before .before .before .before .before .before .before in
+    let at-ender-before = c .before .before .before .before .before .before .before .before .before .before in
+    let at-read-entry = c .before .before .before .before .before .before .before in
+    let at-n = c .before .before .before .before .before in
+    (rw (c .before .before .store-number .ensures) (step (at-loop .loop .inv .0) (omega (arith, at-loop .loop .inv .1, at-loop-test .loop-test .taken)) (at-ender-before .ender-before .result) (at-ender-before .ender-before .ensures ∙ ap (λ (n : ℕ). cond (eqb (n - at-loop .loop .k - 1) 0) feed tab) (at-loop .loop .inv .1)) (sym (ap (readEntry _ _ _) (rest-part (start .args .text .now) (at-loop .loop .at))) ∙ sym (at-read-entry .read-entry .ensures) ∙ at-n .n .given .1)), at-loop .loop .inv .1)
 
 same-length-2 : tie.Need-same-length-2 Inv-loop μ-loop
 same-length-2 c = ap length (c .before .loop .inv .0 .stored) ∙ simp length-sets
 
 returns-2 : tie.Need-returns-2 Inv-loop μ-loop
-returns-2 c = done (c .before .loop .inv .0) (omega (arith, c .before .loop .inv .1, c .loop-test .left))
+returns-2 c =
+    let at-loop = c .before in
+    done (at-loop .loop .inv .0) (omega (arith, at-loop .loop .inv .1, c .loop-test .left))
 
 pub read-numbers-spec : {M : Type 1} → statement M
 read-numbers-spec =

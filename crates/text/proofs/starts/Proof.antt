@@ -10,10 +10,14 @@ shared-slice-read-result : tie.Need-shared-slice-read-result
 shared-slice-read-result c = search needs
 
 returns : tie.Need-returns
-returns c = sym (begins-past (c .before .args .b) (c .before .args .text .now) (c .if1 .taken))
+returns c =
+    let start = c .before in
+    sym (begins-past (start .args .b) (start .args .text .now) (c .if1 .taken))
 
 returns-2 : tie.Need-returns-2
-returns-2 c = sym (begins-head (c .before .before .args .b) (c .before .before .args .text .now) (omega arith))
+returns-2 c =
+    let start = c .before .before in
+    sym (begins-head (start .args .b) (start .args .text .now) (omega arith))
 
 pub starts-spec : {M : Type 1} → statement M
 starts-spec = tie.close (tie.spec shared-slice-read-result returns returns-2)

@@ -34,9 +34,12 @@ loop-less c = search needs
 
 loop-again : tie.Need-loop-again Inv-loop μ-loop
 loop-again c =
-    let h = c .before .before .before .before .before .before .before .before .before .args in
-    let at = c .before .before .before .before .before .before .loop in
-    (omega arith, c .before .before .store .ensures ∙ rw (at .inv .1) (sets-take (h .out .now) (h .bytes .now) (at .i) (c .before .before .before .before .before .loop-test .taken)))
+    let start = c .before .before .before .before .before .before .before .before .before in
+    let at-loop = c .before .before .before .before .before .before in
+    let at-loop-test = c .before .before .before .before .before in
+    let h = start .args in
+    let at = at-loop .loop in
+    (omega arith, c .before .before .store .ensures ∙ rw (at .inv .1) (sets-take (h .out .now) (h .bytes .now) (at .i) (at-loop-test .loop-test .taken)))
 
 same-length : tie.Need-same-length Inv-loop μ-loop
 same-length c = ap length (c .before .loop .inv .1) ∙ simp length-sets

@@ -19,7 +19,11 @@ same-length : tie.Need-same-length
 same-length c = search needs
 
 returns : tie.Need-returns
-returns c = simp (← c .before .before .before .before .before .is-none .ensures, c .before .before .before .before .if1 .taken, c .before .before .store .ensures) (laid-byte (c .before .before .before .before .before .before .before .args .out .now) (c .before .before .before .before .before .before .before .args .at) 45)
+returns c =
+    let start = c .before .before .before .before .before .before .before in
+    let at-is-none = c .before .before .before .before .before in
+    let at-if1 = c .before .before .before .before in
+    simp (← at-is-none .is-none .ensures, at-if1 .if1 .taken, c .before .before .store .ensures) (laid-byte (start .args .out .now) (start .args .at) 45)
 
 sub-write-number : tie.Need-sub-write-number
 sub-write-number c = search needs
@@ -35,7 +39,8 @@ write-number-requires c κs = search needs
 
 add-result-2 : tie.Need-add-result-2
 add-result-2 c =
-    let l = length-digits-ten (c .before .before .before .before .before .before .before .before .args .n) (omega arith) in
+    let start = c .before .before .before .before .before .before .before .before in
+    let l = length-digits-ten (start .args .n) (omega arith) in
     omega (arith, c .before .before .write-number .ensures .end)
 
 slice-relend-prefix-write-number : tie.Need-slice-relend-prefix-write-number
@@ -49,20 +54,30 @@ write-number-requires-2 c κs = search needs
 
 add-result-3 : tie.Need-add-result-3
 add-result-3 c =
-    let l = length-digits-ten (c .before .before .before .before .before .before .before .before .args .n) (omega arith) in
+    let start = c .before .before .before .before .before .before .before .before in
+    let l = length-digits-ten (start .args .n) (omega arith) in
     omega (arith, c .before .before .write-number2 .ensures .end)
 
 same-length-2 : tie.Need-same-length-2
 same-length-2 c = search needs
 
 returns-2 : tie.Need-returns-2
-returns-2 c = simp (← c .before .before .before .before .before .before .is-none .ensures, c .before .before .before .before .before .if1 .left) (laid-part _ (c .before .before .before .before .before .before .before .before .args .out .now) _ (c .before .before .before .before .before .before .before .before .args .at) _ (c .before .before .write-number .ensures))
+returns-2 c =
+    let start = c .before .before .before .before .before .before .before .before in
+    let at-is-none = c .before .before .before .before .before .before in
+    let at-if1 = c .before .before .before .before .before in
+    simp (← at-is-none .is-none .ensures, at-if1 .if1 .left) (laid-part _ (start .args .out .now) _ (start .args .at) _ (c .before .before .write-number .ensures))
 
 same-length-3 : tie.Need-same-length-3
 same-length-3 c = search needs
 
 returns-3 : tie.Need-returns-3
-returns-3 c = simp (← c .before .before .before .before .before .before .is-none .ensures, c .before .before .before .before .before .if1 .left) (laid-past _ (c .before .before .before .before .before .before .before .before .args .out .now) _ (c .before .before .before .before .before .before .before .before .args .at) _ (c .before .before .before .before .if2 .left) (c .before .before .write-number2 .ensures))
+returns-3 c =
+    let start = c .before .before .before .before .before .before .before .before in
+    let at-is-none = c .before .before .before .before .before .before in
+    let at-if1 = c .before .before .before .before .before in
+    let at-if2 = c .before .before .before .before in
+    simp (← at-is-none .is-none .ensures, at-if1 .if1 .left) (laid-past _ (start .args .out .now) _ (start .args .at) _ (at-if2 .if2 .left) (c .before .before .write-number2 .ensures))
 
 pub write-entry-spec : {M : Type 1} → statement M
 write-entry-spec =

@@ -14,7 +14,10 @@ same-length : tie.Need-same-length
 same-length c = search needs
 
 returns : tie.Need-returns
-returns c = laid-more (laid-start (c .before .before .before .before .before .before .before .before .before .before .before .args .tag .now) (c .before .before .before .before .before .before .before .before .before .before .before .args .out .now) _ (c .before .before .before .before .before .before .write-bytes .ensures)) (c .before .before .write-numbers .ensures)
+returns c =
+    let start = c .before .before .before .before .before .before .before .before .before .before .before in
+    let at-write-bytes = c .before .before .before .before .before .before in
+    laid-more (laid-start (start .args .tag .now) (start .args .out .now) _ (at-write-bytes .write-bytes .ensures)) (c .before .before .write-numbers .ensures)
 
 pub write-line-spec : {M : Type 1} → statement M
 write-line-spec =

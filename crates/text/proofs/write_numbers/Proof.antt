@@ -25,7 +25,10 @@ same-length : tie.Need-same-length Inv-loop μ-loop
 same-length c = ap length (c .before .before .loop .inv .0 .laid .laid) ∙ simp length-sets
 
 returns : tie.Need-returns Inv-loop μ-loop
-returns c = done (c .before .before .loop .inv .0) (numbers-out (c .before .before .before .before .before .args .table .now) (c .before .before .before .before .before .args .numbers .now) (c .before .before .loop .k) (c .if1 .taken))
+returns c =
+    let start = c .before .before .before .before .before in
+    let at-loop = c .before .before in
+    done (at-loop .loop .inv .0) (numbers-out (start .args .table .now) (start .args .numbers .now) (at-loop .loop .k) (c .if1 .taken))
 
 mul-write-entry : tie.Need-mul-write-entry Inv-loop μ-loop
 mul-write-entry c = search needs
@@ -40,7 +43,10 @@ shared-slice-read-write-entry : tie.Need-shared-slice-read-write-entry Inv-loop 
 shared-slice-read-write-entry c = search needs
 
 write-entry-requires : tie.Need-write-entry-requires Inv-loop μ-loop
-write-entry-requires c κs = omega (arith, c .before .before .before .before .before .before .before .before .pre, c .before .before .before .before .before .before .before .before .good, c .before .before .before .before .before .loop .inv .0 .most, c .before .before .before .before .before .loop .inv .1)
+write-entry-requires c κs =
+    let start = c .before .before .before .before .before .before .before .before in
+    let at-loop = c .before .before .before .before .before in
+    omega (arith, start .pre, start .good, at-loop .loop .inv .0 .most, at-loop .loop .inv .1)
 
 sub-ender-before : tie.Need-sub-ender-before Inv-loop μ-loop
 sub-ender-before c = search needs
@@ -56,8 +62,15 @@ store-requires c κs = search needs
 
 add-at : tie.Need-add-at Inv-loop μ-loop
 add-at c =
-    let s = step (c .before .before .before .before .before .before .before .before .before .before .before .before .before .loop .inv .0) (omega (arith, c .before .before .before .before .before .before .before .before .before .before .before .before .before .loop .inv .1, c .before .before .before .before .before .before .before .before .before .before .before .before .loop-test .taken)) (c .before .before .before .before .before .before .before .before .before .before .before .if1 .left) (omega (arith, c .before .before .before .before .before .before .before .before .before .shared-slice-known2 .given (c .before .before .before .before .before .before .before .before .before .before .before .before .before .loop .k))) (c .before .before .before .ender-before .ensures ∙ ap (λ (n : ℕ). cond (eqb (n - c .before .before .before .before .before .before .before .before .before .before .before .before .before .loop .k - 1) 0) feed tab) (c .before .before .before .before .before .before .before .before .before .before .before .before .before .loop .inv .1)) (c .before .before .before .before .before .before .before .write-entry .ensures) in
-    omega (arith, s .most, s .k-in, c .before .before .before .before .before .before .before .before .before .before .before .before .before .before .before .before .pre, c .before .before .before .before .before .before .before .before .before .before .before .before .before .before .before .before .good)
+    let start = c .before .before .before .before .before .before .before .before .before .before .before .before .before .before .before .before in
+    let at-loop = c .before .before .before .before .before .before .before .before .before .before .before .before .before in
+    let at-loop-test = c .before .before .before .before .before .before .before .before .before .before .before .before in
+    let at-if1 = c .before .before .before .before .before .before .before .before .before .before .before in
+    let at-shared-slice-known2 = c .before .before .before .before .before .before .before .before .before in
+    let at-write-entry = c .before .before .before .before .before .before .before in
+    let at-ender-before = c .before .before .before in
+    let s = step (at-loop .loop .inv .0) (omega (arith, at-loop .loop .inv .1, at-loop-test .loop-test .taken)) (at-if1 .if1 .left) (omega (arith, at-shared-slice-known2 .shared-slice-known2 .given (at-loop .loop .k))) (at-ender-before .ender-before .ensures ∙ ap (λ (n : ℕ). cond (eqb (n - at-loop .loop .k - 1) 0) feed tab) (at-loop .loop .inv .1)) (at-write-entry .write-entry .ensures) in
+    omega (arith, s .most, s .k-in, start .pre, start .good)
 
 add-k : tie.Need-add-k Inv-loop μ-loop
 add-k c = search needs
@@ -66,13 +79,23 @@ loop-less : tie.Need-loop-less Inv-loop μ-loop
 loop-less c = search needs
 
 loop-again : tie.Need-loop-again Inv-loop μ-loop
-loop-again c = (rw (c .before .before .store .ensures) (step (c .before .before .before .before .before .before .before .before .before .before .before .before .before .loop .inv .0) (omega (arith, c .before .before .before .before .before .before .before .before .before .before .before .before .before .loop .inv .1, c .before .before .before .before .before .before .before .before .before .before .before .before .loop-test .taken)) (c .before .before .before .before .before .before .before .before .before .before .before .if1 .left) (omega (arith, c .before .before .before .before .before .before .before .before .before .shared-slice-known2 .given (c .before .before .before .before .before .before .before .before .before .before .before .before .before .loop .k))) (c .before .before .before .ender-before .ensures ∙ ap (λ (n : ℕ). cond (eqb (n - c .before .before .before .before .before .before .before .before .before .before .before .before .before .loop .k - 1) 0) feed tab) (c .before .before .before .before .before .before .before .before .before .before .before .before .before .loop .inv .1)) (c .before .before .before .before .before .before .before .write-entry .ensures)), c .before .before .before .before .before .before .before .before .before .before .before .before .before .loop .inv .1)
+loop-again c =
+    let at-loop = c .before .before .before .before .before .before .before .before .before .before .before .before .before in
+    let at-loop-test = c .before .before .before .before .before .before .before .before .before .before .before .before in
+    let at-if1 = c .before .before .before .before .before .before .before .before .before .before .before in
+    let at-shared-slice-known2 = c .before .before .before .before .before .before .before .before .before in
+    let at-write-entry = c .before .before .before .before .before .before .before in
+    let at-ender-before = c .before .before .before in
+    (rw (c .before .before .store .ensures) (step (at-loop .loop .inv .0) (omega (arith, at-loop .loop .inv .1, at-loop-test .loop-test .taken)) (at-if1 .if1 .left) (omega (arith, at-shared-slice-known2 .shared-slice-known2 .given (at-loop .loop .k))) (at-ender-before .ender-before .ensures ∙ ap (λ (n : ℕ). cond (eqb (n - at-loop .loop .k - 1) 0) feed tab) (at-loop .loop .inv .1)) (at-write-entry .write-entry .ensures)), at-loop .loop .inv .1)
 
 same-length-2 : tie.Need-same-length-2 Inv-loop μ-loop
 same-length-2 c = ap length (c .before .loop .inv .0 .laid .laid) ∙ simp length-sets
 
 returns-2 : tie.Need-returns-2 Inv-loop μ-loop
-returns-2 c = done (c .before .loop .inv .0) (numbers-end (c .before .before .before .before .args .table .now) (c .before .before .before .before .args .numbers .now) (c .before .loop .k) (omega (arith, c .before .loop .inv .1, c .loop-test .left)))
+returns-2 c =
+    let start = c .before .before .before .before in
+    let at-loop = c .before in
+    done (at-loop .loop .inv .0) (numbers-end (start .args .table .now) (start .args .numbers .now) (at-loop .loop .k) (omega (arith, at-loop .loop .inv .1, c .loop-test .left)))
 
 pub write-numbers-spec : {M : Type 1} → statement M
 write-numbers-spec =
