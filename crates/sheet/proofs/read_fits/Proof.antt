@@ -1,11 +1,13 @@
 -- `read_fits` meets its contract. Assumes nothing.
-use mathlib.Core.Path.{sym, ap, _∙_}
+use mathlib.Core.Path.{_≡_, sym, ap, _∙_}
 use Rattle.text.specs.Field.{begins}
+use Rattle.sheet.specs.Lines.{fittings}
 use Rattle.sheet.specs.Reading.{fitByte}
 use Rattle.text.proofs.Stores.{rest-part}
 use Rattle.text.proofs.Line.{extent}
 use Rattle.sheet.proofs.FitsLoop.{State, start, kept, length-zeros, full, stop, place-in, fault, line-low, line-high, step}
-use Prim.Native.Nat.{_-_}
+use Prim.Native.Nat.{_-_, _≤_}
+use lib.ListN.{length, getD}
 use native.Mathlib.Omega.{arith}
 use borrow.Author.Needs.{needs}
 use Rattle.sheet.proofs.read_fits.Statement.{statement}
@@ -91,8 +93,10 @@ array-read-weights c = search needs
 array-read-weights-2 : tie.Need-array-read-weights-2 Inv-loop μ-loop
 array-read-weights-2 c = search needs
 
-cast-weights : tie.Need-cast-weights Inv-loop μ-loop
-cast-weights c =
+-- the line number that was read is one of the 24, and there is a weight for each
+read-line-in : (c : tie.After-known-told2 Inv-loop μ-loop) → (1 ≤ getD (c .before .before .before .before .read-line .last .1 .1 .1 .0) 0 0) × (getD (c .before .before .before .before .read-line .last .1 .1 .1 .0) 0 0 ≤ fittings)
+    × (length (c .before .before .before .before .before .before .before .before .before .before .before .before .before .loop .weights) ≡ fittings)
+read-line-in c =
     let start = c .before .before .before .before .before .before .before .before .before .before .before .before .before .before .before .before in
     let at-loop = c .before .before .before .before .before .before .before .before .before .before .before .before .before in
     let at-loop-test = c .before .before .before .before .before .before .before .before .before .before .before .before in
@@ -100,54 +104,26 @@ cast-weights c =
     let at-if1 = c .before .before .before .before .before .before .before .before .before in
     let at-read-line = c .before .before .before .before in
     let at-len = c .before in
-    omega (arith, line-low (at-loop .loop .inv) (at-loop-test .loop-test .taken) (sym (ap (begins fitByte) (rest-part (start .args .text .now) (at-loop .loop .at))) ∙ sym (at-starts .starts .ensures) ∙ at-if1 .if1 .taken) (at-read-line .read-line .ensures) (at-len .len .given .1), line-high (at-loop .loop .inv) (at-loop-test .loop-test .taken) (sym (ap (begins fitByte) (rest-part (start .args .text .now) (at-loop .loop .at))) ∙ sym (at-starts .starts .ensures) ∙ at-if1 .if1 .taken) (at-read-line .read-line .ensures) (at-len .len .given .1), kept (at-loop .loop .inv), length-zeros (at-loop .loop .inv))
+    let fits = sym (ap (begins fitByte) (rest-part (start .args .text .now) (at-loop .loop .at))) ∙ sym (at-starts .starts .ensures) ∙ at-if1 .if1 .taken in
+    (line-low (at-loop .loop .inv) (at-loop-test .loop-test .taken) fits (at-read-line .read-line .ensures) (at-len .len .given .1), line-high (at-loop .loop .inv) (at-loop-test .loop-test .taken) fits (at-read-line .read-line .ensures) (at-len .len .given .1), kept (at-loop .loop .inv) ∙ length-zeros (at-loop .loop .inv))
+
+cast-weights : tie.Need-cast-weights Inv-loop μ-loop
+cast-weights c = omega (arith, read-line-in c)
 
 sub-weights : tie.Need-sub-weights Inv-loop μ-loop
-sub-weights c =
-    let start = c .before .before .before .before .before .before .before .before .before .before .before .before .before .before .before .before in
-    let at-loop = c .before .before .before .before .before .before .before .before .before .before .before .before .before in
-    let at-loop-test = c .before .before .before .before .before .before .before .before .before .before .before .before in
-    let at-starts = c .before .before .before .before .before .before .before .before .before .before in
-    let at-if1 = c .before .before .before .before .before .before .before .before .before in
-    let at-read-line = c .before .before .before .before in
-    let at-len = c .before in
-    omega (arith, line-low (at-loop .loop .inv) (at-loop-test .loop-test .taken) (sym (ap (begins fitByte) (rest-part (start .args .text .now) (at-loop .loop .at))) ∙ sym (at-starts .starts .ensures) ∙ at-if1 .if1 .taken) (at-read-line .read-line .ensures) (at-len .len .given .1), line-high (at-loop .loop .inv) (at-loop-test .loop-test .taken) (sym (ap (begins fitByte) (rest-part (start .args .text .now) (at-loop .loop .at))) ∙ sym (at-starts .starts .ensures) ∙ at-if1 .if1 .taken) (at-read-line .read-line .ensures) (at-len .len .given .1), kept (at-loop .loop .inv), length-zeros (at-loop .loop .inv))
+sub-weights c = omega (arith, read-line-in c)
 
 mul-weights : tie.Need-mul-weights Inv-loop μ-loop
-mul-weights c =
-    let start = c .before .before .before .before .before .before .before .before .before .before .before .before .before .before .before .before in
-    let at-loop = c .before .before .before .before .before .before .before .before .before .before .before .before .before in
-    let at-loop-test = c .before .before .before .before .before .before .before .before .before .before .before .before in
-    let at-starts = c .before .before .before .before .before .before .before .before .before .before in
-    let at-if1 = c .before .before .before .before .before .before .before .before .before in
-    let at-read-line = c .before .before .before .before in
-    let at-len = c .before in
-    omega (arith, line-low (at-loop .loop .inv) (at-loop-test .loop-test .taken) (sym (ap (begins fitByte) (rest-part (start .args .text .now) (at-loop .loop .at))) ∙ sym (at-starts .starts .ensures) ∙ at-if1 .if1 .taken) (at-read-line .read-line .ensures) (at-len .len .given .1), line-high (at-loop .loop .inv) (at-loop-test .loop-test .taken) (sym (ap (begins fitByte) (rest-part (start .args .text .now) (at-loop .loop .at))) ∙ sym (at-starts .starts .ensures) ∙ at-if1 .if1 .taken) (at-read-line .read-line .ensures) (at-len .len .given .1), kept (at-loop .loop .inv), length-zeros (at-loop .loop .inv))
+mul-weights c = omega (arith, read-line-in c)
 
 slice-write-weights : tie.Need-slice-write-weights Inv-loop μ-loop
-slice-write-weights c =
-    let start = c .before .before .before .before .before .before .before .before .before .before .before .before .before .before .before .before in
-    let at-loop = c .before .before .before .before .before .before .before .before .before .before .before .before .before in
-    let at-loop-test = c .before .before .before .before .before .before .before .before .before .before .before .before in
-    let at-starts = c .before .before .before .before .before .before .before .before .before .before in
-    let at-if1 = c .before .before .before .before .before .before .before .before .before in
-    let at-read-line = c .before .before .before .before in
-    let at-len = c .before in
-    omega (arith, line-low (at-loop .loop .inv) (at-loop-test .loop-test .taken) (sym (ap (begins fitByte) (rest-part (start .args .text .now) (at-loop .loop .at))) ∙ sym (at-starts .starts .ensures) ∙ at-if1 .if1 .taken) (at-read-line .read-line .ensures) (at-len .len .given .1), line-high (at-loop .loop .inv) (at-loop-test .loop-test .taken) (sym (ap (begins fitByte) (rest-part (start .args .text .now) (at-loop .loop .at))) ∙ sym (at-starts .starts .ensures) ∙ at-if1 .if1 .taken) (at-read-line .read-line .ensures) (at-len .len .given .1), kept (at-loop .loop .inv), length-zeros (at-loop .loop .inv))
+slice-write-weights c = omega (arith, read-line-in c)
 
 array-read-next : tie.Need-array-read-next Inv-loop μ-loop
 array-read-next c = search needs
 
 add-next : tie.Need-add-next Inv-loop μ-loop
-add-next c =
-    let start = c .before .before .before .before .before .before .before .before .before .before .before .before .before .before .before .before in
-    let at-loop = c .before .before .before .before .before .before .before .before .before .before .before .before .before in
-    let at-loop-test = c .before .before .before .before .before .before .before .before .before .before .before .before in
-    let at-starts = c .before .before .before .before .before .before .before .before .before .before in
-    let at-if1 = c .before .before .before .before .before .before .before .before .before in
-    let at-read-line = c .before .before .before .before in
-    let at-len = c .before in
-    omega (arith, line-low (at-loop .loop .inv) (at-loop-test .loop-test .taken) (sym (ap (begins fitByte) (rest-part (start .args .text .now) (at-loop .loop .at))) ∙ sym (at-starts .starts .ensures) ∙ at-if1 .if1 .taken) (at-read-line .read-line .ensures) (at-len .len .given .1), line-high (at-loop .loop .inv) (at-loop-test .loop-test .taken) (sym (ap (begins fitByte) (rest-part (start .args .text .now) (at-loop .loop .at))) ∙ sym (at-starts .starts .ensures) ∙ at-if1 .if1 .taken) (at-read-line .read-line .ensures) (at-len .len .given .1), kept (at-loop .loop .inv), length-zeros (at-loop .loop .inv))
+add-next c = omega (arith, read-line-in c)
 
 add-at : tie.Need-add-at Inv-loop μ-loop
 add-at c =
