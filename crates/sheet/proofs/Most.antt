@@ -104,7 +104,7 @@ fits-most n (suc k) last (w ∷ ws) h =
 abbrev pub mostText : ℕ
 mostText = 610
 
-lines-open : linesOpen lines ≡ true
+pub lines-open : linesOpen lines ≡ true
 unfolding linesOpen opens
 lines-open = refl
 

@@ -18,17 +18,13 @@ use Rattle.text.proofs.LineTrip.{got}
 use Rattle.sheet.specs.Lines.{lines, fittings, endLine, mostBytes}
 use Rattle.sheet.specs.Sheet.{limitsOn, sheetLimits, sheetOk, linesText, fitsText, sheetText}
 use Rattle.sheet.specs.Reading.{fitByte, readLines, readFits, readEnd, readRest, readSheet}
-use Rattle.sheet.proofs.Held.{opens, linesOpen, hold-join}
+use Rattle.sheet.proofs.Held.{hold-join}
 use Rattle.sheet.proofs.Whole.{end-numbers, sheet-long, sheet-short}
-use Rattle.sheet.proofs.Most.{fitLimit, sheet-lines, sheet-fits, text-most}
+use Rattle.sheet.proofs.Most.{lines-open, fitLimit, sheet-lines, sheet-fits, text-most}
 use Rattle.sheet.proofs.LinesTrip.{LinesBack, followed-got, lines-back, lines-forth, linesNarrow}
 use Rattle.sheet.proofs.FitsTrip.{FitsBack, end-back, end-forth, fits-back, fits-forth}
 
 -- ---- a whole sheet
-
-lines-open : linesOpen lines ≡ true
-unfolding linesOpen opens
-lines-open = refl
 
 lines-narrow : linesNarrow lines ≡ true
 unfolding linesNarrow narrow
