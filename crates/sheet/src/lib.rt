@@ -124,11 +124,12 @@ const LIMITS: [Limit; TEXT_WORDS] = [
     [1, 500000, OR_NONE],
 ];
 
-// What a call answers: a refusal by its number alone, or that it was done, or a count.
+// What a call answers: a refusal by its number alone, or that it was done, or a count, or a plate's load and its other figure.
 pub enum Answer {
     Refused(u32),
     Done,
     Count(u32),
+    Plate(u32, u32),
 }
 
 // How many engine rows a text has, or its refusal and the place.

@@ -1,0 +1,2 @@
+-- The laws of the plates, a file for each concept.
+pub mod Samples

@@ -1,0 +1,7 @@
+-- What the plates are worked from and how, in the order of 01.
+pub mod Whole
+pub mod Words
+pub mod Volume
+pub mod Weights
+pub mod PlateC
+pub mod PlateA

@@ -1,0 +1,71 @@
+-- 01, Plate A (003, A2, A3, 2.6.1). The marked load is the nearest whole number, a half upward; the refusals are 12 and then 13. Assumes nothing: these are definitions.
+use Prim.Native.Nat.{ℕ, _+_, _-_, _*_}
+use mathlib.Core.Bool.{Bool, true, false, _&&_, cond}
+use mathlib.Core.List.{List, [], _∷_}
+use lib.Dec.{eqb, leb, ltb}
+use lib.IntN.{ℤ, pos, _+ℤ_, _-ℤ_, _*ℤ_}
+use Rattle.sheet.specs.declared.Answer.{Answer}
+use Rattle.sheet.specs.declared.Answer.the-variants.{Refused, Plate}
+use Rattle.plates.specs.Whole.{floorDiv, ceilDiv, below, whole}
+use Rattle.plates.specs.Words.{hullLength, transomWidth, transomHeight, flat, remote, fuel, machinery, outboard}
+use Rattle.plates.specs.Volume.{gram, netZ}
+use Rattle.plates.specs.Weights.{boatM}
+use Rattle.plates.specs.PlateC.{exactX, fifthKilo}
+
+-- ---- load
+
+-- an inboard's tanks and machinery count five times
+unfoldable pub inboardX : List ℕ → ℤ
+inboardX s = netZ s -ℤ pos gram *ℤ pos (boatM s) -ℤ pos (5 * gram) *ℤ pos (fuel s + machinery s)
+
+unfoldable pub loadX : List ℕ → ℤ
+loadX s = cond (eqb (outboard s) 1) (exactX s) (inboardX s)
+
+unfoldable pub markedA : List ℕ → ℤ
+markedA s = floorDiv (loadX s +ℤ pos (2500 * gram)) fifthKilo
+
+-- ---- power
+
+-- the power factor, square millimetres
+abbrev pub factorP : List ℕ → ℕ
+factorP s = hullLength s * transomWidth s
+
+abbrev pub tableEnd : ℕ
+tableEnd = 5000000
+
+-- the table's rows, by P up to and including; the watts of the first row that P fits, of the watts of the row before it and itself
+unfoldable pub rowWatts : ℕ → ℕ
+rowWatts p =
+    cond (leb p 2250000) 1500 (cond (leb p 3300000) 3000 (cond (leb p 3600000) 4000 (cond (leb p 3900000) 5250 (cond (leb p 4200000) 7500 12000))))
+
+-- the row before; before the first there is none, and 0 stands for it
+unfoldable pub beforeWatts : ℕ → ℕ
+beforeWatts p =
+    cond (leb p 2250000) 0 (cond (leb p 3300000) 1500 (cond (leb p 3600000) 3000 (cond (leb p 3900000) 4000 (cond (leb p 4200000) 5250 7500))))
+
+-- raised to the next multiple of 5000, leaving an exact multiple: a / d watts
+abbrev pub raised : ℕ → ℕ → ℕ
+raised a d = 5000 * ceilDiv a (5000 * d)
+
+-- above 5000000: 16P/1000 − 67000, 4P/1000 − 11000, 6.5P/1000 − 20000, each over whole numbers
+unfoldable pub formulaWatts : List ℕ → ℕ
+formulaWatts s =
+    let p = factorP s in
+    cond (eqb (remote s) 1 && leb 500 (transomHeight s)) (raised (16 * p - 67000000) 1000)
+    (cond (eqb (flat s) 1) (raised (4 * p - 11000000) 1000) (raised (13 * p - 40000000) 2000))
+
+-- a flat hard-chine bottom with P below 5000000 takes the row before
+unfoldable pub powerA : List ℕ → ℕ
+powerA s =
+    cond (eqb (outboard s) 0) 0
+    (cond (ltb tableEnd (factorP s)) (formulaWatts s)
+    (cond (eqb (flat s) 1 && ltb (factorP s) tableEnd) (beforeWatts (factorP s)) (rowWatts (factorP s))))
+
+-- an outboard with a flat bottom in the first row has no power
+abbrev pub noPower : List ℕ → Bool
+noPower s = eqb (outboard s) 1 && (eqb (flat s) 1 && leb (factorP s) 2250000)
+
+-- ---- the plate
+
+unfoldable pub plateA : List ℕ → Answer
+plateA s = cond (below (markedA s) 1) (Refused 12) (cond (noPower s) (Refused 13) (Plate (whole (markedA s)) (powerA s)))

@@ -1,0 +1,1 @@
+// Plates A and C, worked from the words of a sheet.
