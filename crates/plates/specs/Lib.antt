@@ -5,3 +5,4 @@ pub mod Volume
 pub mod Weights
 pub mod PlateC
 pub mod PlateA
+pub mod Bounds

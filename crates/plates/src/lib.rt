@@ -1,1 +1,92 @@
-// Plates A and C, worked from the words of a sheet.
+// Plates A and C, worked from the 68 words of a sheet that is within the limits.
+ghost use mathlib.Core.Path.{_≡_};
+ghost use mathlib.Core.List.{[], _∷_};
+ghost use Prim.Native.Nat.{ℕ, _+_, _*_, _≤_, _<_};
+ghost use lib.IntN.{subℕ};
+ghost use lib.ListN.{length, getD, take, drop};
+ghost use Rattle.plates.specs.Whole.{floorDiv, whole};
+ghost use Rattle.plates.specs.Words.{reference, station};
+ghost use Rattle.plates.specs.Volume.{product, summed, volumeN};
+ghost use Rattle.plates.specs.Weights.{sum, boatM};
+ghost use Rattle.plates.specs.PlateC.{markedC};
+ghost use Rattle.plates.specs.PlateA.{markedA};
+ghost use Rattle.plates.specs.Bounds.{Readings, Stations, Weights, Bounds};
+
+// Grams of water times 180000, and a fifth of a kilogram of them.
+const GRAM: u64 = 180_000;
+
+const FIFTH_KILO: u64 = 5 * 1000 * GRAM;
+
+fn wide(x: u32) -> u64
+    ensures { λ r. ⌜ r ≡ x ⌝ }
+{
+    x as u64
+}
+
+// The seven readings that start at a place of the sheet.
+fn readings_at(sheet: &[u32], at: usize) -> [u32; 7]
+    requires { ⌜ at + 7 ≤ length (now sheet) ⌝ }
+    ensures { λ r. ⌜ r ≡ take 7 (drop at (now (sheet .entry))) ⌝ }
+{
+    [
+        sheet[at],
+        sheet[at + 1],
+        sheet[at + 2],
+        sheet[at + 3],
+        sheet[at + 4],
+        sheet[at + 5],
+        sheet[at + 6],
+    ]
+}
+
+// Fifteen times a station's area.
+fn station_product(l: [u32; 7]) -> u64
+    requires { ⌜ Readings l ⌝ }
+    ensures { λ r. ⌜ r ≡ product l ⌝ }
+{
+    wide(l[0])
+        * (wide(l[1])
+            + 4 * wide(l[2])
+            + 2 * wide(l[3])
+            + 4 * wide(l[4])
+            + 2 * wide(l[5])
+            + 2 * wide(l[6]))
+}
+
+// N, of the readings of the four stations. Each product is kept, and then they are added.
+fn volume_of(readings: [[u32; 7]; 4], reference: u32) -> u64
+    requires { ⌜ Stations readings reference ⌝ }
+    ensures { λ r. ⌜ r ≡ summed reference (product (getD readings 0 [])) (product (getD readings 1 [])) (product (getD readings 2 [])) (product (getD readings 3 [])) ⌝ }
+{
+    let q = station_product(readings[0]);
+    let r = station_product(readings[1]);
+    let s = station_product(readings[2]);
+    let t = station_product(readings[3]);
+    wide(reference) * (4 * q + 2 * r + 4 * s + t)
+}
+
+// The largest whole number not above (gain - loss) / divisor, or 0 where that is below zero.
+fn whole_part(gain: u64, loss: u64, divisor: u64) -> u64
+    requires { ⌜ 0 < divisor ⌝ }
+    ensures { λ r. ⌜ r ≡ whole (floorDiv (subℕ gain loss) divisor) ⌝ }
+{
+    if gain < loss {
+        0
+    } else {
+        (gain - loss) / divisor
+    }
+}
+
+// F, the sum of the fittings' weights.
+fn fittings_weight(weights: &[u32]) -> u64
+    requires { ⌜ Weights (now weights) ⌝ }
+    ensures { λ r. ⌜ r ≡ sum (now (weights .entry)) ⌝ }
+{
+    let mut total = 0;
+    let mut i = 0;
+    while i < weights.len() {
+        total += wide(weights[i]);
+        i += 1;
+    }
+    total
+}

@@ -1,0 +1,53 @@
+-- Laws of the volume: a station's readings, and bounds of its product and of N. Assumes nothing.
+use mathlib.Core.Path.{_≡_, refl, sym, ap, _∙_}
+use mathlib.Core.List.{List, [], _∷_}
+use Prim.Native.Nat.{ℕ, suc, _+_, _*_, _≤_, _<_}
+use native.Mathlib.Nat.{mul-le-mul, le-trans}
+use native.Mathlib.Numerals.{add-one, add-two, add-three, add-four, add-five, add-six}
+use native.Mathlib.Omega.{arith}
+use lib.ListN.{length, getD, take, drop, drop-of-length-le}
+use lib.Seq.{drop-cons}
+use Rattle.text.proofs.Stores.{drop-more}
+use Rattle.plates.specs.Volume.{product}
+use Rattle.plates.specs.Weights.{sum}
+use Rattle.plates.specs.Bounds.{Readings, Stations}
+
+pub seven : (l : List ℕ) (j : ℕ) → j + 7 ≤ length l
+    → getD l j 0 ∷ getD l (j + 1) 0 ∷ getD l (j + 2) 0 ∷ getD l (j + 3) 0 ∷ getD l (j + 4) 0 ∷ getD l (j + 5) 0 ∷ getD l (j + 6) 0 ∷ [] ≡ take 7 (drop j l)
+seven l j h =
+    let a : j < length l = omega arith in
+    let b : suc j < length l = omega arith in
+    let c : suc (suc j) < length l = omega arith in
+    let d : suc (suc (suc j)) < length l = omega arith in
+    let e : suc (suc (suc (suc j))) < length l = omega arith in
+    let f : suc (suc (suc (suc (suc j)))) < length l = omega arith in
+    let g : suc (suc (suc (suc (suc (suc j))))) < length l = omega arith in
+    rw (
+      add-one j,
+      add-two j,
+      add-three j,
+      add-four j,
+      add-five j,
+      add-six j,
+      drop-cons l j 0,
+      drop-cons l (suc j) 0,
+      drop-cons l (suc (suc j)) 0,
+      drop-cons l (suc (suc (suc j))) 0,
+      drop-cons l (suc (suc (suc (suc j)))) 0,
+      drop-cons l (suc (suc (suc (suc (suc j))))) 0,
+      drop-cons l (suc (suc (suc (suc (suc (suc j)))))) 0,
+    )
+
+pub product-most : (l : List ℕ) → Readings l → product l ≤ 150000000
+unfolding product
+product-most l r = le-trans (mul-le-mul {n₂ = 4000} {m₂ = 37500} (r .b) (omega arith)) (omega arith)
+
+-- ---- the sum of weights, one after the other
+
+pub sum-more : (ws : List ℕ) (i : ℕ) → i < length ws → sum (drop i ws) ≡ getD ws i 0 + sum (drop (i + 1) ws)
+unfolding sum
+sum-more ws i h = rw (drop-more ws i h)
+
+pub sum-end : (ws : List ℕ) (i : ℕ) → length ws ≤ i → sum (drop i ws) ≡ 0
+unfolding sum
+sum-end ws i h = rw (drop-of-length-le ws {i = i} h)
