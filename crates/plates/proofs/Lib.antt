@@ -1,3 +1,5 @@
 -- The laws of the plates, a file for each concept.
+pub mod Whole
 pub mod Volume
+pub mod Loads
 pub mod Samples

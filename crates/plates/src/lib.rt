@@ -5,8 +5,8 @@ ghost use Prim.Native.Nat.{ℕ, _+_, _*_, _≤_, _<_};
 ghost use lib.IntN.{subℕ};
 ghost use lib.ListN.{length, getD, take, drop};
 ghost use Rattle.plates.specs.Whole.{floorDiv, whole};
-ghost use Rattle.plates.specs.Words.{reference, station};
-ghost use Rattle.plates.specs.Volume.{product, summed, volumeN};
+ghost use Rattle.plates.specs.Words.{aft};
+ghost use Rattle.plates.specs.Volume.{product, summed, volumeN, gram};
 ghost use Rattle.plates.specs.Weights.{sum, boatM};
 ghost use Rattle.plates.specs.PlateC.{markedC};
 ghost use Rattle.plates.specs.PlateA.{markedA};
@@ -89,4 +89,61 @@ fn fittings_weight(weights: &[u32]) -> u64
         i += 1;
     }
     total
+}
+
+// Where the words of a sheet stand.
+const LENGTH: usize = 0;
+
+const REFERENCE: usize = 1;
+
+const WIDTH: usize = 2;
+
+const HEIGHT: usize = 3;
+
+const FLAT: usize = 4;
+
+const REMOTE: usize = 5;
+
+const STATIONS: usize = 6;
+
+const AFT: usize = 34;
+
+const WELL: usize = 35;
+
+const FLOODING: usize = 36;
+
+const BARE: usize = 37;
+
+const FUEL: usize = 38;
+
+const MACHINERY: usize = 39;
+
+const OUTBOARD: usize = 40;
+
+const DECLARED: usize = 41;
+
+const POSITIONS: usize = 42;
+
+const TESTED: usize = 43;
+
+const FITTINGS: usize = 44;
+
+// What adds to the load: the water that the hull and the aft structure displace.
+fn gain_of(sheet: &[u32]) -> u64
+    requires { ⌜ Bounds (now sheet) ⌝ }
+    ensures { λ r. ⌜ r ≡ volumeN (now (sheet .entry)) + gram * aft (now (sheet .entry)) ⌝ }
+{
+    let q = readings_at(sheet, STATIONS);
+    let r = readings_at(sheet, STATIONS + 7);
+    let s = readings_at(sheet, STATIONS + 14);
+    let t = readings_at(sheet, STATIONS + 21);
+    volume_of([q, r, s, t], sheet[REFERENCE]) + GRAM * wide(sheet[AFT])
+}
+
+// M, the boat with its fittings.
+fn boat_of(sheet: &[u32]) -> u64
+    requires { ⌜ Bounds (now sheet) ⌝ }
+    ensures { λ r. ⌜ r ≡ boatM (now (sheet .entry)) ⌝ }
+{
+    wide(sheet[BARE]) + fittings_weight(&sheet[FITTINGS..])
 }

@@ -1,0 +1,80 @@
+-- The exact loads of 01 as differences of two natural sums, with their bounds. Assumes nothing.
+use mathlib.Core.Path.{_≡_, refl, sym, ap, _∙_}
+use mathlib.Core.Bool.{Bool, true, false, cond}
+use mathlib.Core.List.{List, [], _∷_}
+use Prim.Native.Nat.{ℕ, suc, _+_, _*_, _≤_, _<_}
+use native.Mathlib.Nat.{mul-le-mul, le-trans}
+use native.Mathlib.Omega.{arith}
+use lib.IntN.{ℤ, pos, subℕ, _+ℤ_, _-ℤ_, _*ℤ_}
+use lib.ListN.{length, getD}
+use Rattle.plates.specs.Words.{reference, station, aft, well, flooding, bare, fuel, machinery, fittingsOf}
+use Rattle.plates.specs.Volume.{product, summed, volumeN, gram, netZ}
+use Rattle.plates.specs.Weights.{sum, boatM}
+use Rattle.plates.specs.PlateC.{exactX}
+use Rattle.plates.specs.PlateA.{inboardX}
+use Rattle.plates.specs.Bounds.{Bounds, Weights}
+use Rattle.plates.proofs.Whole.{Differ, of-pos, of-sub, sum-of, less-of, times-of, is-sub}
+use Rattle.plates.proofs.Volume.{product-most}
+
+-- ---- what adds, and what takes away
+
+abbrev pub gain : List ℕ → ℕ
+gain s = volumeN s + gram * aft s
+
+abbrev pub loss : List ℕ → ℕ
+loss s = gram * (well s + flooding s + boatM s + fuel s + machinery s)
+
+abbrev pub inboardLoss : List ℕ → ℕ
+inboardLoss s = gram * (well s + flooding s + boatM s + 5 * (fuel s + machinery s))
+
+net : (s : List ℕ) → Differ (netZ s) (volumeN s + gram * (aft s + 0 + 0)) (0 + gram * (0 + well s + flooding s))
+unfolding netZ
+net s = sum-of (of-pos (volumeN s)) (times-of gram (less-of (less-of (of-pos (aft s)) (of-pos (well s))) (of-pos (flooding s))))
+
+pub exact-is : (s : List ℕ) → exactX s ≡ subℕ (gain s) (loss s)
+unfolding exactX
+exact-is s = is-sub (gain s) (loss s) (less-of (net s) (times-of gram (of-pos (boatM s + fuel s + machinery s)))) (omega arith)
+
+pub inboard-is : (s : List ℕ) → inboardX s ≡ subℕ (gain s) (inboardLoss s)
+unfolding inboardX
+inboard-is s = is-sub (gain s) (inboardLoss s) (less-of (less-of (net s) (times-of gram (of-pos (boatM s)))) (times-of (5 * gram) (of-pos (fuel s + machinery s)))) (omega arith)
+
+-- three times a difference, and a difference with a number added
+pub thrice : (a b : ℕ) → pos 3 *ℤ subℕ a b ≡ subℕ (3 * a) (3 * b)
+thrice a b = is-sub (3 * a) (3 * b) (times-of 3 (of-sub a b)) (omega arith)
+
+pub added : (a b c : ℕ) → subℕ a b +ℤ pos c ≡ subℕ (a + c) b
+added a b c = is-sub (a + c) b (sum-of (of-sub a b) (of-pos c)) (omega arith)
+
+-- ---- the sums as the code works them
+
+pub boat-is : (s : List ℕ) → boatM s ≡ bare s + sum (fittingsOf s)
+unfolding boatM
+boat-is s = refl
+
+pub volume-is : (s : List ℕ) {q r t u : List ℕ} → q ≡ station s 0 → r ≡ station s 1 → t ≡ station s 2 → u ≡ station s 3 → summed (reference s) (product q) (product r) (product t) (product u) ≡ volumeN s
+unfolding volumeN
+volume-is s a b c d = rw (a, b, c, d) refl
+
+-- ---- bounds
+
+sum-most-in : (ws : List ℕ) (n : ℕ) → length ws ≤ n → ((k : ℕ) → getD ws k 0 ≤ 500000) → sum ws ≤ 500000 * n
+unfolding sum
+sum-most-in [] n h f = omega arith
+sum-most-in (w ∷ ws) n h f =
+    let a : w ≤ 500000 = f 0 in
+    let b : sum ws ≤ 500000 * length ws = sum-most-in ws (length ws) (omega arith) (λ (k : ℕ). f (suc k)) in
+    omega arith
+
+pub boat-most : (s : List ℕ) → Bounds s → boatM s ≤ 14000000
+unfolding boatM
+boat-most s b = omega (arith, b .bare-most, sum-most-in (fittingsOf s) 24 (b .fittings .few) (b .fittings .light))
+
+pub volume-most : (s : List ℕ) → Bounds s → volumeN s ≤ 9900000000000
+unfolding volumeN
+volume-most s b =
+    let q = product-most (station s 0) (b .stations 0 (omega arith)) in
+    let r = product-most (station s 1) (b .stations 1 (omega arith)) in
+    let t = product-most (station s 2) (b .stations 2 (omega arith)) in
+    let u = product-most (station s 3) (b .stations 3 (omega arith)) in
+    le-trans (mul-le-mul {n₂ = 6000} {m₂ = 1650000000} (b .reference-most) (omega arith)) (omega arith)

@@ -1,0 +1,54 @@
+-- `boat_of` meets its contract. Assumes nothing.
+use mathlib.Core.Path.{sym, ap, _∙_, transport}
+use mathlib.Core.List.{List}
+use Prim.Native.Nat.{ℕ, _+_}
+use lib.ListN.{getD}
+use Rattle.text.proofs.Stores.{rest-part}
+use Rattle.plates.specs.Weights.{sum, boatM}
+use Rattle.plates.specs.Bounds.{Weights}
+use Rattle.plates.proofs.Loads.{boat-is, boat-most}
+use native.Mathlib.Omega.{arith}
+use borrow.Author.Needs.{needs}
+use Rattle.plates.proofs.boat_of.Statement.{statement}
+use Rattle.plates.proofs.boat_of.Tie as tie
+use Rattle.plates.proofs.boat_of.Reads as reads
+use Rattle.plates.proofs.boat_of.Lts as lts
+use Rattle.plates.proofs.fittings_weight.Reads as fittings-weight-reads
+use Rattle.plates.proofs.wide.Reads as wide-reads
+
+shared-slice-read-wide : tie.Need-shared-slice-read-wide
+shared-slice-read-wide c = search needs
+
+wide-requires : tie.Need-wide-requires
+wide-requires c κs = search needs
+
+sub-fittings-weight : tie.Need-sub-fittings-weight
+sub-fittings-weight c = search needs
+
+part-fittings-weight-start : tie.Need-part-fittings-weight-start
+part-fittings-weight-start c = search needs
+
+part-fittings-weight-end : tie.Need-part-fittings-weight-end
+part-fittings-weight-end c = search needs
+
+fittings-weight-requires : tie.Need-fittings-weight-requires
+fittings-weight-requires c κs = rw (rest-part (c .before .before .before .before .args .sheet .now) 44) (c .before .before .before .before .pre .fittings)
+
+add-result : tie.Need-add-result
+add-result c = omega (arith, c .before .before .wide .ensures, c .fittings-weight .ensures ∙ ap sum (rest-part (c .before .before .before .before .before .args .sheet .now) 44), boat-is (c .before .before .before .before .before .args .sheet .now), boat-most (c .before .before .before .before .before .args .sheet .now) (c .before .before .before .before .before .pre))
+
+returns : tie.Need-returns
+returns c = omega (arith, c .before .before .wide .ensures, c .fittings-weight .ensures ∙ ap sum (rest-part (c .before .before .before .before .before .args .sheet .now) 44), boat-is (c .before .before .before .before .before .args .sheet .now))
+
+pub boat-of-spec : {M : Type 1} → statement M
+boat-of-spec =
+    tie.close
+    (tie.spec
+    shared-slice-read-wide
+    wide-requires
+    sub-fittings-weight
+    part-fittings-weight-start
+    part-fittings-weight-end
+    fittings-weight-requires
+    add-result
+    returns)

@@ -1,0 +1,78 @@
+-- `gain_of` meets its contract. Assumes nothing.
+use mathlib.Core.Path.{sym, ap, _∙_}
+use mathlib.Core.List.{List}
+use Prim.Native.Nat.{ℕ, _+_}
+use lib.ListN.{getD}
+use Rattle.plates.specs.Volume.{volumeN}
+use Rattle.plates.specs.Bounds.{Readings, Stations}
+use Rattle.plates.proofs.Loads.{volume-is, volume-most}
+use native.Mathlib.Omega.{arith}
+use borrow.Author.Needs.{needs}
+use Rattle.plates.proofs.gain_of.Statement.{statement}
+use Rattle.plates.proofs.gain_of.Tie as tie
+use Rattle.plates.proofs.gain_of.Reads as reads
+use Rattle.plates.proofs.gain_of.Lts as lts
+use Rattle.plates.proofs.readings_at.Reads as readings-at-reads
+use Rattle.plates.proofs.volume_of.Reads as volume-of-reads
+use Rattle.plates.proofs.wide.Reads as wide-reads
+
+readings-at-requires : tie.Need-readings-at-requires
+readings-at-requires c κs = search needs
+
+add-readings-at : tie.Need-add-readings-at
+add-readings-at c = search needs
+
+readings-at-requires-2 : tie.Need-readings-at-requires-2
+readings-at-requires-2 c κs = search needs
+
+add-readings-at-2 : tie.Need-add-readings-at-2
+add-readings-at-2 c = search needs
+
+readings-at-requires-3 : tie.Need-readings-at-requires-3
+readings-at-requires-3 c κs = search needs
+
+add-readings-at-3 : tie.Need-add-readings-at-3
+add-readings-at-3 c = search needs
+
+readings-at-requires-4 : tie.Need-readings-at-requires-4
+readings-at-requires-4 c κs = search needs
+
+shared-slice-read-volume-of : tie.Need-shared-slice-read-volume-of
+shared-slice-read-volume-of c = search needs
+
+volume-of-requires : tie.Need-volume-of-requires
+volume-of-requires c κs = record { at0 = rw (c .before .before .before .before .readings-at .ensures) (c .before .before .before .before .before .before .pre .stations 0 (omega arith)); at1 = rw (c .before .before .before .readings-at2 .ensures) (c .before .before .before .before .before .before .pre .stations 1 (omega arith)); at2 = rw (c .before .before .readings-at3 .ensures) (c .before .before .before .before .before .before .pre .stations 2 (omega arith)); at3 = rw (c .before .readings-at4 .ensures) (c .before .before .before .before .before .before .pre .stations 3 (omega arith)); reference-most = c .before .before .before .before .before .before .pre .reference-most }
+
+shared-slice-read-wide : tie.Need-shared-slice-read-wide
+shared-slice-read-wide c = search needs
+
+wide-requires : tie.Need-wide-requires
+wide-requires c κs = search needs
+
+mul-result : tie.Need-mul-result
+mul-result c = search needs
+
+add-result : tie.Need-add-result
+add-result c = omega (arith, c .wide .ensures, c .before .before .volume-of .ensures ∙ volume-is (c .before .before .before .before .before .before .before .before .before .args .sheet .now) (c .before .before .before .before .before .before .before .readings-at .ensures) (c .before .before .before .before .before .before .readings-at2 .ensures) (c .before .before .before .before .before .readings-at3 .ensures) (c .before .before .before .before .readings-at4 .ensures), volume-most (c .before .before .before .before .before .before .before .before .before .args .sheet .now) (c .before .before .before .before .before .before .before .before .before .pre), c .before .before .before .before .before .before .before .before .before .pre .aft-most)
+
+returns : tie.Need-returns
+returns c = omega (arith, c .wide .ensures, c .before .before .volume-of .ensures ∙ volume-is (c .before .before .before .before .before .before .before .before .before .args .sheet .now) (c .before .before .before .before .before .before .before .readings-at .ensures) (c .before .before .before .before .before .before .readings-at2 .ensures) (c .before .before .before .before .before .readings-at3 .ensures) (c .before .before .before .before .readings-at4 .ensures))
+
+pub gain-of-spec : {M : Type 1} → statement M
+gain-of-spec =
+    tie.close
+    (tie.spec
+    readings-at-requires
+    add-readings-at
+    readings-at-requires-2
+    add-readings-at-2
+    readings-at-requires-3
+    add-readings-at-3
+    readings-at-requires-4
+    shared-slice-read-volume-of
+    volume-of-requires
+    shared-slice-read-wide
+    wide-requires
+    mul-result
+    add-result
+    returns)
