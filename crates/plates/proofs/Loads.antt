@@ -5,13 +5,16 @@ use mathlib.Core.List.{List, [], _∷_}
 use Prim.Native.Nat.{ℕ, suc, _+_, _*_, _≤_, _<_}
 use native.Mathlib.Nat.{mul-le-mul, le-trans}
 use native.Mathlib.Omega.{arith}
+use lib.Dec.{eqb, ltb}
+use borrow.Author.Tests.{lt-ltb, le-ltb}
 use lib.IntN.{ℤ, pos, subℕ, _+ℤ_, _-ℤ_, _*ℤ_}
 use lib.ListN.{length, getD}
-use Rattle.plates.specs.Words.{reference, station, aft, well, flooding, bare, fuel, machinery, fittingsOf}
+use Rattle.plates.specs.Whole.{floorDiv, whole}
+use Rattle.plates.specs.Words.{reference, station, aft, well, flooding, bare, fuel, machinery, outboard, declared, fittingsOf}
 use Rattle.plates.specs.Volume.{product, summed, volumeN, gram, netZ}
 use Rattle.plates.specs.Weights.{sum, boatM}
-use Rattle.plates.specs.PlateC.{exactX}
-use Rattle.plates.specs.PlateA.{inboardX}
+use Rattle.plates.specs.PlateC.{exactX, markedC, lowPower, fifthKilo}
+use Rattle.plates.specs.PlateA.{inboardX, loadX, markedA}
 use Rattle.plates.specs.Bounds.{Bounds, Weights}
 use Rattle.plates.proofs.Whole.{Differ, of-pos, of-sub, sum-of, less-of, times-of, is-sub}
 use Rattle.plates.proofs.Volume.{product-most}
@@ -21,30 +24,46 @@ use Rattle.plates.proofs.Volume.{product-most}
 abbrev pub gain : List ℕ → ℕ
 gain s = volumeN s + gram * aft s
 
-abbrev pub loss : List ℕ → ℕ
-loss s = gram * (well s + flooding s + boatM s + fuel s + machinery s)
-
-abbrev pub inboardLoss : List ℕ → ℕ
-inboardLoss s = gram * (well s + flooding s + boatM s + 5 * (fuel s + machinery s))
+-- the tanks and machinery count k times: once, or five times for an inboard's plate A
+abbrev pub loss : ℕ → List ℕ → ℕ
+loss k s = gram * (well s + flooding s + boatM s + k * (fuel s + machinery s))
 
 net : (s : List ℕ) → Differ (netZ s) (volumeN s + gram * (aft s + 0 + 0)) (0 + gram * (0 + well s + flooding s))
 unfolding netZ
 net s = sum-of (of-pos (volumeN s)) (times-of gram (less-of (less-of (of-pos (aft s)) (of-pos (well s))) (of-pos (flooding s))))
 
-pub exact-is : (s : List ℕ) → exactX s ≡ subℕ (gain s) (loss s)
+exact-is : (s : List ℕ) → exactX s ≡ subℕ (gain s) (loss 1 s)
 unfolding exactX
-exact-is s = is-sub (gain s) (loss s) (less-of (net s) (times-of gram (of-pos (boatM s + fuel s + machinery s)))) (omega arith)
+exact-is s = is-sub (gain s) (loss 1 s) (less-of (net s) (times-of gram (of-pos (boatM s + fuel s + machinery s)))) (omega arith)
 
-pub inboard-is : (s : List ℕ) → inboardX s ≡ subℕ (gain s) (inboardLoss s)
+inboard-is : (s : List ℕ) → inboardX s ≡ subℕ (gain s) (loss 5 s)
 unfolding inboardX
-inboard-is s = is-sub (gain s) (inboardLoss s) (less-of (less-of (net s) (times-of gram (of-pos (boatM s)))) (times-of (5 * gram) (of-pos (fuel s + machinery s)))) (omega arith)
+inboard-is s = is-sub (gain s) (loss 5 s) (less-of (less-of (net s) (times-of gram (of-pos (boatM s)))) (times-of (5 * gram) (of-pos (fuel s + machinery s)))) (omega arith)
 
 -- three times a difference, and a difference with a number added
-pub thrice : (a b : ℕ) → pos 3 *ℤ subℕ a b ≡ subℕ (3 * a) (3 * b)
+thrice : (a b : ℕ) → pos 3 *ℤ subℕ a b ≡ subℕ (3 * a) (3 * b)
 thrice a b = is-sub (3 * a) (3 * b) (times-of 3 (of-sub a b)) (omega arith)
 
-pub added : (a b c : ℕ) → subℕ a b +ℤ pos c ≡ subℕ (a + c) b
+added : (a b c : ℕ) → subℕ a b +ℤ pos c ≡ subℕ (a + c) b
 added a b c = is-sub (a + c) b (sum-of (of-sub a b) (of-pos c)) (omega arith)
+
+-- ---- the marked loads, by the case that the code finds
+
+pub marked-high : (s : List ℕ) → lowPower < declared s → whole (floorDiv (subℕ (gain s) (loss 1 s)) fifthKilo) ≡ whole (markedC s)
+unfolding markedC
+marked-high s h = rw (lt-ltb lowPower (declared s) h, exact-is s) refl
+
+pub marked-low : (s : List ℕ) → declared s ≤ lowPower → whole (floorDiv (subℕ (3 * gain s) (3 * loss 1 s)) (2 * fifthKilo)) ≡ whole (markedC s)
+unfolding markedC
+marked-low s h = rw (le-ltb lowPower (declared s) h, exact-is s, thrice (gain s) (loss 1 s)) refl
+
+pub marked-outboard : (s : List ℕ) → eqb (outboard s) 1 ≡ true → whole (floorDiv (subℕ (gain s + 2500 * gram) (loss 1 s)) fifthKilo) ≡ whole (markedA s)
+unfolding markedA loadX
+marked-outboard s e = rw (e, exact-is s, added (gain s) (loss 1 s) (2500 * gram)) refl
+
+pub marked-inboard : (s : List ℕ) → eqb (outboard s) 1 ≡ false → whole (floorDiv (subℕ (gain s + 2500 * gram) (loss 5 s)) fifthKilo) ≡ whole (markedA s)
+unfolding markedA loadX
+marked-inboard s e = rw (e, inboard-is s, added (gain s) (loss 5 s) (2500 * gram)) refl
 
 -- ---- the sums as the code works them
 
@@ -78,3 +97,9 @@ volume-most s b =
     let t = product-most (station s 2) (b .stations 2 (omega arith)) in
     let u = product-most (station s 3) (b .stations 3 (omega arith)) in
     le-trans (mul-le-mul {n₂ = 6000} {m₂ = 1650000000} (b .reference-most) (omega arith)) (omega arith)
+
+pub carried-most : (s : List ℕ) (k : ℕ) {f m : ℕ} → Bounds s → k ≤ 5 → f ≡ fuel s → m ≡ machinery s → k * (f + m) ≤ 5000000
+carried-most s k b h x y = mul-le-mul {n₂ = 5} {m₂ = 1000000} h (omega (arith, b .fuel-most, b .machinery-most))
+
+pub loss-most : (s : List ℕ) (k : ℕ) → Bounds s → k ≤ 5 → loss k s ≤ 6120000000000
+loss-most s k b h = omega (arith, carried-most s k b h refl refl, b .well-most, b .flooding-most, boat-most s b)

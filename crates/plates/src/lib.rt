@@ -5,12 +5,38 @@ ghost use Prim.Native.Nat.{ℕ, _+_, _*_, _≤_, _<_};
 ghost use lib.IntN.{subℕ};
 ghost use lib.ListN.{length, getD, take, drop};
 ghost use Rattle.plates.specs.Whole.{floorDiv, whole};
-ghost use Rattle.plates.specs.Words.{aft};
+ghost use Rattle.plates.specs.Words.{aft, well, flooding, fuel, machinery};
 ghost use Rattle.plates.specs.Volume.{product, summed, volumeN, gram};
 ghost use Rattle.plates.specs.Weights.{sum, boatM};
 ghost use Rattle.plates.specs.PlateC.{markedC};
 ghost use Rattle.plates.specs.PlateA.{markedA};
 ghost use Rattle.plates.specs.Bounds.{Readings, Stations, Weights, Bounds};
+
+// Where the words of a sheet stand.
+const REFERENCE: usize = 1;
+
+const STATIONS: usize = 6;
+
+const AFT: usize = 34;
+
+const WELL: usize = 35;
+
+const FLOODING: usize = 36;
+
+const BARE: usize = 37;
+
+const FUEL: usize = 38;
+
+const MACHINERY: usize = 39;
+
+const OUTBOARD: usize = 40;
+
+const DECLARED: usize = 41;
+
+const FITTINGS: usize = 44;
+
+// Declared watts up to which the gross load of plate C is three tenths, not a fifth.
+const LOW_POWER: u32 = 1500;
 
 // Grams of water times 180000, and a fifth of a kilogram of them.
 const GRAM: u64 = 180_000;
@@ -91,43 +117,6 @@ fn fittings_weight(weights: &[u32]) -> u64
     total
 }
 
-// Where the words of a sheet stand.
-const LENGTH: usize = 0;
-
-const REFERENCE: usize = 1;
-
-const WIDTH: usize = 2;
-
-const HEIGHT: usize = 3;
-
-const FLAT: usize = 4;
-
-const REMOTE: usize = 5;
-
-const STATIONS: usize = 6;
-
-const AFT: usize = 34;
-
-const WELL: usize = 35;
-
-const FLOODING: usize = 36;
-
-const BARE: usize = 37;
-
-const FUEL: usize = 38;
-
-const MACHINERY: usize = 39;
-
-const OUTBOARD: usize = 40;
-
-const DECLARED: usize = 41;
-
-const POSITIONS: usize = 42;
-
-const TESTED: usize = 43;
-
-const FITTINGS: usize = 44;
-
 // What adds to the load: the water that the hull and the aft structure displace.
 fn gain_of(sheet: &[u32]) -> u64
     requires { ⌜ Bounds (now sheet) ⌝ }
@@ -146,4 +135,40 @@ fn boat_of(sheet: &[u32]) -> u64
     ensures { λ r. ⌜ r ≡ boatM (now (sheet .entry)) ⌝ }
 {
     wide(sheet[BARE]) + fittings_weight(&sheet[FITTINGS..])
+}
+
+// What takes from the load. The tanks and machinery count so many times.
+fn loss_of(sheet: &[u32], times: u64) -> u64
+    requires { ⌜ Bounds (now sheet) × (times ≤ 5) ⌝ }
+    ensures { λ r. ⌜ r ≡ gram * (well (now (sheet .entry)) + flooding (now (sheet .entry)) + boatM (now (sheet .entry)) + times * (fuel (now (sheet .entry)) + machinery (now (sheet .entry)))) ⌝ }
+{
+    let carried = wide(sheet[FUEL]) + wide(sheet[MACHINERY]);
+    GRAM * (wide(sheet[WELL]) + wide(sheet[FLOODING]) + boat_of(sheet) + times * carried)
+}
+
+// The kilograms that plate C marks, or 0 where there are none.
+fn marked_c(sheet: &[u32]) -> u64
+    requires { ⌜ Bounds (now sheet) ⌝ }
+    ensures { λ r. ⌜ r ≡ whole (markedC (now (sheet .entry))) ⌝ }
+{
+    let gain = gain_of(sheet);
+    let loss = loss_of(sheet, 1);
+    if LOW_POWER < sheet[DECLARED] {
+        whole_part(gain, loss, FIFTH_KILO)
+    } else {
+        whole_part(3 * gain, 3 * loss, 2 * FIFTH_KILO)
+    }
+}
+
+// The kilograms that plate A marks, or 0 where there are none: half a kilogram is added, so that a half goes upward.
+fn marked_a(sheet: &[u32]) -> u64
+    requires { ⌜ Bounds (now sheet) ⌝ }
+    ensures { λ r. ⌜ r ≡ whole (markedA (now (sheet .entry))) ⌝ }
+{
+    let gain = gain_of(sheet) + 2500 * GRAM;
+    if sheet[OUTBOARD] == 1 {
+        whole_part(gain, loss_of(sheet, 1), FIFTH_KILO)
+    } else {
+        whole_part(gain, loss_of(sheet, 5), FIFTH_KILO)
+    }
 }

@@ -1,0 +1,83 @@
+-- `loss_of` meets its contract. Assumes nothing.
+use native.Mathlib.Nat.{lt-of-le-of-lt}
+use Rattle.plates.proofs.Loads.{boat-most, carried-most}
+use native.Mathlib.Nat.{mul-le-mul, lt-of-le-of-lt}
+use lib.Dec.{lit<}
+use Rattle.plates.proofs.Loads.{boat-most}
+use native.Mathlib.Omega.{arith}
+use borrow.Author.Needs.{needs}
+use Rattle.plates.proofs.loss_of.Statement.{statement}
+use Rattle.plates.proofs.loss_of.Tie as tie
+use Rattle.plates.proofs.loss_of.Reads as reads
+use Rattle.plates.proofs.loss_of.Lts as lts
+use Rattle.plates.proofs.boat_of.Reads as boat-of-reads
+use Rattle.plates.proofs.wide.Reads as wide-reads
+
+shared-slice-read-wide : tie.Need-shared-slice-read-wide
+shared-slice-read-wide c = search needs
+
+wide-requires : tie.Need-wide-requires
+wide-requires c κs = search needs
+
+shared-slice-read-wide-2 : tie.Need-shared-slice-read-wide-2
+shared-slice-read-wide-2 c = search needs
+
+wide-requires-2 : tie.Need-wide-requires-2
+wide-requires-2 c κs = search needs
+
+add-carried : tie.Need-add-carried
+add-carried c = search needs
+
+shared-slice-read-wide-3 : tie.Need-shared-slice-read-wide-3
+shared-slice-read-wide-3 c = search needs
+
+wide-requires-3 : tie.Need-wide-requires-3
+wide-requires-3 c κs = search needs
+
+shared-slice-read-wide-4 : tie.Need-shared-slice-read-wide-4
+shared-slice-read-wide-4 c = search needs
+
+wide-requires-4 : tie.Need-wide-requires-4
+wide-requires-4 c κs = search needs
+
+add-result : tie.Need-add-result
+add-result c = search needs
+
+boat-of-requires : tie.Need-boat-of-requires
+boat-of-requires c κs = search needs
+
+add-result-2 : tie.Need-add-result-2
+add-result-2 c = omega (arith, c .before .before .before .wide3 .ensures, c .before .wide4 .ensures, c .boat-of .ensures, boat-most (c .before .before .before .before .before .before .before .before .before .before .args .sheet .now) (c .before .before .before .before .before .before .before .before .before .before .pre .0), (c .before .before .before .before .before .before .before .before .before .before .pre .0) .well-most, (c .before .before .before .before .before .before .before .before .before .before .pre .0) .flooding-most)
+
+mul-result : tie.Need-mul-result
+mul-result c = record { fits = lt-of-le-of-lt (carried-most (c .before .before .before .before .before .before .before .before .before .before .args .sheet .now) (c .before .before .before .before .before .before .before .before .before .before .args .times) (c .before .before .before .before .before .before .before .before .before .before .pre .0) (c .before .before .before .before .before .before .before .before .before .before .pre .1) (c .before .before .before .before .before .before .before .wide .ensures) (c .before .before .before .before .before .wide2 .ensures)) (lit< tt) }
+
+add-result-3 : tie.Need-add-result-3
+add-result-3 c = omega (arith, carried-most (c .before .before .before .before .before .before .before .before .before .before .args .sheet .now) (c .before .before .before .before .before .before .before .before .before .before .args .times) (c .before .before .before .before .before .before .before .before .before .before .pre .0) (c .before .before .before .before .before .before .before .before .before .before .pre .1) (c .before .before .before .before .before .before .before .wide .ensures) (c .before .before .before .before .before .wide2 .ensures), c .before .before .before .wide3 .ensures, c .before .wide4 .ensures, c .boat-of .ensures, boat-most (c .before .before .before .before .before .before .before .before .before .before .args .sheet .now) (c .before .before .before .before .before .before .before .before .before .before .pre .0), (c .before .before .before .before .before .before .before .before .before .before .pre .0) .well-most, (c .before .before .before .before .before .before .before .before .before .before .pre .0) .flooding-most)
+
+mul-result-2 : tie.Need-mul-result-2
+mul-result-2 c = omega (arith, carried-most (c .before .before .before .before .before .before .before .before .before .before .args .sheet .now) (c .before .before .before .before .before .before .before .before .before .before .args .times) (c .before .before .before .before .before .before .before .before .before .before .pre .0) (c .before .before .before .before .before .before .before .before .before .before .pre .1) (c .before .before .before .before .before .before .before .wide .ensures) (c .before .before .before .before .before .wide2 .ensures), c .before .before .before .wide3 .ensures, c .before .wide4 .ensures, c .boat-of .ensures, boat-most (c .before .before .before .before .before .before .before .before .before .before .args .sheet .now) (c .before .before .before .before .before .before .before .before .before .before .pre .0), (c .before .before .before .before .before .before .before .before .before .before .pre .0) .well-most, (c .before .before .before .before .before .before .before .before .before .before .pre .0) .flooding-most)
+
+returns : tie.Need-returns
+returns c = simp (c .before .before .before .before .before .before .before .wide .ensures, c .before .before .before .before .before .wide2 .ensures, c .before .before .before .wide3 .ensures, c .before .wide4 .ensures, c .boat-of .ensures)
+
+pub loss-of-spec : {M : Type 1} → statement M
+loss-of-spec =
+    tie.close
+    (tie.spec
+    shared-slice-read-wide
+    wide-requires
+    shared-slice-read-wide-2
+    wide-requires-2
+    add-carried
+    shared-slice-read-wide-3
+    wide-requires-3
+    shared-slice-read-wide-4
+    wide-requires-4
+    add-result
+    boat-of-requires
+    add-result-2
+    mul-result
+    add-result-3
+    mul-result-2
+    returns)
