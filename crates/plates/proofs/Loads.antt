@@ -1,13 +1,13 @@
 -- The exact loads of 01 as differences of two natural sums, with their bounds. Assumes nothing.
-use mathlib.Core.Path.{_≡_, refl, sym, ap, _∙_}
-use mathlib.Core.Bool.{Bool, true, false, cond}
+use mathlib.Core.Path.{_≡_, refl}
+use mathlib.Core.Bool.{true, false}
 use mathlib.Core.List.{List, [], _∷_}
 use Prim.Native.Nat.{ℕ, suc, _+_, _*_, _≤_, _<_}
 use native.Mathlib.Nat.{mul-le-mul, le-trans}
 use native.Mathlib.Omega.{arith}
-use lib.Dec.{eqb, ltb}
+use lib.Dec.{eqb}
 use borrow.Author.Tests.{lt-ltb, le-ltb}
-use lib.IntN.{ℤ, pos, subℕ, _+ℤ_, _-ℤ_, _*ℤ_}
+use lib.IntN.{ℤ, pos, subℕ, _+ℤ_, _*ℤ_}
 use lib.ListN.{length, getD}
 use Rattle.plates.specs.Whole.{floorDiv, whole}
 use Rattle.plates.specs.Words.{reference, station, aft, well, flooding, bare, fuel, machinery, outboard, declared, fittingsOf}
@@ -15,7 +15,7 @@ use Rattle.plates.specs.Volume.{product, summed, volumeN, gram, netZ}
 use Rattle.plates.specs.Weights.{sum, boatM}
 use Rattle.plates.specs.PlateC.{exactX, markedC, lowPower, fifthKilo}
 use Rattle.plates.specs.PlateA.{inboardX, loadX, markedA}
-use Rattle.plates.specs.Bounds.{Bounds, Weights}
+use Rattle.plates.specs.Bounds.{Bounds}
 use Rattle.plates.proofs.Whole.{Differ, of-pos, of-sub, sum-of, less-of, times-of, is-sub}
 use Rattle.plates.proofs.Volume.{product-most}
 

@@ -1,7 +1,7 @@
 -- Laws of the volume: a station's readings, and bounds of its product and of N. Assumes nothing.
-use mathlib.Core.Path.{_≡_, refl, sym, ap, _∙_}
+use mathlib.Core.Path.{_≡_}
 use mathlib.Core.List.{List, [], _∷_}
-use Prim.Native.Nat.{ℕ, suc, _+_, _*_, _≤_, _<_}
+use Prim.Native.Nat.{ℕ, suc, _+_, _≤_, _<_}
 use native.Mathlib.Nat.{mul-le-mul, le-trans}
 use native.Mathlib.Numerals.{add-one, add-two, add-three, add-four, add-five, add-six}
 use native.Mathlib.Omega.{arith}
@@ -10,7 +10,7 @@ use lib.Seq.{drop-cons}
 use Rattle.text.proofs.Stores.{drop-more}
 use Rattle.plates.specs.Volume.{product}
 use Rattle.plates.specs.Weights.{sum}
-use Rattle.plates.specs.Bounds.{Readings, Stations}
+use Rattle.plates.specs.Bounds.{Readings}
 
 pub seven : (l : List ℕ) (j : ℕ) → j + 7 ≤ length l
     → getD l j 0 ∷ getD l (j + 1) 0 ∷ getD l (j + 2) 0 ∷ getD l (j + 3) 0 ∷ getD l (j + 4) 0 ∷ getD l (j + 5) 0 ∷ getD l (j + 6) 0 ∷ [] ≡ take 7 (drop j l)

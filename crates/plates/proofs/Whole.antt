@@ -1,13 +1,13 @@
 -- Whole numbers as differences of two natural sums, what adds and what takes away; and the roundings of 01. Assumes nothing.
 use mathlib.Core.Path.{_≡_, refl, sym, ap, _∙_}
 use mathlib.Core.Bool.{Bool, true, false, cond}
-use Prim.Native.Nat.{ℕ, zero, suc, _+_, _-_, _*_, _/_, _≤_, _<_, min}
+use Prim.Native.Nat.{ℕ, zero, suc, _+_, _-_, _*_, _≤_, min}
 use native.Mathlib.Nat.{mul-add}
 use native.Mathlib.Omega.{arith}
-use borrow.Author.Tests.{lt-ltb, le-ltb, ltb-true, ltb-false, le-leb, lt-leb, leb-true, leb-false, eq-eqb, ne-eqb}
+use borrow.Author.Tests.{le-ltb, ltb-true, ltb-false, leb-true, leb-false, ne-eqb}
 use lib.Dec.{eqb, leb, ltb}
 use lib.IntN.{ℤ, pos, negsuc, negℤ, subℕ, _+ℤ_, _-ℤ_, _*ℤ_}
-use Rattle.plates.specs.Whole.{floorDiv, ceilDiv, below, least, whole}
+use Rattle.plates.specs.Whole.{below, least, whole}
 
 abbrev Is : ℤ → ℕ → ℕ → Type 0
 Is (pos n) a b = n + b ≡ a

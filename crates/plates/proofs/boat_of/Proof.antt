@@ -1,20 +1,12 @@
 -- `boat_of` meets its contract. Assumes nothing.
-use mathlib.Core.Path.{sym, ap, _∙_, transport}
-use mathlib.Core.List.{List}
-use Prim.Native.Nat.{ℕ, _+_}
-use lib.ListN.{getD}
+use mathlib.Core.Path.{ap, _∙_}
 use Rattle.text.proofs.Stores.{rest-part}
-use Rattle.plates.specs.Weights.{sum, boatM}
-use Rattle.plates.specs.Bounds.{Weights}
+use Rattle.plates.specs.Weights.{sum}
 use Rattle.plates.proofs.Loads.{boat-is, boat-most}
 use native.Mathlib.Omega.{arith}
 use borrow.Author.Needs.{needs}
 use Rattle.plates.proofs.boat_of.Statement.{statement}
 use Rattle.plates.proofs.boat_of.Tie as tie
-use Rattle.plates.proofs.boat_of.Reads as reads
-use Rattle.plates.proofs.boat_of.Lts as lts
-use Rattle.plates.proofs.fittings_weight.Reads as fittings-weight-reads
-use Rattle.plates.proofs.wide.Reads as wide-reads
 
 shared-slice-read-wide : tie.Need-shared-slice-read-wide
 shared-slice-read-wide c = search needs
@@ -32,13 +24,19 @@ part-fittings-weight-end : tie.Need-part-fittings-weight-end
 part-fittings-weight-end c = search needs
 
 fittings-weight-requires : tie.Need-fittings-weight-requires
-fittings-weight-requires c κs = rw (rest-part (c .before .before .before .before .args .sheet .now) 44) (c .before .before .before .before .pre .fittings)
+fittings-weight-requires c κs =
+    let start = c .before .before .before .before in
+    rw (rest-part (start .args .sheet .now) 44) (start .pre .fittings)
 
 add-result : tie.Need-add-result
-add-result c = omega (arith, c .before .before .wide .ensures, c .fittings-weight .ensures ∙ ap sum (rest-part (c .before .before .before .before .before .args .sheet .now) 44), boat-is (c .before .before .before .before .before .args .sheet .now), boat-most (c .before .before .before .before .before .args .sheet .now) (c .before .before .before .before .before .pre))
+add-result c =
+    let start = c .before .before .before .before .before in
+    omega (arith, c .before .before .wide .ensures, c .fittings-weight .ensures ∙ ap sum (rest-part (start .args .sheet .now) 44), boat-is (start .args .sheet .now), boat-most (start .args .sheet .now) (start .pre))
 
 returns : tie.Need-returns
-returns c = omega (arith, c .before .before .wide .ensures, c .fittings-weight .ensures ∙ ap sum (rest-part (c .before .before .before .before .before .args .sheet .now) 44), boat-is (c .before .before .before .before .before .args .sheet .now))
+returns c =
+    let start = c .before .before .before .before .before in
+    omega (arith, c .before .before .wide .ensures, c .fittings-weight .ensures ∙ ap sum (rest-part (start .args .sheet .now) 44), boat-is (start .args .sheet .now))
 
 pub boat-of-spec : {M : Type 1} → statement M
 boat-of-spec =

@@ -8,9 +8,6 @@ use native.Mathlib.Omega.{arith}
 use borrow.Author.Needs.{needs}
 use Rattle.plates.proofs.fittings_weight.Statement.{statement}
 use Rattle.plates.proofs.fittings_weight.Tie as tie
-use Rattle.plates.proofs.fittings_weight.Reads as reads
-use Rattle.plates.proofs.fittings_weight.Lts as lts
-use Rattle.plates.proofs.wide.Reads as wide-reads
 
 abbrev Inv-loop : tie.InvT-loop
 Inv-loop weights total₀ i₀ total i = (i ≤ length weights) × (total + sum (drop i weights) ≡ sum weights) × (total ≤ 500000 * i)
@@ -31,7 +28,10 @@ wide-requires : tie.Need-wide-requires Inv-loop μ-loop
 wide-requires c κs = search needs
 
 add-total : tie.Need-add-total Inv-loop μ-loop
-add-total c = omega (arith, c .wide .ensures, c .before .before .before .before .before .pre .few, c .before .before .before .before .before .pre .light (c .before .before .before .loop .i))
+add-total c =
+    let start = c .before .before .before .before .before in
+    let at-loop = c .before .before .before in
+    omega (arith, c .wide .ensures, start .pre .few, start .pre .light (at-loop .loop .i))
 
 add-i : tie.Need-add-i Inv-loop μ-loop
 add-i c = search needs
@@ -40,10 +40,15 @@ loop-less : tie.Need-loop-less Inv-loop μ-loop
 loop-less c = search needs
 
 loop-again : tie.Need-loop-again Inv-loop μ-loop
-loop-again c = omega (arith, c .wide .ensures, c .before .before .before .before .before .pre .light (c .before .before .before .loop .i), sum-more (c .before .before .before .before .before .args .weights .now) (c .before .before .before .loop .i) (c .before .before .loop-test .taken))
+loop-again c =
+    let start = c .before .before .before .before .before in
+    let at-loop = c .before .before .before in
+    omega (arith, c .wide .ensures, start .pre .light (at-loop .loop .i), sum-more (start .args .weights .now) (at-loop .loop .i) (c .before .before .loop-test .taken))
 
 returns : tie.Need-returns Inv-loop μ-loop
-returns c = omega (arith, sum-end (c .before .before .before .args .weights .now) (c .before .loop .i) (c .loop-test .left))
+returns c =
+    let start = c .before .before .before in
+    omega (arith, sum-end (start .args .weights .now) (c .before .loop .i) (c .loop-test .left))
 
 pub fittings-weight-spec : {M : Type 1} → statement M
 fittings-weight-spec =

@@ -1,20 +1,10 @@
 -- `gain_of` meets its contract. Assumes nothing.
-use mathlib.Core.Path.{sym, ap, _∙_}
-use mathlib.Core.List.{List}
-use Prim.Native.Nat.{ℕ, _+_}
-use lib.ListN.{getD}
-use Rattle.plates.specs.Volume.{volumeN}
-use Rattle.plates.specs.Bounds.{Readings, Stations}
+use mathlib.Core.Path.{_∙_}
 use Rattle.plates.proofs.Loads.{volume-is, volume-most}
 use native.Mathlib.Omega.{arith}
 use borrow.Author.Needs.{needs}
 use Rattle.plates.proofs.gain_of.Statement.{statement}
 use Rattle.plates.proofs.gain_of.Tie as tie
-use Rattle.plates.proofs.gain_of.Reads as reads
-use Rattle.plates.proofs.gain_of.Lts as lts
-use Rattle.plates.proofs.readings_at.Reads as readings-at-reads
-use Rattle.plates.proofs.volume_of.Reads as volume-of-reads
-use Rattle.plates.proofs.wide.Reads as wide-reads
 
 readings-at-requires : tie.Need-readings-at-requires
 readings-at-requires c κs = search needs
@@ -41,7 +31,11 @@ shared-slice-read-volume-of : tie.Need-shared-slice-read-volume-of
 shared-slice-read-volume-of c = search needs
 
 volume-of-requires : tie.Need-volume-of-requires
-volume-of-requires c κs = record { at0 = rw (c .before .before .before .before .readings-at .ensures) (c .before .before .before .before .before .before .pre .stations 0 (omega arith)); at1 = rw (c .before .before .before .readings-at2 .ensures) (c .before .before .before .before .before .before .pre .stations 1 (omega arith)); at2 = rw (c .before .before .readings-at3 .ensures) (c .before .before .before .before .before .before .pre .stations 2 (omega arith)); at3 = rw (c .before .readings-at4 .ensures) (c .before .before .before .before .before .before .pre .stations 3 (omega arith)); reference-most = c .before .before .before .before .before .before .pre .reference-most }
+volume-of-requires c κs =
+    let start = c .before .before .before .before .before .before in
+    let at-readings-at = c .before .before .before .before in
+    let at-readings-at2 = c .before .before .before in
+    record { at0 = rw (at-readings-at .readings-at .ensures) (start .pre .stations 0 (omega arith)); at1 = rw (at-readings-at2 .readings-at2 .ensures) (start .pre .stations 1 (omega arith)); at2 = rw (c .before .before .readings-at3 .ensures) (start .pre .stations 2 (omega arith)); at3 = rw (c .before .readings-at4 .ensures) (start .pre .stations 3 (omega arith)); reference-most = start .pre .reference-most }
 
 shared-slice-read-wide : tie.Need-shared-slice-read-wide
 shared-slice-read-wide c = search needs
@@ -53,10 +47,22 @@ mul-result : tie.Need-mul-result
 mul-result c = search needs
 
 add-result : tie.Need-add-result
-add-result c = omega (arith, c .wide .ensures, c .before .before .volume-of .ensures ∙ volume-is (c .before .before .before .before .before .before .before .before .before .args .sheet .now) (c .before .before .before .before .before .before .before .readings-at .ensures) (c .before .before .before .before .before .before .readings-at2 .ensures) (c .before .before .before .before .before .readings-at3 .ensures) (c .before .before .before .before .readings-at4 .ensures), volume-most (c .before .before .before .before .before .before .before .before .before .args .sheet .now) (c .before .before .before .before .before .before .before .before .before .pre), c .before .before .before .before .before .before .before .before .before .pre .aft-most)
+add-result c =
+    let start = c .before .before .before .before .before .before .before .before .before in
+    let at-readings-at = c .before .before .before .before .before .before .before in
+    let at-readings-at2 = c .before .before .before .before .before .before in
+    let at-readings-at3 = c .before .before .before .before .before in
+    let at-readings-at4 = c .before .before .before .before in
+    omega (arith, c .wide .ensures, c .before .before .volume-of .ensures ∙ volume-is (start .args .sheet .now) (at-readings-at .readings-at .ensures) (at-readings-at2 .readings-at2 .ensures) (at-readings-at3 .readings-at3 .ensures) (at-readings-at4 .readings-at4 .ensures), volume-most (start .args .sheet .now) (start .pre), start .pre .aft-most)
 
 returns : tie.Need-returns
-returns c = omega (arith, c .wide .ensures, c .before .before .volume-of .ensures ∙ volume-is (c .before .before .before .before .before .before .before .before .before .args .sheet .now) (c .before .before .before .before .before .before .before .readings-at .ensures) (c .before .before .before .before .before .before .readings-at2 .ensures) (c .before .before .before .before .before .readings-at3 .ensures) (c .before .before .before .before .readings-at4 .ensures))
+returns c =
+    let start = c .before .before .before .before .before .before .before .before .before in
+    let at-readings-at = c .before .before .before .before .before .before .before in
+    let at-readings-at2 = c .before .before .before .before .before .before in
+    let at-readings-at3 = c .before .before .before .before .before in
+    let at-readings-at4 = c .before .before .before .before in
+    omega (arith, c .wide .ensures, c .before .before .volume-of .ensures ∙ volume-is (start .args .sheet .now) (at-readings-at .readings-at .ensures) (at-readings-at2 .readings-at2 .ensures) (at-readings-at3 .readings-at3 .ensures) (at-readings-at4 .readings-at4 .ensures))
 
 pub gain-of-spec : {M : Type 1} → statement M
 gain-of-spec =

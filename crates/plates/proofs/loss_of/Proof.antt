@@ -1,17 +1,13 @@
 -- `loss_of` meets its contract. Assumes nothing.
 use native.Mathlib.Nat.{lt-of-le-of-lt}
 use Rattle.plates.proofs.Loads.{boat-most, carried-most}
-use native.Mathlib.Nat.{mul-le-mul, lt-of-le-of-lt}
+use native.Mathlib.Nat.{lt-of-le-of-lt}
 use lib.Dec.{lit<}
 use Rattle.plates.proofs.Loads.{boat-most}
 use native.Mathlib.Omega.{arith}
 use borrow.Author.Needs.{needs}
 use Rattle.plates.proofs.loss_of.Statement.{statement}
 use Rattle.plates.proofs.loss_of.Tie as tie
-use Rattle.plates.proofs.loss_of.Reads as reads
-use Rattle.plates.proofs.loss_of.Lts as lts
-use Rattle.plates.proofs.boat_of.Reads as boat-of-reads
-use Rattle.plates.proofs.wide.Reads as wide-reads
 
 shared-slice-read-wide : tie.Need-shared-slice-read-wide
 shared-slice-read-wide c = search needs
@@ -47,19 +43,40 @@ boat-of-requires : tie.Need-boat-of-requires
 boat-of-requires c κs = search needs
 
 add-result-2 : tie.Need-add-result-2
-add-result-2 c = omega (arith, c .before .before .before .wide3 .ensures, c .before .wide4 .ensures, c .boat-of .ensures, boat-most (c .before .before .before .before .before .before .before .before .before .before .args .sheet .now) (c .before .before .before .before .before .before .before .before .before .before .pre .0), (c .before .before .before .before .before .before .before .before .before .before .pre .0) .well-most, (c .before .before .before .before .before .before .before .before .before .before .pre .0) .flooding-most)
+add-result-2 c =
+    let start = c .before .before .before .before .before .before .before .before .before .before in
+    let at-wide3 = c .before .before .before in
+    omega (arith, at-wide3 .wide3 .ensures, c .before .wide4 .ensures, c .boat-of .ensures, boat-most (start .args .sheet .now) (start .pre .0), (start .pre .0) .well-most, (start .pre .0) .flooding-most)
 
 mul-result : tie.Need-mul-result
-mul-result c = record { fits = lt-of-le-of-lt (carried-most (c .before .before .before .before .before .before .before .before .before .before .args .sheet .now) (c .before .before .before .before .before .before .before .before .before .before .args .times) (c .before .before .before .before .before .before .before .before .before .before .pre .0) (c .before .before .before .before .before .before .before .before .before .before .pre .1) (c .before .before .before .before .before .before .before .wide .ensures) (c .before .before .before .before .before .wide2 .ensures)) (lit< tt) }
+mul-result c =
+    let start = c .before .before .before .before .before .before .before .before .before .before in
+    let at-wide = c .before .before .before .before .before .before .before in
+    let at-wide2 = c .before .before .before .before .before in
+    record { fits = lt-of-le-of-lt (carried-most (start .args .sheet .now) (start .args .times) (start .pre .0) (start .pre .1) (at-wide .wide .ensures) (at-wide2 .wide2 .ensures)) (lit< tt) }
 
 add-result-3 : tie.Need-add-result-3
-add-result-3 c = omega (arith, carried-most (c .before .before .before .before .before .before .before .before .before .before .args .sheet .now) (c .before .before .before .before .before .before .before .before .before .before .args .times) (c .before .before .before .before .before .before .before .before .before .before .pre .0) (c .before .before .before .before .before .before .before .before .before .before .pre .1) (c .before .before .before .before .before .before .before .wide .ensures) (c .before .before .before .before .before .wide2 .ensures), c .before .before .before .wide3 .ensures, c .before .wide4 .ensures, c .boat-of .ensures, boat-most (c .before .before .before .before .before .before .before .before .before .before .args .sheet .now) (c .before .before .before .before .before .before .before .before .before .before .pre .0), (c .before .before .before .before .before .before .before .before .before .before .pre .0) .well-most, (c .before .before .before .before .before .before .before .before .before .before .pre .0) .flooding-most)
+add-result-3 c =
+    let start = c .before .before .before .before .before .before .before .before .before .before in
+    let at-wide = c .before .before .before .before .before .before .before in
+    let at-wide2 = c .before .before .before .before .before in
+    let at-wide3 = c .before .before .before in
+    omega (arith, carried-most (start .args .sheet .now) (start .args .times) (start .pre .0) (start .pre .1) (at-wide .wide .ensures) (at-wide2 .wide2 .ensures), at-wide3 .wide3 .ensures, c .before .wide4 .ensures, c .boat-of .ensures, boat-most (start .args .sheet .now) (start .pre .0), (start .pre .0) .well-most, (start .pre .0) .flooding-most)
 
 mul-result-2 : tie.Need-mul-result-2
-mul-result-2 c = omega (arith, carried-most (c .before .before .before .before .before .before .before .before .before .before .args .sheet .now) (c .before .before .before .before .before .before .before .before .before .before .args .times) (c .before .before .before .before .before .before .before .before .before .before .pre .0) (c .before .before .before .before .before .before .before .before .before .before .pre .1) (c .before .before .before .before .before .before .before .wide .ensures) (c .before .before .before .before .before .wide2 .ensures), c .before .before .before .wide3 .ensures, c .before .wide4 .ensures, c .boat-of .ensures, boat-most (c .before .before .before .before .before .before .before .before .before .before .args .sheet .now) (c .before .before .before .before .before .before .before .before .before .before .pre .0), (c .before .before .before .before .before .before .before .before .before .before .pre .0) .well-most, (c .before .before .before .before .before .before .before .before .before .before .pre .0) .flooding-most)
+mul-result-2 c =
+    let start = c .before .before .before .before .before .before .before .before .before .before in
+    let at-wide = c .before .before .before .before .before .before .before in
+    let at-wide2 = c .before .before .before .before .before in
+    let at-wide3 = c .before .before .before in
+    omega (arith, carried-most (start .args .sheet .now) (start .args .times) (start .pre .0) (start .pre .1) (at-wide .wide .ensures) (at-wide2 .wide2 .ensures), at-wide3 .wide3 .ensures, c .before .wide4 .ensures, c .boat-of .ensures, boat-most (start .args .sheet .now) (start .pre .0), (start .pre .0) .well-most, (start .pre .0) .flooding-most)
 
 returns : tie.Need-returns
-returns c = simp (c .before .before .before .before .before .before .before .wide .ensures, c .before .before .before .before .before .wide2 .ensures, c .before .before .before .wide3 .ensures, c .before .wide4 .ensures, c .boat-of .ensures)
+returns c =
+    let at-wide = c .before .before .before .before .before .before .before in
+    let at-wide2 = c .before .before .before .before .before in
+    let at-wide3 = c .before .before .before in
+    simp (at-wide .wide .ensures, at-wide2 .wide2 .ensures, at-wide3 .wide3 .ensures, c .before .wide4 .ensures, c .boat-of .ensures)
 
 pub loss-of-spec : {M : Type 1} → statement M
 loss-of-spec =

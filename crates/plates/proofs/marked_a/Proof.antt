@@ -1,20 +1,11 @@
 -- `marked_a` meets its contract. Assumes nothing.
-use mathlib.Core.Path.{ap, _∙_}
-use Prim.Native.Nat.{ℕ, _*_}
-use lib.IntN.{subℕ}
-use Rattle.plates.specs.Whole.{floorDiv, whole}
-use Rattle.plates.specs.PlateC.{fifthKilo}
+use mathlib.Core.Path.{_∙_}
 use borrow.Author.Tests.{eq-eqb, ne-eqb}
 use Rattle.plates.proofs.Loads.{volume-most, marked-outboard, marked-inboard}
 use native.Mathlib.Omega.{arith}
 use borrow.Author.Needs.{needs}
 use Rattle.plates.proofs.marked_a.Statement.{statement}
 use Rattle.plates.proofs.marked_a.Tie as tie
-use Rattle.plates.proofs.marked_a.Reads as reads
-use Rattle.plates.proofs.marked_a.Lts as lts
-use Rattle.plates.proofs.gain_of.Reads as gain-of-reads
-use Rattle.plates.proofs.loss_of.Reads as loss-of-reads
-use Rattle.plates.proofs.whole_part.Reads as whole-part-reads
 
 gain-of-requires : tie.Need-gain-of-requires
 gain-of-requires c κs = search needs
@@ -23,7 +14,9 @@ mul-gain : tie.Need-mul-gain
 mul-gain c = search needs
 
 add-gain : tie.Need-add-gain
-add-gain c = omega (arith, c .gain-of .ensures, volume-most (c .before .before .args .sheet .now) (c .before .before .pre), c .before .before .pre .aft-most)
+add-gain c =
+    let start = c .before .before in
+    omega (arith, c .gain-of .ensures, volume-most (start .args .sheet .now) (start .pre), start .pre .aft-most)
 
 shared-slice-read-if1 : tie.Need-shared-slice-read-if1
 shared-slice-read-if1 c = search needs
@@ -41,10 +34,16 @@ whole-part-requires-2 : tie.Need-whole-part-requires-2
 whole-part-requires-2 c κs = search needs
 
 returns : tie.Need-returns
-returns c = c .whole-part .ensures ∙ rw (c .before .before .before .before .gain-of .ensures, c .before .loss-of .ensures) (marked-outboard (c .before .before .before .before .before .before .args .sheet .now) (eq-eqb _ _ (c .before .before .if1 .taken)))
+returns c =
+    let start = c .before .before .before .before .before .before in
+    let at-gain-of = c .before .before .before .before in
+    c .whole-part .ensures ∙ rw (at-gain-of .gain-of .ensures, c .before .loss-of .ensures) (marked-outboard (start .args .sheet .now) (eq-eqb _ _ (c .before .before .if1 .taken)))
 
 returns-2 : tie.Need-returns-2
-returns-2 c = c .whole-part2 .ensures ∙ rw (c .before .before .before .before .gain-of .ensures, c .before .loss-of2 .ensures) (marked-inboard (c .before .before .before .before .before .before .args .sheet .now) (ne-eqb _ _ (c .before .before .if1 .left)))
+returns-2 c =
+    let start = c .before .before .before .before .before .before in
+    let at-gain-of = c .before .before .before .before in
+    c .whole-part2 .ensures ∙ rw (at-gain-of .gain-of .ensures, c .before .loss-of2 .ensures) (marked-inboard (start .args .sheet .now) (ne-eqb _ _ (c .before .before .if1 .left)))
 
 pub marked-a-spec : {M : Type 1} → statement M
 marked-a-spec =

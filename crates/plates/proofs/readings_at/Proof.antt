@@ -1,11 +1,8 @@
 -- `readings_at` meets its contract. Assumes nothing.
 use Rattle.plates.proofs.Volume.{seven}
-use native.Mathlib.Omega.{arith}
 use borrow.Author.Needs.{needs}
 use Rattle.plates.proofs.readings_at.Statement.{statement}
 use Rattle.plates.proofs.readings_at.Tie as tie
-use Rattle.plates.proofs.readings_at.Reads as reads
-use Rattle.plates.proofs.readings_at.Lts as lts
 
 mul-t3 : tie.Need-mul-t3
 mul-t3 c = search needs
@@ -68,7 +65,9 @@ shared-slice-read-t29 : tie.Need-shared-slice-read-t29
 shared-slice-read-t29 c = search needs
 
 returns : tie.Need-returns
-returns c = seven (c .before .before .before .before .before .before .before .args .sheet .now) (c .before .before .before .before .before .before .before .args .at) (c .before .before .before .before .before .before .before .pre)
+returns c =
+    let start = c .before .before .before .before .before .before .before in
+    seven (start .args .sheet .now) (start .args .at) (start .pre)
 
 pub readings-at-spec : {M : Type 1} → statement M
 readings-at-spec =

@@ -6,9 +6,6 @@ use native.Mathlib.Omega.{arith}
 use borrow.Author.Needs.{needs}
 use Rattle.plates.proofs.station_product.Statement.{statement}
 use Rattle.plates.proofs.station_product.Tie as tie
-use Rattle.plates.proofs.station_product.Reads as reads
-use Rattle.plates.proofs.station_product.Lts as lts
-use Rattle.plates.proofs.wide.Reads as wide-reads
 
 array-read-wide : tie.Need-array-read-wide
 array-read-wide c = search needs
@@ -87,7 +84,12 @@ mul-result-6 c = record { fits = lt-of-le-of-lt (mul-le-mul {n₂ = 4000} {m₂ 
 
 returns : tie.Need-returns
 unfolding product
-returns c = simp (c .before .before .before .before .before .before .wide .ensures, c .before .before .before .before .before .wide2 .ensures, c .before .before .before .before .wide3 .ensures, c .before .before .before .wide4 .ensures, c .before .before .wide5 .ensures, c .before .wide6 .ensures, c .wide7 .ensures)
+returns c =
+    let at-wide = c .before .before .before .before .before .before in
+    let at-wide2 = c .before .before .before .before .before in
+    let at-wide3 = c .before .before .before .before in
+    let at-wide4 = c .before .before .before in
+    simp (at-wide .wide .ensures, at-wide2 .wide2 .ensures, at-wide3 .wide3 .ensures, at-wide4 .wide4 .ensures, c .before .before .wide5 .ensures, c .before .wide6 .ensures, c .wide7 .ensures)
 
 pub station-product-spec : {M : Type 1} → statement M
 station-product-spec =

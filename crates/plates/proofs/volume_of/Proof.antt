@@ -8,10 +8,6 @@ use native.Mathlib.Omega.{arith}
 use borrow.Author.Needs.{needs}
 use Rattle.plates.proofs.volume_of.Statement.{statement}
 use Rattle.plates.proofs.volume_of.Tie as tie
-use Rattle.plates.proofs.volume_of.Reads as reads
-use Rattle.plates.proofs.volume_of.Lts as lts
-use Rattle.plates.proofs.station_product.Reads as station-product-reads
-use Rattle.plates.proofs.wide.Reads as wide-reads
 
 array-copy-out-station-product : tie.Need-array-copy-out-station-product
 array-copy-out-station-product c = search needs
@@ -41,28 +37,67 @@ wide-requires : tie.Need-wide-requires
 wide-requires c κs = search needs
 
 mul-result : tie.Need-mul-result
-mul-result c = omega (arith, c .before .before .before .before .before .before .before .station-product .ensures, product-most (getD (c .before .before .before .before .before .before .before .before .before .args .t1) 0 []) (c .before .before .before .before .before .before .before .before .before .pre .at0), c .before .before .before .before .before .station-product2 .ensures, product-most (getD (c .before .before .before .before .before .before .before .before .before .args .t1) 1 []) (c .before .before .before .before .before .before .before .before .before .pre .at1), c .before .before .before .station-product3 .ensures, product-most (getD (c .before .before .before .before .before .before .before .before .before .args .t1) 2 []) (c .before .before .before .before .before .before .before .before .before .pre .at2), c .before .station-product4 .ensures, product-most (getD (c .before .before .before .before .before .before .before .before .before .args .t1) 3 []) (c .before .before .before .before .before .before .before .before .before .pre .at3))
+mul-result c =
+    let start = c .before .before .before .before .before .before .before .before .before in
+    let at-station-product = c .before .before .before .before .before .before .before in
+    let at-station-product2 = c .before .before .before .before .before in
+    let at-station-product3 = c .before .before .before in
+    omega (arith, at-station-product .station-product .ensures, product-most (getD (start .args .t1) 0 []) (start .pre .at0), at-station-product2 .station-product2 .ensures, product-most (getD (start .args .t1) 1 []) (start .pre .at1), at-station-product3 .station-product3 .ensures, product-most (getD (start .args .t1) 2 []) (start .pre .at2), c .before .station-product4 .ensures, product-most (getD (start .args .t1) 3 []) (start .pre .at3))
 
 mul-result-2 : tie.Need-mul-result-2
-mul-result-2 c = omega (arith, c .before .before .before .before .before .before .before .station-product .ensures, product-most (getD (c .before .before .before .before .before .before .before .before .before .args .t1) 0 []) (c .before .before .before .before .before .before .before .before .before .pre .at0), c .before .before .before .before .before .station-product2 .ensures, product-most (getD (c .before .before .before .before .before .before .before .before .before .args .t1) 1 []) (c .before .before .before .before .before .before .before .before .before .pre .at1), c .before .before .before .station-product3 .ensures, product-most (getD (c .before .before .before .before .before .before .before .before .before .args .t1) 2 []) (c .before .before .before .before .before .before .before .before .before .pre .at2), c .before .station-product4 .ensures, product-most (getD (c .before .before .before .before .before .before .before .before .before .args .t1) 3 []) (c .before .before .before .before .before .before .before .before .before .pre .at3))
+mul-result-2 c =
+    let start = c .before .before .before .before .before .before .before .before .before in
+    let at-station-product = c .before .before .before .before .before .before .before in
+    let at-station-product2 = c .before .before .before .before .before in
+    let at-station-product3 = c .before .before .before in
+    omega (arith, at-station-product .station-product .ensures, product-most (getD (start .args .t1) 0 []) (start .pre .at0), at-station-product2 .station-product2 .ensures, product-most (getD (start .args .t1) 1 []) (start .pre .at1), at-station-product3 .station-product3 .ensures, product-most (getD (start .args .t1) 2 []) (start .pre .at2), c .before .station-product4 .ensures, product-most (getD (start .args .t1) 3 []) (start .pre .at3))
 
 add-result : tie.Need-add-result
-add-result c = omega (arith, c .before .before .before .before .before .before .before .station-product .ensures, product-most (getD (c .before .before .before .before .before .before .before .before .before .args .t1) 0 []) (c .before .before .before .before .before .before .before .before .before .pre .at0), c .before .before .before .before .before .station-product2 .ensures, product-most (getD (c .before .before .before .before .before .before .before .before .before .args .t1) 1 []) (c .before .before .before .before .before .before .before .before .before .pre .at1), c .before .before .before .station-product3 .ensures, product-most (getD (c .before .before .before .before .before .before .before .before .before .args .t1) 2 []) (c .before .before .before .before .before .before .before .before .before .pre .at2), c .before .station-product4 .ensures, product-most (getD (c .before .before .before .before .before .before .before .before .before .args .t1) 3 []) (c .before .before .before .before .before .before .before .before .before .pre .at3))
+add-result c =
+    let start = c .before .before .before .before .before .before .before .before .before in
+    let at-station-product = c .before .before .before .before .before .before .before in
+    let at-station-product2 = c .before .before .before .before .before in
+    let at-station-product3 = c .before .before .before in
+    omega (arith, at-station-product .station-product .ensures, product-most (getD (start .args .t1) 0 []) (start .pre .at0), at-station-product2 .station-product2 .ensures, product-most (getD (start .args .t1) 1 []) (start .pre .at1), at-station-product3 .station-product3 .ensures, product-most (getD (start .args .t1) 2 []) (start .pre .at2), c .before .station-product4 .ensures, product-most (getD (start .args .t1) 3 []) (start .pre .at3))
 
 mul-result-3 : tie.Need-mul-result-3
-mul-result-3 c = omega (arith, c .before .before .before .before .before .before .before .station-product .ensures, product-most (getD (c .before .before .before .before .before .before .before .before .before .args .t1) 0 []) (c .before .before .before .before .before .before .before .before .before .pre .at0), c .before .before .before .before .before .station-product2 .ensures, product-most (getD (c .before .before .before .before .before .before .before .before .before .args .t1) 1 []) (c .before .before .before .before .before .before .before .before .before .pre .at1), c .before .before .before .station-product3 .ensures, product-most (getD (c .before .before .before .before .before .before .before .before .before .args .t1) 2 []) (c .before .before .before .before .before .before .before .before .before .pre .at2), c .before .station-product4 .ensures, product-most (getD (c .before .before .before .before .before .before .before .before .before .args .t1) 3 []) (c .before .before .before .before .before .before .before .before .before .pre .at3))
+mul-result-3 c =
+    let start = c .before .before .before .before .before .before .before .before .before in
+    let at-station-product = c .before .before .before .before .before .before .before in
+    let at-station-product2 = c .before .before .before .before .before in
+    let at-station-product3 = c .before .before .before in
+    omega (arith, at-station-product .station-product .ensures, product-most (getD (start .args .t1) 0 []) (start .pre .at0), at-station-product2 .station-product2 .ensures, product-most (getD (start .args .t1) 1 []) (start .pre .at1), at-station-product3 .station-product3 .ensures, product-most (getD (start .args .t1) 2 []) (start .pre .at2), c .before .station-product4 .ensures, product-most (getD (start .args .t1) 3 []) (start .pre .at3))
 
 add-result-2 : tie.Need-add-result-2
-add-result-2 c = omega (arith, c .before .before .before .before .before .before .before .station-product .ensures, product-most (getD (c .before .before .before .before .before .before .before .before .before .args .t1) 0 []) (c .before .before .before .before .before .before .before .before .before .pre .at0), c .before .before .before .before .before .station-product2 .ensures, product-most (getD (c .before .before .before .before .before .before .before .before .before .args .t1) 1 []) (c .before .before .before .before .before .before .before .before .before .pre .at1), c .before .before .before .station-product3 .ensures, product-most (getD (c .before .before .before .before .before .before .before .before .before .args .t1) 2 []) (c .before .before .before .before .before .before .before .before .before .pre .at2), c .before .station-product4 .ensures, product-most (getD (c .before .before .before .before .before .before .before .before .before .args .t1) 3 []) (c .before .before .before .before .before .before .before .before .before .pre .at3))
+add-result-2 c =
+    let start = c .before .before .before .before .before .before .before .before .before in
+    let at-station-product = c .before .before .before .before .before .before .before in
+    let at-station-product2 = c .before .before .before .before .before in
+    let at-station-product3 = c .before .before .before in
+    omega (arith, at-station-product .station-product .ensures, product-most (getD (start .args .t1) 0 []) (start .pre .at0), at-station-product2 .station-product2 .ensures, product-most (getD (start .args .t1) 1 []) (start .pre .at1), at-station-product3 .station-product3 .ensures, product-most (getD (start .args .t1) 2 []) (start .pre .at2), c .before .station-product4 .ensures, product-most (getD (start .args .t1) 3 []) (start .pre .at3))
 
 add-result-3 : tie.Need-add-result-3
-add-result-3 c = omega (arith, c .before .before .before .before .before .before .before .station-product .ensures, product-most (getD (c .before .before .before .before .before .before .before .before .before .args .t1) 0 []) (c .before .before .before .before .before .before .before .before .before .pre .at0), c .before .before .before .before .before .station-product2 .ensures, product-most (getD (c .before .before .before .before .before .before .before .before .before .args .t1) 1 []) (c .before .before .before .before .before .before .before .before .before .pre .at1), c .before .before .before .station-product3 .ensures, product-most (getD (c .before .before .before .before .before .before .before .before .before .args .t1) 2 []) (c .before .before .before .before .before .before .before .before .before .pre .at2), c .before .station-product4 .ensures, product-most (getD (c .before .before .before .before .before .before .before .before .before .args .t1) 3 []) (c .before .before .before .before .before .before .before .before .before .pre .at3))
+add-result-3 c =
+    let start = c .before .before .before .before .before .before .before .before .before in
+    let at-station-product = c .before .before .before .before .before .before .before in
+    let at-station-product2 = c .before .before .before .before .before in
+    let at-station-product3 = c .before .before .before in
+    omega (arith, at-station-product .station-product .ensures, product-most (getD (start .args .t1) 0 []) (start .pre .at0), at-station-product2 .station-product2 .ensures, product-most (getD (start .args .t1) 1 []) (start .pre .at1), at-station-product3 .station-product3 .ensures, product-most (getD (start .args .t1) 2 []) (start .pre .at2), c .before .station-product4 .ensures, product-most (getD (start .args .t1) 3 []) (start .pre .at3))
 
 mul-result-4 : tie.Need-mul-result-4
-mul-result-4 c = record { fits = lt-of-le-of-lt (mul-le-mul {n₂ = 6000} {m₂ = 1650000000} (omega (arith, c .wide .ensures, c .before .before .before .before .before .before .before .before .before .pre .reference-most)) (omega (arith, c .before .before .before .before .before .before .before .station-product .ensures, product-most (getD (c .before .before .before .before .before .before .before .before .before .args .t1) 0 []) (c .before .before .before .before .before .before .before .before .before .pre .at0), c .before .before .before .before .before .station-product2 .ensures, product-most (getD (c .before .before .before .before .before .before .before .before .before .args .t1) 1 []) (c .before .before .before .before .before .before .before .before .before .pre .at1), c .before .before .before .station-product3 .ensures, product-most (getD (c .before .before .before .before .before .before .before .before .before .args .t1) 2 []) (c .before .before .before .before .before .before .before .before .before .pre .at2), c .before .station-product4 .ensures, product-most (getD (c .before .before .before .before .before .before .before .before .before .args .t1) 3 []) (c .before .before .before .before .before .before .before .before .before .pre .at3)))) (lit< tt) }
+mul-result-4 c =
+    let start = c .before .before .before .before .before .before .before .before .before in
+    let at-station-product = c .before .before .before .before .before .before .before in
+    let at-station-product2 = c .before .before .before .before .before in
+    let at-station-product3 = c .before .before .before in
+    record { fits = lt-of-le-of-lt (mul-le-mul {n₂ = 6000} {m₂ = 1650000000} (omega (arith, c .wide .ensures, start .pre .reference-most)) (omega (arith, at-station-product .station-product .ensures, product-most (getD (start .args .t1) 0 []) (start .pre .at0), at-station-product2 .station-product2 .ensures, product-most (getD (start .args .t1) 1 []) (start .pre .at1), at-station-product3 .station-product3 .ensures, product-most (getD (start .args .t1) 2 []) (start .pre .at2), c .before .station-product4 .ensures, product-most (getD (start .args .t1) 3 []) (start .pre .at3)))) (lit< tt) }
 
 returns : tie.Need-returns
-returns c = simp (c .wide .ensures, c .before .before .before .before .before .before .before .station-product .ensures, c .before .before .before .before .before .station-product2 .ensures, c .before .before .before .station-product3 .ensures, c .before .station-product4 .ensures)
+returns c =
+    let at-station-product = c .before .before .before .before .before .before .before in
+    let at-station-product2 = c .before .before .before .before .before in
+    let at-station-product3 = c .before .before .before in
+    simp (c .wide .ensures, at-station-product .station-product .ensures, at-station-product2 .station-product2 .ensures, at-station-product3 .station-product3 .ensures, c .before .station-product4 .ensures)
 
 pub volume-of-spec : {M : Type 1} → statement M
 volume-of-spec =

@@ -1,12 +1,8 @@
 -- `whole_part` meets its contract. Assumes nothing.
-use mathlib.Core.Path.{sym}
 use borrow.Author.Tests.{lt-ltb, le-ltb}
-use native.Mathlib.Omega.{arith}
 use borrow.Author.Needs.{needs}
 use Rattle.plates.proofs.whole_part.Statement.{statement}
 use Rattle.plates.proofs.whole_part.Tie as tie
-use Rattle.plates.proofs.whole_part.Reads as reads
-use Rattle.plates.proofs.whole_part.Lts as lts
 
 div-result : tie.Need-div-result
 div-result c = search needs
