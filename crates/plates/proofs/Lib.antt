@@ -2,4 +2,5 @@
 pub mod Whole
 pub mod Volume
 pub mod Loads
+pub mod Power
 pub mod Samples

@@ -9,11 +9,21 @@ ghost use Rattle.plates.specs.Words.{aft, well, flooding, fuel, machiner
 ghost use Rattle.plates.specs.Volume.{product, summed, volumeN, gram};
 ghost use Rattle.plates.specs.Weights.{sum, boatM};
 ghost use Rattle.plates.specs.PlateC.{markedC};
-ghost use Rattle.plates.specs.PlateA.{markedA};
+ghost use Rattle.plates.specs.PlateA.{markedA, factorP, tableEnd, rowWatts, beforeWatts, raised, formulaWatts, powerA};
 ghost use Rattle.plates.specs.Bounds.{Readings, Stations, Weights, Bounds};
 
 // Where the words of a sheet stand.
+const LENGTH: usize = 0;
+
 const REFERENCE: usize = 1;
+
+const WIDTH: usize = 2;
+
+const HEIGHT: usize = 3;
+
+const FLAT: usize = 4;
+
+const REMOTE: usize = 5;
 
 const STATIONS: usize = 6;
 
@@ -170,5 +180,86 @@ fn marked_a(sheet: &[u32]) -> u64
         whole_part(gain, loss_of(sheet, 1), FIFTH_KILO)
     } else {
         whole_part(gain, loss_of(sheet, 5), FIFTH_KILO)
+    }
+}
+
+// Square millimetres up to which plate A's power goes by the table.
+const TABLE_END: u64 = 5_000_000;
+
+// Watts by the table's row for a power factor.
+fn row_watts(p: u64) -> u64
+    ensures { λ r. ⌜ r ≡ rowWatts p ⌝ }
+{
+    if p <= 2_250_000 {
+        1500
+    } else if p <= 3_300_000 {
+        3000
+    } else if p <= 3_600_000 {
+        4000
+    } else if p <= 3_900_000 {
+        5250
+    } else if p <= 4_200_000 {
+        7500
+    } else {
+        12000
+    }
+}
+
+// Watts by the row before that one, or 0 where there is none.
+fn before_watts(p: u64) -> u64
+    ensures { λ r. ⌜ r ≡ beforeWatts p ⌝ }
+{
+    if p <= 2_250_000 {
+        0
+    } else if p <= 3_300_000 {
+        1500
+    } else if p <= 3_600_000 {
+        3000
+    } else if p <= 3_900_000 {
+        4000
+    } else if p <= 4_200_000 {
+        5250
+    } else {
+        7500
+    }
+}
+
+// The least multiple of 5000 that is not below watts / scale.
+fn raised_watts(watts: u64, scale: u64) -> u64
+    requires { ⌜ (watts ≤ 400000000) × (0 < scale) × (scale ≤ 2000) ⌝ }
+    ensures { λ r. ⌜ r ≡ raised watts scale ⌝ }
+{
+    let step = 5000 * scale;
+    5000 * ((watts + (step - 1)) / step)
+}
+
+// Watts by the formulas, for a power factor above the table's end.
+fn formula_watts(sheet: &[u32], p: u64) -> u64
+    requires { ⌜ Bounds (now sheet) × (p ≡ factorP (now sheet)) × (tableEnd < p) × (p ≤ 18000000) ⌝ }
+    ensures { λ r. ⌜ r ≡ formulaWatts (now (sheet .entry)) ⌝ }
+{
+    if sheet[REMOTE] == 1 && sheet[HEIGHT] >= 500 {
+        raised_watts(16 * p - 67_000_000, 1000)
+    } else if sheet[FLAT] == 1 {
+        raised_watts(4 * p - 11_000_000, 1000)
+    } else {
+        raised_watts(13 * p - 40_000_000, 2000)
+    }
+}
+
+// The watts that plate A marks.
+fn power_a(sheet: &[u32]) -> u64
+    requires { ⌜ Bounds (now sheet) ⌝ }
+    ensures { λ r. ⌜ r ≡ powerA (now (sheet .entry)) ⌝ }
+{
+    let p = wide(sheet[LENGTH]) * wide(sheet[WIDTH]);
+    if sheet[OUTBOARD] == 0 {
+        0
+    } else if TABLE_END < p {
+        formula_watts(sheet, p)
+    } else if sheet[FLAT] == 1 && p < TABLE_END {
+        before_watts(p)
+    } else {
+        row_watts(p)
     }
 }

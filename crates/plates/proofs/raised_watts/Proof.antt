@@ -1,0 +1,31 @@
+-- `raised_watts` meets its contract. Assumes nothing.
+use Prim.Native.Nat.{_+_, _-_, _*_}
+use native.Mathlib.Nat.{div-le-self}
+use native.Mathlib.Omega.{arith}
+use borrow.Author.Needs.{needs}
+use Rattle.plates.proofs.raised_watts.Statement.{statement}
+use Rattle.plates.proofs.raised_watts.Tie as tie
+use Rattle.plates.proofs.raised_watts.Reads as reads
+use Rattle.plates.proofs.raised_watts.Lts as lts
+
+mul-step : tie.Need-mul-step
+mul-step c = search needs
+
+sub-result : tie.Need-sub-result
+sub-result c = search needs
+
+add-result : tie.Need-add-result
+add-result c = search needs
+
+div-result : tie.Need-div-result
+div-result c = search needs
+
+mul-result : tie.Need-mul-result
+mul-result c = omega (arith, div-le-self (c .args .watts + (5000 * c .args .scale - 1)) (5000 * c .args .scale), c .pre .0, c .pre .1, c .pre .2)
+
+returns : tie.Need-returns
+returns c = search needs
+
+pub raised-watts-spec : {M : Type 1} → statement M
+raised-watts-spec =
+    tie.close (tie.spec mul-step sub-result add-result div-result mul-result returns)
