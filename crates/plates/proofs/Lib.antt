@@ -3,4 +3,5 @@ pub mod Whole
 pub mod Volume
 pub mod Loads
 pub mod Power
+pub mod Answers
 pub mod Samples

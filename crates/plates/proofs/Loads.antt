@@ -1,11 +1,11 @@
 -- The exact loads of 01 as differences of two natural sums, with their bounds. Assumes nothing.
 use mathlib.Core.Path.{_≡_, refl}
-use mathlib.Core.Bool.{true, false}
+use mathlib.Core.Bool.{Bool, true, false}
 use mathlib.Core.List.{List, [], _∷_}
-use Prim.Native.Nat.{ℕ, suc, _+_, _*_, _≤_, _<_}
+use Prim.Native.Nat.{ℕ, suc, _+_, _*_, _/_, _≤_, _<_}
 use native.Mathlib.Nat.{mul-le-mul, le-trans}
 use native.Mathlib.Omega.{arith}
-use lib.Dec.{eqb}
+use lib.Dec.{eqb, ltb}
 use borrow.Author.Tests.{lt-ltb, le-ltb}
 use lib.IntN.{ℤ, pos, subℕ, _+ℤ_, _*ℤ_}
 use lib.ListN.{length, getD}
@@ -103,3 +103,19 @@ carried-most s k b h x y = mul-le-mul {n₂ = 5} {m₂ = 1000000} h (omega (arit
 
 pub loss-most : (s : List ℕ) (k : ℕ) → Bounds s → k ≤ 5 → loss k s ≤ 6120000000000
 loss-most s k b h = omega (arith, carried-most s k b h refl refl, b .well-most, b .flooding-most, boat-most s b)
+
+-- ---- a marked load fits 32 bits
+
+floor-most : (a b : ℕ) → whole (floorDiv (subℕ a b) fifthKilo) ≤ a / fifthKilo
+floor-most a b = go (ltb a b) refl
+  where
+    go : (t : Bool) → ltb a b ≡ t → whole (floorDiv (subℕ a b) fifthKilo) ≤ a / fifthKilo
+    go true e = rw e (omega arith)
+    go false e = rw e (omega arith)
+
+pub marked-most : (s : List ℕ) → Bounds s → whole (markedA s) ≤ 20000
+marked-most s b = go (eqb (outboard s) 1) refl
+  where
+    go : (t : Bool) → eqb (outboard s) 1 ≡ t → whole (markedA s) ≤ 20000
+    go true e = omega (arith, marked-outboard s e, floor-most (gain s + 2500 * gram) (loss 1 s), volume-most s b, b .aft-most)
+    go false e = omega (arith, marked-inboard s e, floor-most (gain s + 2500 * gram) (loss 5 s), volume-most s b, b .aft-most)

@@ -9,8 +9,9 @@ ghost use Rattle.plates.specs.Words.{aft, well, flooding, fuel, machiner
 ghost use Rattle.plates.specs.Volume.{product, summed, volumeN, gram};
 ghost use Rattle.plates.specs.Weights.{sum, boatM};
 ghost use Rattle.plates.specs.PlateC.{markedC};
-ghost use Rattle.plates.specs.PlateA.{markedA, factorP, tableEnd, rowWatts, beforeWatts, raised, formulaWatts, powerA};
+ghost use Rattle.plates.specs.PlateA.{markedA, factorP, tableEnd, rowWatts, beforeWatts, raised, formulaWatts, powerA, noPower, plateA};
 ghost use Rattle.plates.specs.Bounds.{Readings, Stations, Weights, Bounds};
+use sheet::Answer;
 
 // Where the words of a sheet stand.
 const LENGTH: usize = 0;
@@ -261,5 +262,41 @@ fn power_a(sheet: &[u32]) -> u64
         before_watts(p)
     } else {
         row_watts(p)
+    }
+}
+
+// Whether plate A has no power for an outboard: a flat bottom in the table's first row.
+fn no_power(sheet: &[u32]) -> bool
+    requires { ⌜ Bounds (now sheet) ⌝ }
+    ensures { λ r. ⌜ r ≡ noPower (now (sheet .entry)) ⌝ }
+{
+    let p = wide(sheet[LENGTH]) * wide(sheet[WIDTH]);
+    if sheet[OUTBOARD] == 1 {
+        if sheet[FLAT] == 1 {
+            p <= 2_250_000
+        } else {
+            false
+        }
+    } else {
+        false
+    }
+}
+
+const NO_LOAD: u32 = 12;
+
+const NO_POWER: u32 = 13;
+
+// Plate A: its kilograms and its watts.
+fn plate_a(sheet: &[u32]) -> Answer
+    requires { ⌜ Bounds (now sheet) ⌝ }
+    ensures { λ r. ⌜ r ≡ plateA (now (sheet .entry)) ⌝ }
+{
+    let load = marked_a(sheet);
+    if load == 0 {
+        Answer::Refused(NO_LOAD)
+    } else if no_power(sheet) {
+        Answer::Refused(NO_POWER)
+    } else {
+        Answer::Plate(load as u32, power_a(sheet) as u32)
     }
 }

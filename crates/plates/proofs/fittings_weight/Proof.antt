@@ -29,6 +29,7 @@ wide-requires c κs = search needs
 
 add-total : tie.Need-add-total Inv-loop μ-loop
 add-total c =
+    let at-shared-slice-known = c .before .before .before .before in
     let start = c .before .before .before .before .before in
     let at-loop = c .before .before .before in
     omega (arith, c .wide .ensures, start .pre .few, start .pre .light (at-loop .loop .i))
@@ -41,9 +42,11 @@ loop-less c = search needs
 
 loop-again : tie.Need-loop-again Inv-loop μ-loop
 loop-again c =
+    let at-shared-slice-known = c .before .before .before .before in
+    let at-loop-test = c .before .before in
     let start = c .before .before .before .before .before in
     let at-loop = c .before .before .before in
-    omega (arith, c .wide .ensures, start .pre .light (at-loop .loop .i), sum-more (start .args .weights .now) (at-loop .loop .i) (c .before .before .loop-test .taken))
+    omega (arith, c .wide .ensures, start .pre .light (at-loop .loop .i), sum-more (start .args .weights .now) (at-loop .loop .i) (at-loop-test .loop-test .taken))
 
 returns : tie.Need-returns Inv-loop μ-loop
 returns c =

@@ -1,18 +1,14 @@
 -- `formula_watts` meets its contract. Assumes nothing.
 use lib.Dec.{eqb}
-use Rattle.plates.specs.Words.{remote, flat}
+use Rattle.plates.specs.Words.{remote}
 use borrow.Author.Tests.{eq-eqb, ne-eqb}
 use mathlib.Core.Path.{_∙_}
 use mathlib.Core.Logic.{inl, inr}
-use borrow.Author.Tests.{eq-eqb, ne-eqb, le-leb, lt-leb}
+use borrow.Author.Tests.{eq-eqb, ne-eqb}
 use Rattle.plates.proofs.Power.{first-fails, second-fails, by-remote, by-flat, by-chine}
-use native.Mathlib.Omega.{arith}
 use borrow.Author.Needs.{needs}
 use Rattle.plates.proofs.formula_watts.Statement.{statement}
 use Rattle.plates.proofs.formula_watts.Tie as tie
-use Rattle.plates.proofs.formula_watts.Reads as reads
-use Rattle.plates.proofs.formula_watts.Lts as lts
-use Rattle.plates.proofs.raised_watts.Reads as raised-watts-reads
 
 shared-slice-read-if1 : tie.Need-shared-slice-read-if1
 shared-slice-read-if1 c = search needs
@@ -51,13 +47,22 @@ raised-watts-requires-3 : tie.Need-raised-watts-requires-3
 raised-watts-requires-3 c κs = search needs
 
 returns : tie.Need-returns
-returns c = c .raised-watts .ensures ∙ by-remote (c .before .before .before .before .before .before .args .sheet .now) (c .before .before .before .before .before .before .pre .1) (eq-eqb _ _ (c .before .before .before .if1 .taken)) (c .before .if2 .taken)
+returns c =
+    let start = c .before .before .before .before .before .before in
+    let at-if1 = c .before .before .before in
+    c .raised-watts .ensures ∙ by-remote (start .args .sheet .now) (start .pre .1) (eq-eqb _ _ (at-if1 .if1 .taken)) (c .before .if2 .taken)
 
 returns-2 : tie.Need-returns-2
-returns-2 c = c .raised-watts2 .ensures ∙ by-flat (c .before .before .before .before .before .before .args .sheet .now) (c .before .before .before .before .before .before .pre .1) (elim (c .before .before .before .if1 .came) [ inl x ↦ second-fails (eqb (remote (c .before .before .before .before .before .before .args .sheet .now)) 1) (x .2 .left) | inr x ↦ first-fails _ (ne-eqb _ _ (x .left)) ]) (eq-eqb _ _ (c .before .if3 .taken))
+returns-2 c =
+    let start = c .before .before .before .before .before .before in
+    let at-if1 = c .before .before .before in
+    c .raised-watts2 .ensures ∙ by-flat (start .args .sheet .now) (start .pre .1) (elim (at-if1 .if1 .came) [ inl x ↦ second-fails (eqb (remote (start .args .sheet .now)) 1) (x .2 .left) | inr x ↦ first-fails _ (ne-eqb _ _ (x .left)) ]) (eq-eqb _ _ (c .before .if3 .taken))
 
 returns-3 : tie.Need-returns-3
-returns-3 c = c .raised-watts3 .ensures ∙ by-chine (c .before .before .before .before .before .before .args .sheet .now) (c .before .before .before .before .before .before .pre .1) (elim (c .before .before .before .if1 .came) [ inl x ↦ second-fails (eqb (remote (c .before .before .before .before .before .before .args .sheet .now)) 1) (x .2 .left) | inr x ↦ first-fails _ (ne-eqb _ _ (x .left)) ]) (ne-eqb _ _ (c .before .if3 .left))
+returns-3 c =
+    let start = c .before .before .before .before .before .before in
+    let at-if1 = c .before .before .before in
+    c .raised-watts3 .ensures ∙ by-chine (start .args .sheet .now) (start .pre .1) (elim (at-if1 .if1 .came) [ inl x ↦ second-fails (eqb (remote (start .args .sheet .now)) 1) (x .2 .left) | inr x ↦ first-fails _ (ne-eqb _ _ (x .left)) ]) (ne-eqb _ _ (c .before .if3 .left))
 
 pub formula-watts-spec : {M : Type 1} → statement M
 formula-watts-spec =

@@ -32,10 +32,13 @@ shared-slice-read-volume-of c = search needs
 
 volume-of-requires : tie.Need-volume-of-requires
 volume-of-requires c κs =
+    let at-shared-slice-known = c .before .before .before .before .before in
+    let at-readings-at2 = c .before .before .before in
+    let at-readings-at3 = c .before .before in
     let start = c .before .before .before .before .before .before in
     let at-readings-at = c .before .before .before .before in
     let at-readings-at2 = c .before .before .before in
-    record { at0 = rw (at-readings-at .readings-at .ensures) (start .pre .stations 0 (omega arith)); at1 = rw (at-readings-at2 .readings-at2 .ensures) (start .pre .stations 1 (omega arith)); at2 = rw (c .before .before .readings-at3 .ensures) (start .pre .stations 2 (omega arith)); at3 = rw (c .before .readings-at4 .ensures) (start .pre .stations 3 (omega arith)); reference-most = start .pre .reference-most }
+    record { at0 = rw (at-readings-at .readings-at .ensures) (start .pre .stations 0 (omega arith)); at1 = rw (at-readings-at2 .readings-at2 .ensures) (start .pre .stations 1 (omega arith)); at2 = rw (at-readings-at3 .readings-at3 .ensures) (start .pre .stations 2 (omega arith)); at3 = rw (c .before .readings-at4 .ensures) (start .pre .stations 3 (omega arith)); reference-most = start .pre .reference-most }
 
 shared-slice-read-wide : tie.Need-shared-slice-read-wide
 shared-slice-read-wide c = search needs
@@ -48,6 +51,11 @@ mul-result c = search needs
 
 add-result : tie.Need-add-result
 add-result c =
+    let at-shared-slice-known = c .before .before .before .before .before .before .before .before in
+    let at-readings-at2 = c .before .before .before .before .before .before in
+    let at-readings-at3 = c .before .before .before .before .before in
+    let at-readings-at4 = c .before .before .before .before in
+    let at-shared-slice-known2 = c .before .before .before in
     let start = c .before .before .before .before .before .before .before .before .before in
     let at-readings-at = c .before .before .before .before .before .before .before in
     let at-readings-at2 = c .before .before .before .before .before .before in
@@ -57,6 +65,11 @@ add-result c =
 
 returns : tie.Need-returns
 returns c =
+    let at-shared-slice-known = c .before .before .before .before .before .before .before .before in
+    let at-readings-at2 = c .before .before .before .before .before .before in
+    let at-readings-at3 = c .before .before .before .before .before in
+    let at-readings-at4 = c .before .before .before .before in
+    let at-shared-slice-known2 = c .before .before .before in
     let start = c .before .before .before .before .before .before .before .before .before in
     let at-readings-at = c .before .before .before .before .before .before .before in
     let at-readings-at2 = c .before .before .before .before .before .before in

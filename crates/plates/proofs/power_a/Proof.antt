@@ -1,23 +1,16 @@
 -- `power_a` meets its contract. Assumes nothing.
 use lib.Dec.{eqb}
-use Rattle.plates.specs.Words.{remote, flat}
+use Rattle.plates.specs.Words.{flat}
 use borrow.Author.Tests.{eq-eqb, ne-eqb}
 use mathlib.Core.Path.{_∙_}
 use mathlib.Core.Logic.{inl, inr}
-use borrow.Author.Tests.{eq-eqb, ne-eqb, le-ltb}
+use borrow.Author.Tests.{eq-eqb, ne-eqb}
 use native.Mathlib.Nat.{lt-of-le-of-lt}
 use lib.Dec.{lit<}
 use Rattle.plates.proofs.Power.{first-fails, second-fails, factor-is, factor-most, no-outboard, by-formula, by-row-before, by-row}
-use native.Mathlib.Omega.{arith}
 use borrow.Author.Needs.{needs}
 use Rattle.plates.proofs.power_a.Statement.{statement}
 use Rattle.plates.proofs.power_a.Tie as tie
-use Rattle.plates.proofs.power_a.Reads as reads
-use Rattle.plates.proofs.power_a.Lts as lts
-use Rattle.plates.proofs.before_watts.Reads as before-watts-reads
-use Rattle.plates.proofs.formula_watts.Reads as formula-watts-reads
-use Rattle.plates.proofs.row_watts.Reads as row-watts-reads
-use Rattle.plates.proofs.wide.Reads as wide-reads
 
 shared-slice-read-wide : tie.Need-shared-slice-read-wide
 shared-slice-read-wide c = search needs
@@ -32,13 +25,19 @@ wide-requires-2 : tie.Need-wide-requires-2
 wide-requires-2 c κs = search needs
 
 mul-p : tie.Need-mul-p
-mul-p c = record { fits = lt-of-le-of-lt (factor-most (c .before .before .before .before .before .args .sheet .now) (c .before .before .before .before .before .pre) (c .before .before .wide .ensures) (c .wide2 .ensures)) (lit< tt) }
+mul-p c =
+    let start = c .before .before .before .before .before in
+    record { fits = lt-of-le-of-lt (factor-most (start .args .sheet .now) (start .pre) (c .before .before .wide .ensures) (c .wide2 .ensures)) (lit< tt) }
 
 shared-slice-read-if1 : tie.Need-shared-slice-read-if1
 shared-slice-read-if1 c = search needs
 
 formula-watts-requires : tie.Need-formula-watts-requires
-formula-watts-requires c κs = (c .before .before .before .before .before .before .before .before .pre, (factor-is (c .before .before .before .before .before .before .before .before .args .sheet .now) (c .before .before .before .before .before .wide .ensures) (c .before .before .before .wide2 .ensures)), c .if2 .taken, factor-most (c .before .before .before .before .before .before .before .before .args .sheet .now) (c .before .before .before .before .before .before .before .before .pre) (c .before .before .before .before .before .wide .ensures) (c .before .before .before .wide2 .ensures))
+formula-watts-requires c κs =
+    let start = c .before .before .before .before .before .before .before .before in
+    let at-wide = c .before .before .before .before .before in
+    let at-wide2 = c .before .before .before in
+    (start .pre, (factor-is (start .args .sheet .now) (at-wide .wide .ensures) (at-wide2 .wide2 .ensures)), c .if2 .taken, factor-most (start .args .sheet .now) (start .pre) (at-wide .wide .ensures) (at-wide2 .wide2 .ensures))
 
 shared-slice-read-if3 : tie.Need-shared-slice-read-if3
 shared-slice-read-if3 c = search needs
@@ -50,16 +49,34 @@ row-watts-requires : tie.Need-row-watts-requires
 row-watts-requires c κs = search needs
 
 returns : tie.Need-returns
-returns c = no-outboard (c .before .before .before .before .before .before .before .args .sheet .now) (eq-eqb _ _ (c .if1 .taken))
+returns c =
+    let start = c .before .before .before .before .before .before .before in
+    no-outboard (start .args .sheet .now) (eq-eqb _ _ (c .if1 .taken))
 
 returns-2 : tie.Need-returns-2
-returns-2 c = c .formula-watts .ensures ∙ by-formula (c .before .before .before .before .before .before .before .before .before .args .sheet .now) (factor-is (c .before .before .before .before .before .before .before .before .before .args .sheet .now) (c .before .before .before .before .before .before .wide .ensures) (c .before .before .before .before .wide2 .ensures)) (ne-eqb _ _ (c .before .before .if1 .left)) (c .before .if2 .taken)
+returns-2 c =
+    let start = c .before .before .before .before .before .before .before .before .before in
+    let at-wide = c .before .before .before .before .before .before in
+    let at-wide2 = c .before .before .before .before in
+    c .formula-watts .ensures ∙ by-formula (start .args .sheet .now) (factor-is (start .args .sheet .now) (at-wide .wide .ensures) (at-wide2 .wide2 .ensures)) (ne-eqb _ _ (c .before .before .if1 .left)) (c .before .if2 .taken)
 
 returns-3 : tie.Need-returns-3
-returns-3 c = c .before-watts .ensures ∙ by-row-before (c .before .before .before .before .before .before .before .before .before .before .before .before .args .sheet .now) (factor-is (c .before .before .before .before .before .before .before .before .before .before .before .before .args .sheet .now) (c .before .before .before .before .before .before .before .before .before .wide .ensures) (c .before .before .before .before .before .before .before .wide2 .ensures)) (ne-eqb _ _ (c .before .before .before .before .before .if1 .left)) (c .before .before .before .before .if2 .left) (eq-eqb _ _ (c .before .before .if3 .taken)) (c .before .if4 .taken)
+returns-3 c =
+    let start = c .before .before .before .before .before .before .before .before .before .before .before .before in
+    let at-wide = c .before .before .before .before .before .before .before .before .before in
+    let at-wide2 = c .before .before .before .before .before .before .before in
+    let at-if1 = c .before .before .before .before .before in
+    let at-if2 = c .before .before .before .before in
+    c .before-watts .ensures ∙ by-row-before (start .args .sheet .now) (factor-is (start .args .sheet .now) (at-wide .wide .ensures) (at-wide2 .wide2 .ensures)) (ne-eqb _ _ (at-if1 .if1 .left)) (at-if2 .if2 .left) (eq-eqb _ _ (c .before .before .if3 .taken)) (c .before .if4 .taken)
 
 returns-4 : tie.Need-returns-4
-returns-4 c = c .row-watts .ensures ∙ by-row (c .before .before .before .before .before .before .before .before .before .before .before .args .sheet .now) (factor-is (c .before .before .before .before .before .before .before .before .before .before .before .args .sheet .now) (c .before .before .before .before .before .before .before .before .wide .ensures) (c .before .before .before .before .before .before .wide2 .ensures)) (ne-eqb _ _ (c .before .before .before .before .if1 .left)) (c .before .before .before .if2 .left) (elim (c .before .if3 .came) [ inl x ↦ second-fails (eqb (flat (c .before .before .before .before .before .before .before .before .before .before .before .args .sheet .now)) 1) (x .1 .left) | inr x ↦ first-fails _ (ne-eqb _ _ (x .left)) ])
+returns-4 c =
+    let start = c .before .before .before .before .before .before .before .before .before .before .before in
+    let at-wide = c .before .before .before .before .before .before .before .before in
+    let at-wide2 = c .before .before .before .before .before .before in
+    let at-if1 = c .before .before .before .before in
+    let at-if2 = c .before .before .before in
+    c .row-watts .ensures ∙ by-row (start .args .sheet .now) (factor-is (start .args .sheet .now) (at-wide .wide .ensures) (at-wide2 .wide2 .ensures)) (ne-eqb _ _ (at-if1 .if1 .left)) (at-if2 .if2 .left) (elim (c .before .if3 .came) [ inl x ↦ second-fails (eqb (flat (start .args .sheet .now)) 1) (x .1 .left) | inr x ↦ first-fails _ (ne-eqb _ _ (x .left)) ])
 
 pub power-a-spec : {M : Type 1} → statement M
 power-a-spec =

@@ -5,8 +5,6 @@ use native.Mathlib.Omega.{arith}
 use borrow.Author.Needs.{needs}
 use Rattle.plates.proofs.raised_watts.Statement.{statement}
 use Rattle.plates.proofs.raised_watts.Tie as tie
-use Rattle.plates.proofs.raised_watts.Reads as reads
-use Rattle.plates.proofs.raised_watts.Lts as lts
 
 mul-step : tie.Need-mul-step
 mul-step c = search needs

@@ -66,6 +66,7 @@ shared-slice-read-t29 c = search needs
 
 returns : tie.Need-returns
 returns c =
+    let at-shared-slice-known = c .before .before .before .before .before .before in
     let start = c .before .before .before .before .before .before .before in
     seven (start .args .sheet .now) (start .args .at) (start .pre)
 

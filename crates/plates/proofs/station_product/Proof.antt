@@ -85,11 +85,15 @@ mul-result-6 c = record { fits = lt-of-le-of-lt (mul-le-mul {n₂ = 4000} {m₂ 
 returns : tie.Need-returns
 unfolding product
 returns c =
+    let at-wide2 = c .before .before .before .before .before in
+    let at-wide3 = c .before .before .before .before in
+    let at-wide4 = c .before .before .before in
+    let at-wide5 = c .before .before in
     let at-wide = c .before .before .before .before .before .before in
     let at-wide2 = c .before .before .before .before .before in
     let at-wide3 = c .before .before .before .before in
     let at-wide4 = c .before .before .before in
-    simp (at-wide .wide .ensures, at-wide2 .wide2 .ensures, at-wide3 .wide3 .ensures, at-wide4 .wide4 .ensures, c .before .before .wide5 .ensures, c .before .wide6 .ensures, c .wide7 .ensures)
+    simp (at-wide .wide .ensures, at-wide2 .wide2 .ensures, at-wide3 .wide3 .ensures, at-wide4 .wide4 .ensures, at-wide5 .wide5 .ensures, c .before .wide6 .ensures, c .wide7 .ensures)
 
 pub station-product-spec : {M : Type 1} → statement M
 station-product-spec =

@@ -38,6 +38,9 @@ wide-requires c κs = search needs
 
 mul-result : tie.Need-mul-result
 mul-result c =
+    let at-station-product-arg = c .before .before .before .before .before .before .before .before in
+    let at-station-product-arg2 = c .before .before .before .before .before .before in
+    let at-station-product-arg3 = c .before .before .before .before in
     let start = c .before .before .before .before .before .before .before .before .before in
     let at-station-product = c .before .before .before .before .before .before .before in
     let at-station-product2 = c .before .before .before .before .before in
@@ -46,6 +49,9 @@ mul-result c =
 
 mul-result-2 : tie.Need-mul-result-2
 mul-result-2 c =
+    let at-station-product-arg = c .before .before .before .before .before .before .before .before in
+    let at-station-product-arg2 = c .before .before .before .before .before .before in
+    let at-station-product-arg3 = c .before .before .before .before in
     let start = c .before .before .before .before .before .before .before .before .before in
     let at-station-product = c .before .before .before .before .before .before .before in
     let at-station-product2 = c .before .before .before .before .before in
@@ -54,6 +60,9 @@ mul-result-2 c =
 
 add-result : tie.Need-add-result
 add-result c =
+    let at-station-product-arg = c .before .before .before .before .before .before .before .before in
+    let at-station-product-arg2 = c .before .before .before .before .before .before in
+    let at-station-product-arg3 = c .before .before .before .before in
     let start = c .before .before .before .before .before .before .before .before .before in
     let at-station-product = c .before .before .before .before .before .before .before in
     let at-station-product2 = c .before .before .before .before .before in
@@ -62,6 +71,9 @@ add-result c =
 
 mul-result-3 : tie.Need-mul-result-3
 mul-result-3 c =
+    let at-station-product-arg = c .before .before .before .before .before .before .before .before in
+    let at-station-product-arg2 = c .before .before .before .before .before .before in
+    let at-station-product-arg3 = c .before .before .before .before in
     let start = c .before .before .before .before .before .before .before .before .before in
     let at-station-product = c .before .before .before .before .before .before .before in
     let at-station-product2 = c .before .before .before .before .before in
@@ -70,6 +82,9 @@ mul-result-3 c =
 
 add-result-2 : tie.Need-add-result-2
 add-result-2 c =
+    let at-station-product-arg = c .before .before .before .before .before .before .before .before in
+    let at-station-product-arg2 = c .before .before .before .before .before .before in
+    let at-station-product-arg3 = c .before .before .before .before in
     let start = c .before .before .before .before .before .before .before .before .before in
     let at-station-product = c .before .before .before .before .before .before .before in
     let at-station-product2 = c .before .before .before .before .before in
@@ -78,6 +93,9 @@ add-result-2 c =
 
 add-result-3 : tie.Need-add-result-3
 add-result-3 c =
+    let at-station-product-arg = c .before .before .before .before .before .before .before .before in
+    let at-station-product-arg2 = c .before .before .before .before .before .before in
+    let at-station-product-arg3 = c .before .before .before .before in
     let start = c .before .before .before .before .before .before .before .before .before in
     let at-station-product = c .before .before .before .before .before .before .before in
     let at-station-product2 = c .before .before .before .before .before in
@@ -86,6 +104,9 @@ add-result-3 c =
 
 mul-result-4 : tie.Need-mul-result-4
 mul-result-4 c =
+    let at-station-product-arg = c .before .before .before .before .before .before .before .before in
+    let at-station-product-arg2 = c .before .before .before .before .before .before in
+    let at-station-product-arg3 = c .before .before .before .before in
     let start = c .before .before .before .before .before .before .before .before .before in
     let at-station-product = c .before .before .before .before .before .before .before in
     let at-station-product2 = c .before .before .before .before .before in
@@ -94,6 +115,8 @@ mul-result-4 c =
 
 returns : tie.Need-returns
 returns c =
+    let at-station-product-arg2 = c .before .before .before .before .before .before in
+    let at-station-product-arg3 = c .before .before .before .before in
     let at-station-product = c .before .before .before .before .before .before .before in
     let at-station-product2 = c .before .before .before .before .before in
     let at-station-product3 = c .before .before .before in
