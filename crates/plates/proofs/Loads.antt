@@ -14,7 +14,7 @@ use Rattle.plates.specs.Words.{reference, station, aft, well, flooding, 
 use Rattle.plates.specs.Volume.{product, summed, volumeN, gram, netZ}
 use Rattle.plates.specs.Weights.{sum, boatM}
 use Rattle.plates.specs.PlateC.{exactX, markedC, lowPower, fifthKilo}
-use Rattle.plates.specs.PlateA.{inboardX, loadX, markedA}
+use Rattle.plates.specs.PlateA.{halfMarked, inboardX, loadX, markedA}
 use Rattle.plates.specs.Bounds.{Bounds}
 use Rattle.plates.proofs.Whole.{Differ, of-pos, of-sub, sum-of, less-of, times-of, is-sub}
 use Rattle.plates.proofs.Volume.{product-most}
@@ -57,13 +57,13 @@ pub marked-low : (s : List ℕ) → declared s ≤ lowPower → whole (floorDiv 
 unfolding markedC
 marked-low s h = rw (le-ltb lowPower (declared s) h, exact-is s, thrice (gain s) (loss 1 s)) refl
 
-pub marked-outboard : (s : List ℕ) → eqb (outboard s) 1 ≡ true → whole (floorDiv (subℕ (gain s + 2500 * gram) (loss 1 s)) fifthKilo) ≡ whole (markedA s)
+pub marked-outboard : (s : List ℕ) → eqb (outboard s) 1 ≡ true → whole (floorDiv (subℕ (gain s + halfMarked) (loss 1 s)) fifthKilo) ≡ whole (markedA s)
 unfolding markedA loadX
-marked-outboard s e = rw (e, exact-is s, added (gain s) (loss 1 s) (2500 * gram)) refl
+marked-outboard s e = rw (e, exact-is s, added (gain s) (loss 1 s) halfMarked) refl
 
-pub marked-inboard : (s : List ℕ) → eqb (outboard s) 1 ≡ false → whole (floorDiv (subℕ (gain s + 2500 * gram) (loss 5 s)) fifthKilo) ≡ whole (markedA s)
+pub marked-inboard : (s : List ℕ) → eqb (outboard s) 1 ≡ false → whole (floorDiv (subℕ (gain s + halfMarked) (loss 5 s)) fifthKilo) ≡ whole (markedA s)
 unfolding markedA loadX
-marked-inboard s e = rw (e, inboard-is s, added (gain s) (loss 5 s) (2500 * gram)) refl
+marked-inboard s e = rw (e, inboard-is s, added (gain s) (loss 5 s) halfMarked) refl
 
 -- ---- the sums as the code works them
 
@@ -117,5 +117,5 @@ pub marked-most : (s : List ℕ) → Bounds s → whole (markedA s) ≤ 20000
 marked-most s b = go (eqb (outboard s) 1) refl
   where
     go : (t : Bool) → eqb (outboard s) 1 ≡ t → whole (markedA s) ≤ 20000
-    go true e = omega (arith, marked-outboard s e, floor-most (gain s + 2500 * gram) (loss 1 s), volume-most s b, b .aft-most)
-    go false e = omega (arith, marked-inboard s e, floor-most (gain s + 2500 * gram) (loss 5 s), volume-most s b, b .aft-most)
+    go true e = omega (arith, marked-outboard s e, floor-most (gain s + halfMarked) (loss 1 s), volume-most s b, b .aft-most)
+    go false e = omega (arith, marked-inboard s e, floor-most (gain s + halfMarked) (loss 5 s), volume-most s b, b .aft-most)

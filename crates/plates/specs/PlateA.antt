@@ -21,8 +21,12 @@ inboardX s = netZ s -ℤ pos gram *ℤ pos (boatM s) -ℤ pos (5 * gram) *ℤ po
 unfoldable pub loadX : List ℕ → ℤ
 loadX s = cond (eqb (outboard s) 1) (exactX s) (inboardX s)
 
+-- half a marked kilogram, so that the largest whole number not above is the nearest
+abbrev pub halfMarked : ℕ
+halfMarked = 2500 * gram
+
 unfoldable pub markedA : List ℕ → ℤ
-markedA s = floorDiv (loadX s +ℤ pos (2500 * gram)) fifthKilo
+markedA s = floorDiv (loadX s +ℤ pos halfMarked) fifthKilo
 
 -- ---- power
 

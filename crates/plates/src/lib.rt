@@ -54,6 +54,8 @@ const GRAM: u64 = 180_000;
 
 const FIFTH_KILO: u64 = 5 * 1000 * GRAM;
 
+const HALF_MARKED: u64 = 2500 * GRAM;
+
 fn wide(x: u32) -> u64
     ensures { λ r. ⌜ r ≡ x ⌝ }
 {
@@ -176,7 +178,7 @@ fn marked_a(sheet: &[u32]) -> u64
     requires { ⌜ Bounds (now sheet) ⌝ }
     ensures { λ r. ⌜ r ≡ whole (markedA (now (sheet .entry))) ⌝ }
 {
-    let gain = gain_of(sheet) + 2500 * GRAM;
+    let gain = gain_of(sheet) + HALF_MARKED;
     if sheet[OUTBOARD] == 1 {
         whole_part(gain, loss_of(sheet, 1), FIFTH_KILO)
     } else {

@@ -10,9 +10,6 @@ use Rattle.plates.proofs.marked_a.Tie as tie
 gain-of-requires : tie.Need-gain-of-requires
 gain-of-requires c κs = search needs
 
-mul-gain : tie.Need-mul-gain
-mul-gain c = search needs
-
 add-gain : tie.Need-add-gain
 add-gain c =
     let start = c .before .before in
@@ -54,7 +51,6 @@ marked-a-spec =
     tie.close
     (tie.spec
     gain-of-requires
-    mul-gain
     add-gain
     shared-slice-read-if1
     loss-of-requires

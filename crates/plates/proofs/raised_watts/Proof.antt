@@ -1,6 +1,7 @@
 -- `raised_watts` meets its contract. Assumes nothing.
-use Prim.Native.Nat.{_+_, _-_, _*_}
-use native.Mathlib.Nat.{div-le-self}
+use Prim.Native.Nat.{_-_}
+use native.Mathlib.Nat.{mul-le-mul, le-trans, lt-of-le-of-lt, div-le-self}
+use lib.Dec.{lit<}
 use native.Mathlib.Omega.{arith}
 use borrow.Author.Needs.{needs}
 use Rattle.plates.proofs.raised_watts.Statement.{statement}
@@ -19,7 +20,7 @@ div-result : tie.Need-div-result
 div-result c = search needs
 
 mul-result : tie.Need-mul-result
-mul-result c = omega (arith, div-le-self (c .args .watts + (5000 * c .args .scale - 1)) (5000 * c .args .scale), c .pre .0, c .pre .1, c .pre .2)
+mul-result c = record { fits = lt-of-le-of-lt (mul-le-mul {n₁ = 5000} {n₂ = 5000} {m₂ = 500000000} (omega arith) (le-trans (div-le-self _ _) (omega (arith, c .pre .0, c .pre .1, c .pre .2)))) (lit< tt) }
 
 returns : tie.Need-returns
 returns c = search needs
