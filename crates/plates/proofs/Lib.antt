@@ -4,4 +4,5 @@ pub mod Volume
 pub mod Loads
 pub mod Power
 pub mod Answers
+pub mod Within
 pub mod Samples
