@@ -5,4 +5,5 @@ pub mod Loads
 pub mod Power
 pub mod Answers
 pub mod Within
+pub mod Rounding
 pub mod Samples

@@ -1,15 +1,15 @@
 -- A sheet within the limits keeps to the bounds that the plates' sums ask for. Assumes nothing.
-use mathlib.Core.Path.{_≡_, refl, sym, ap, _∙_}
+use mathlib.Core.Path.{_≡_, refl, sym}
 use mathlib.Core.Bool.{Bool, true, false, true≢false, _&&_, _||_}
 use mathlib.Core.List.{List, [], _∷_, map}
-use Prim.Native.Nat.{ℕ, zero, suc, _+_, _*_, _≤_, _<_}
+use Prim.Native.Nat.{ℕ, zero, suc, _+_, _≤_, _<_}
 use native.Mathlib.Omega.{arith}
 use borrow.Author.Tests.{eqb-true}
 use lib.Dec.{eqb}
 use lib.ListN.{length, getD, take, drop, replicate, length-drop}
 use lib.Seq.{getD-take, getD-drop}
 use native.Mathlib.Nat.{le-trans}
-use Rattle.text.specs.Limit.{Limit, isNone, within, holds, allHold}
+use Rattle.text.specs.Limit.{Limit, within, holds, allHold}
 use Rattle.text.proofs.Number.{both-hold}
 use Rattle.text.proofs.Limit.{within-high, hold-length}
 use Rattle.sheet.specs.Sheet.{limitsOn, sheetLimits}

@@ -26,17 +26,22 @@ part-fittings-weight-end c = search needs
 fittings-weight-requires : tie.Need-fittings-weight-requires
 fittings-weight-requires c κs =
     let at-shared-slice-known = c .before .before .before in
+    let at-shared-slice-known = c .before .before .before in
     let start = c .before .before .before .before in
     rw (rest-part (start .args .sheet .now) 44) (start .pre .fittings)
 
 add-result : tie.Need-add-result
 add-result c =
     let at-shared-slice-known = c .before .before .before .before in
+    let at-shared-slice-known2 = c .before .before .before in
+    let at-shared-slice-known = c .before .before .before .before in
     let start = c .before .before .before .before .before in
     omega (arith, c .before .before .wide .ensures, c .fittings-weight .ensures ∙ ap sum (rest-part (start .args .sheet .now) 44), boat-is (start .args .sheet .now), boat-most (start .args .sheet .now) (start .pre))
 
 returns : tie.Need-returns
 returns c =
+    let at-shared-slice-known = c .before .before .before .before in
+    let at-shared-slice-known2 = c .before .before .before in
     let at-shared-slice-known = c .before .before .before .before in
     let start = c .before .before .before .before .before in
     omega (arith, c .before .before .wide .ensures, c .fittings-weight .ensures ∙ ap sum (rest-part (start .args .sheet .now) 44), boat-is (start .args .sheet .now))

@@ -30,6 +30,8 @@ wide-requires c κs = search needs
 add-total : tie.Need-add-total Inv-loop μ-loop
 add-total c =
     let at-shared-slice-known = c .before .before .before .before in
+    let at-loop = c .before .before .before in
+    let at-shared-slice-known = c .before .before .before .before in
     let start = c .before .before .before .before .before in
     let at-loop = c .before .before .before in
     omega (arith, c .wide .ensures, start .pre .few, start .pre .light (at-loop .loop .i))
@@ -42,6 +44,8 @@ loop-less c = search needs
 
 loop-again : tie.Need-loop-again Inv-loop μ-loop
 loop-again c =
+    let at-shared-slice-known = c .before .before .before .before in
+    let at-loop = c .before .before .before in
     let at-shared-slice-known = c .before .before .before .before in
     let at-loop-test = c .before .before in
     let start = c .before .before .before .before .before in

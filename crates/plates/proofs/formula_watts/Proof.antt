@@ -48,18 +48,21 @@ raised-watts-requires-3 c κs = search needs
 
 returns : tie.Need-returns
 returns c =
+    let at-shared-slice-known = c .before .before .before .before .before in
     let start = c .before .before .before .before .before .before in
     let at-if1 = c .before .before .before in
     c .raised-watts .ensures ∙ by-remote (start .args .sheet .now) (start .pre .1) (eq-eqb _ _ (at-if1 .if1 .taken)) (c .before .if2 .taken)
 
 returns-2 : tie.Need-returns-2
 returns-2 c =
+    let at-shared-slice-known = c .before .before .before .before .before in
     let start = c .before .before .before .before .before .before in
     let at-if1 = c .before .before .before in
     c .raised-watts2 .ensures ∙ by-flat (start .args .sheet .now) (start .pre .1) (elim (at-if1 .if1 .came) [ inl x ↦ second-fails (eqb (remote (start .args .sheet .now)) 1) (x .2 .left) | inr x ↦ first-fails _ (ne-eqb _ _ (x .left)) ]) (eq-eqb _ _ (c .before .if3 .taken))
 
 returns-3 : tie.Need-returns-3
 returns-3 c =
+    let at-shared-slice-known = c .before .before .before .before .before in
     let start = c .before .before .before .before .before .before in
     let at-if1 = c .before .before .before in
     c .raised-watts3 .ensures ∙ by-chine (start .args .sheet .now) (start .pre .1) (elim (at-if1 .if1 .came) [ inl x ↦ second-fails (eqb (remote (start .args .sheet .now)) 1) (x .2 .left) | inr x ↦ first-fails _ (ne-eqb _ _ (x .left)) ]) (ne-eqb _ _ (c .before .if3 .left))

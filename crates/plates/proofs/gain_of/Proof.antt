@@ -33,12 +33,17 @@ shared-slice-read-volume-of c = search needs
 volume-of-requires : tie.Need-volume-of-requires
 volume-of-requires c κs =
     let at-shared-slice-known = c .before .before .before .before .before in
+    let at-readings-at = c .before .before .before .before in
+    let at-readings-at2 = c .before .before .before in
+    let at-readings-at3 = c .before .before in
+    let at-readings-at4 = c .before in
+    let at-shared-slice-known = c .before .before .before .before .before in
     let at-readings-at2 = c .before .before .before in
     let at-readings-at3 = c .before .before in
     let start = c .before .before .before .before .before .before in
     let at-readings-at = c .before .before .before .before in
     let at-readings-at2 = c .before .before .before in
-    record { at0 = rw (at-readings-at .readings-at .ensures) (start .pre .stations 0 (omega arith)); at1 = rw (at-readings-at2 .readings-at2 .ensures) (start .pre .stations 1 (omega arith)); at2 = rw (at-readings-at3 .readings-at3 .ensures) (start .pre .stations 2 (omega arith)); at3 = rw (c .before .readings-at4 .ensures) (start .pre .stations 3 (omega arith)); reference-most = start .pre .reference-most }
+    record { at0 = rw (at-readings-at .readings-at .ensures) (start .pre .stations 0 (omega arith)); at1 = rw (at-readings-at2 .readings-at2 .ensures) (start .pre .stations 1 (omega arith)); at2 = rw (at-readings-at3 .readings-at3 .ensures) (start .pre .stations 2 (omega arith)); at3 = rw (at-readings-at4 .readings-at4 .ensures) (start .pre .stations 3 (omega arith)); reference-most = start .pre .reference-most }
 
 shared-slice-read-wide : tie.Need-shared-slice-read-wide
 shared-slice-read-wide c = search needs
@@ -52,19 +57,12 @@ mul-result c = search needs
 add-result : tie.Need-add-result
 add-result c =
     let at-shared-slice-known = c .before .before .before .before .before .before .before .before in
-    let at-readings-at2 = c .before .before .before .before .before .before in
-    let at-readings-at3 = c .before .before .before .before .before in
-    let at-readings-at4 = c .before .before .before .before in
-    let at-shared-slice-known2 = c .before .before .before in
-    let start = c .before .before .before .before .before .before .before .before .before in
     let at-readings-at = c .before .before .before .before .before .before .before in
     let at-readings-at2 = c .before .before .before .before .before .before in
     let at-readings-at3 = c .before .before .before .before .before in
     let at-readings-at4 = c .before .before .before .before in
-    omega (arith, c .wide .ensures, c .before .before .volume-of .ensures ∙ volume-is (start .args .sheet .now) (at-readings-at .readings-at .ensures) (at-readings-at2 .readings-at2 .ensures) (at-readings-at3 .readings-at3 .ensures) (at-readings-at4 .readings-at4 .ensures), volume-most (start .args .sheet .now) (start .pre), start .pre .aft-most)
-
-returns : tie.Need-returns
-returns c =
+    let at-shared-slice-known2 = c .before .before .before in
+    let at-volume-of = c .before .before in
     let at-shared-slice-known = c .before .before .before .before .before .before .before .before in
     let at-readings-at2 = c .before .before .before .before .before .before in
     let at-readings-at3 = c .before .before .before .before .before in
@@ -75,7 +73,28 @@ returns c =
     let at-readings-at2 = c .before .before .before .before .before .before in
     let at-readings-at3 = c .before .before .before .before .before in
     let at-readings-at4 = c .before .before .before .before in
-    omega (arith, c .wide .ensures, c .before .before .volume-of .ensures ∙ volume-is (start .args .sheet .now) (at-readings-at .readings-at .ensures) (at-readings-at2 .readings-at2 .ensures) (at-readings-at3 .readings-at3 .ensures) (at-readings-at4 .readings-at4 .ensures))
+    omega (arith, c .wide .ensures, at-volume-of .volume-of .ensures ∙ volume-is (start .args .sheet .now) (at-readings-at .readings-at .ensures) (at-readings-at2 .readings-at2 .ensures) (at-readings-at3 .readings-at3 .ensures) (at-readings-at4 .readings-at4 .ensures), volume-most (start .args .sheet .now) (start .pre), start .pre .aft-most)
+
+returns : tie.Need-returns
+returns c =
+    let at-shared-slice-known = c .before .before .before .before .before .before .before .before in
+    let at-readings-at = c .before .before .before .before .before .before .before in
+    let at-readings-at2 = c .before .before .before .before .before .before in
+    let at-readings-at3 = c .before .before .before .before .before in
+    let at-readings-at4 = c .before .before .before .before in
+    let at-shared-slice-known2 = c .before .before .before in
+    let at-volume-of = c .before .before in
+    let at-shared-slice-known = c .before .before .before .before .before .before .before .before in
+    let at-readings-at2 = c .before .before .before .before .before .before in
+    let at-readings-at3 = c .before .before .before .before .before in
+    let at-readings-at4 = c .before .before .before .before in
+    let at-shared-slice-known2 = c .before .before .before in
+    let start = c .before .before .before .before .before .before .before .before .before in
+    let at-readings-at = c .before .before .before .before .before .before .before in
+    let at-readings-at2 = c .before .before .before .before .before .before in
+    let at-readings-at3 = c .before .before .before .before .before in
+    let at-readings-at4 = c .before .before .before .before in
+    omega (arith, c .wide .ensures, at-volume-of .volume-of .ensures ∙ volume-is (start .args .sheet .now) (at-readings-at .readings-at .ensures) (at-readings-at2 .readings-at2 .ensures) (at-readings-at3 .readings-at3 .ensures) (at-readings-at4 .readings-at4 .ensures))
 
 pub gain-of-spec : {M : Type 1} → statement M
 gain-of-spec =

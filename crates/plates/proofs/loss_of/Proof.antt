@@ -45,12 +45,20 @@ boat-of-requires c κs = search needs
 add-result-2 : tie.Need-add-result-2
 add-result-2 c =
     let at-shared-slice-known = c .before .before .before .before .before .before .before .before .before in
+    let at-shared-slice-known2 = c .before .before .before .before .before .before .before .before in
+    let at-shared-slice-known = c .before .before .before .before .before .before .before .before .before in
     let start = c .before .before .before .before .before .before .before .before .before .before in
     let at-wide3 = c .before .before .before in
     omega (arith, at-wide3 .wide3 .ensures, c .before .wide4 .ensures, c .boat-of .ensures, boat-most (start .args .sheet .now) (start .pre .0), (start .pre .0) .well-most, (start .pre .0) .flooding-most)
 
 mul-result : tie.Need-mul-result
 mul-result c =
+    let at-shared-slice-known = c .before .before .before .before .before .before .before .before .before in
+    let at-shared-slice-known2 = c .before .before .before .before .before .before .before .before in
+    let at-shared-slice-known3 = c .before .before .before .before .before .before in
+    let at-wide2 = c .before .before .before .before .before in
+    let at-shared-slice-known4 = c .before .before .before .before in
+    let at-wide3 = c .before .before .before in
     let at-shared-slice-known = c .before .before .before .before .before .before .before .before .before in
     let at-shared-slice-known3 = c .before .before .before .before .before .before in
     let at-shared-slice-known4 = c .before .before .before .before in
@@ -61,6 +69,12 @@ mul-result c =
 
 add-result-3 : tie.Need-add-result-3
 add-result-3 c =
+    let at-shared-slice-known = c .before .before .before .before .before .before .before .before .before in
+    let at-shared-slice-known2 = c .before .before .before .before .before .before .before .before in
+    let at-shared-slice-known3 = c .before .before .before .before .before .before in
+    let at-wide2 = c .before .before .before .before .before in
+    let at-shared-slice-known4 = c .before .before .before .before in
+    let at-wide3 = c .before .before .before in
     let at-shared-slice-known = c .before .before .before .before .before .before .before .before .before in
     let at-shared-slice-known3 = c .before .before .before .before .before .before in
     let at-shared-slice-known4 = c .before .before .before .before in
@@ -73,6 +87,12 @@ add-result-3 c =
 mul-result-2 : tie.Need-mul-result-2
 mul-result-2 c =
     let at-shared-slice-known = c .before .before .before .before .before .before .before .before .before in
+    let at-shared-slice-known2 = c .before .before .before .before .before .before .before .before in
+    let at-shared-slice-known3 = c .before .before .before .before .before .before in
+    let at-wide2 = c .before .before .before .before .before in
+    let at-shared-slice-known4 = c .before .before .before .before in
+    let at-wide3 = c .before .before .before in
+    let at-shared-slice-known = c .before .before .before .before .before .before .before .before .before in
     let at-shared-slice-known3 = c .before .before .before .before .before .before in
     let at-shared-slice-known4 = c .before .before .before .before in
     let start = c .before .before .before .before .before .before .before .before .before .before in
@@ -83,6 +103,10 @@ mul-result-2 c =
 
 returns : tie.Need-returns
 returns c =
+    let at-shared-slice-known3 = c .before .before .before .before .before .before in
+    let at-wide2 = c .before .before .before .before .before in
+    let at-shared-slice-known4 = c .before .before .before .before in
+    let at-wide3 = c .before .before .before in
     let at-shared-slice-known3 = c .before .before .before .before .before .before in
     let at-shared-slice-known4 = c .before .before .before .before in
     let at-wide = c .before .before .before .before .before .before .before in

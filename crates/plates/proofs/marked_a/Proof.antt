@@ -33,18 +33,26 @@ whole-part-requires-2 c κs = search needs
 returns : tie.Need-returns
 returns c =
     let at-shared-slice-known = c .before .before .before .before .before in
-    let at-shared-slice-known2 = c .before .before .before in
-    let start = c .before .before .before .before .before .before in
     let at-gain-of = c .before .before .before .before in
-    c .whole-part .ensures ∙ rw (at-gain-of .gain-of .ensures, c .before .loss-of .ensures) (marked-outboard (start .args .sheet .now) (eq-eqb _ _ (c .before .before .if1 .taken)))
-
-returns-2 : tie.Need-returns-2
-returns-2 c =
+    let at-shared-slice-known2 = c .before .before .before in
+    let at-if1 = c .before .before in
     let at-shared-slice-known = c .before .before .before .before .before in
     let at-shared-slice-known2 = c .before .before .before in
     let start = c .before .before .before .before .before .before in
     let at-gain-of = c .before .before .before .before in
-    c .whole-part2 .ensures ∙ rw (at-gain-of .gain-of .ensures, c .before .loss-of2 .ensures) (marked-inboard (start .args .sheet .now) (ne-eqb _ _ (c .before .before .if1 .left)))
+    c .whole-part .ensures ∙ rw (at-gain-of .gain-of .ensures, c .before .loss-of .ensures) (marked-outboard (start .args .sheet .now) (eq-eqb _ _ (at-if1 .if1 .taken)))
+
+returns-2 : tie.Need-returns-2
+returns-2 c =
+    let at-shared-slice-known = c .before .before .before .before .before in
+    let at-gain-of = c .before .before .before .before in
+    let at-shared-slice-known2 = c .before .before .before in
+    let at-if1 = c .before .before in
+    let at-shared-slice-known = c .before .before .before .before .before in
+    let at-shared-slice-known2 = c .before .before .before in
+    let start = c .before .before .before .before .before .before in
+    let at-gain-of = c .before .before .before .before in
+    c .whole-part2 .ensures ∙ rw (at-gain-of .gain-of .ensures, c .before .loss-of2 .ensures) (marked-inboard (start .args .sheet .now) (ne-eqb _ _ (at-if1 .if1 .left)))
 
 pub marked-a-spec : {M : Type 1} → statement M
 marked-a-spec =

@@ -21,12 +21,16 @@ whole-part-requires c κs = search needs
 mul-whole-part : tie.Need-mul-whole-part
 mul-whole-part c =
     let at-shared-slice-known = c .before .before .before .before in
+    let at-gain-of = c .before .before .before in
+    let at-shared-slice-known = c .before .before .before .before in
     let start = c .before .before .before .before .before in
     let at-gain-of = c .before .before .before in
     omega (arith, at-gain-of .gain-of .ensures, volume-most (start .args .sheet .now) (start .pre), start .pre .aft-most)
 
 mul-whole-part-2 : tie.Need-mul-whole-part-2
 mul-whole-part-2 c =
+    let at-shared-slice-known = c .before .before .before .before in
+    let at-gain-of = c .before .before .before in
     let at-shared-slice-known = c .before .before .before .before in
     let start = c .before .before .before .before .before in
     omega (arith, c .before .before .loss-of .ensures, loss-most (start .args .sheet .now) 1 (start .pre) (omega arith))
@@ -40,6 +44,10 @@ whole-part-requires-2 c κs = search needs
 returns : tie.Need-returns
 returns c =
     let at-shared-slice-known = c .before .before .before .before .before in
+    let at-gain-of = c .before .before .before .before in
+    let at-loss-of = c .before .before .before in
+    let at-shared-slice-known2 = c .before .before in
+    let at-shared-slice-known = c .before .before .before .before .before in
     let at-loss-of = c .before .before .before in
     let start = c .before .before .before .before .before .before in
     let at-gain-of = c .before .before .before .before in
@@ -48,6 +56,10 @@ returns c =
 
 returns-2 : tie.Need-returns-2
 returns-2 c =
+    let at-shared-slice-known = c .before .before .before .before .before in
+    let at-gain-of = c .before .before .before .before in
+    let at-loss-of = c .before .before .before in
+    let at-shared-slice-known2 = c .before .before in
     let at-shared-slice-known = c .before .before .before .before .before in
     let at-loss-of = c .before .before .before in
     let start = c .before .before .before .before .before .before in

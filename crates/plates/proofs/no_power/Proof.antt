@@ -23,6 +23,7 @@ wide-requires-2 c κs = search needs
 
 mul-p : tie.Need-mul-p
 mul-p c =
+    let at-shared-slice-known = c .before .before .before .before in
     let start = c .before .before .before .before .before in
     record { fits = lt-of-le-of-lt (factor-most (start .args .sheet .now) (start .pre) (c .before .before .wide .ensures) (c .wide2 .ensures)) (lit< tt) }
 
@@ -34,6 +35,9 @@ shared-slice-read-if2 c = search needs
 
 returns : tie.Need-returns
 returns c =
+    let at-shared-slice-known = c .before .before .before .before .before .before .before .before in
+    let at-shared-slice-known3 = c .before .before .before .before .before in
+    let at-shared-slice-known4 = c .before .before .before in
     let start = c .before .before .before .before .before .before .before .before .before in
     let at-wide = c .before .before .before .before .before .before in
     let at-wide2 = c .before .before .before .before in
@@ -41,6 +45,7 @@ returns c =
 
 returns-2 : tie.Need-returns-2
 returns-2 c =
+    let at-shared-slice-known = c .before .before .before .before .before .before .before .before in
     let start = c .before .before .before .before .before .before .before .before .before in
     sym (second-fails (eqb (outboard (start .args .sheet .now)) 1) (first-fails _ (ne-eqb _ _ (c .if2 .left))))
 

@@ -19,6 +19,7 @@ no-power-requires c κs = search needs
 
 cast-t7 : tie.Need-cast-t7
 cast-t7 c =
+    let at-shared-slice-known = c .before .before .before .before in
     let start = c .before .before .before .before .before in
     let at-marked-a = c .before .before .before in
     omega (arith, at-marked-a .marked-a .ensures, marked-most (start .args .sheet .now) (start .pre))
@@ -28,6 +29,7 @@ power-a-requires c κs = search needs
 
 cast-t9 : tie.Need-cast-t9
 cast-t9 c =
+    let at-shared-slice-known = c .before .before .before .before .before in
     let start = c .before .before .before .before .before .before in
     omega (arith, c .power-a .ensures, power-most (start .args .sheet .now) (start .pre))
 
@@ -38,16 +40,21 @@ returns c =
 
 returns-2 : tie.Need-returns-2
 returns-2 c =
+    let at-shared-slice-known = c .before .before .before .before in
+    let at-if1 = c .before .before in
     let start = c .before .before .before .before .before in
     let at-marked-a = c .before .before .before in
-    a-unpowered (start .args .sheet .now) (sym (ap (λ (x : ℕ). eqb x 0) (at-marked-a .marked-a .ensures)) ∙ ne-eqb _ _ (c .before .before .if1 .left)) (sym (c .before .no-power .ensures) ∙ c .if2 .taken)
+    a-unpowered (start .args .sheet .now) (sym (ap (λ (x : ℕ). eqb x 0) (at-marked-a .marked-a .ensures)) ∙ ne-eqb _ _ (at-if1 .if1 .left)) (sym (c .before .no-power .ensures) ∙ c .if2 .taken)
 
 returns-3 : tie.Need-returns-3
 returns-3 c =
+    let at-shared-slice-known = c .before .before .before .before .before in
+    let at-if1 = c .before .before .before in
+    let at-no-power = c .before .before in
     let start = c .before .before .before .before .before .before in
     let at-marked-a = c .before .before .before .before in
     let at-if1 = c .before .before .before in
-    a-marks (start .args .sheet .now) (sym (ap (λ (x : ℕ). eqb x 0) (at-marked-a .marked-a .ensures)) ∙ ne-eqb _ _ (at-if1 .if1 .left)) (sym (c .before .before .no-power .ensures) ∙ c .before .if2 .left) (at-marked-a .marked-a .ensures) (c .power-a .ensures)
+    a-marks (start .args .sheet .now) (sym (ap (λ (x : ℕ). eqb x 0) (at-marked-a .marked-a .ensures)) ∙ ne-eqb _ _ (at-if1 .if1 .left)) (sym (at-no-power .no-power .ensures) ∙ c .before .if2 .left) (at-marked-a .marked-a .ensures) (c .power-a .ensures)
 
 pub plate-a-spec : {M : Type 1} → statement M
 plate-a-spec =

@@ -26,6 +26,7 @@ wide-requires-2 c κs = search needs
 
 mul-p : tie.Need-mul-p
 mul-p c =
+    let at-shared-slice-known = c .before .before .before .before in
     let start = c .before .before .before .before .before in
     record { fits = lt-of-le-of-lt (factor-most (start .args .sheet .now) (start .pre) (c .before .before .wide .ensures) (c .wide2 .ensures)) (lit< tt) }
 
@@ -34,6 +35,8 @@ shared-slice-read-if1 c = search needs
 
 formula-watts-requires : tie.Need-formula-watts-requires
 formula-watts-requires c κs =
+    let at-shared-slice-known = c .before .before .before .before .before .before .before in
+    let at-shared-slice-known3 = c .before .before .before .before in
     let start = c .before .before .before .before .before .before .before .before in
     let at-wide = c .before .before .before .before .before in
     let at-wide2 = c .before .before .before in
@@ -50,11 +53,15 @@ row-watts-requires c κs = search needs
 
 returns : tie.Need-returns
 returns c =
+    let at-shared-slice-known = c .before .before .before .before .before .before in
     let start = c .before .before .before .before .before .before .before in
     no-outboard (start .args .sheet .now) (eq-eqb _ _ (c .if1 .taken))
 
 returns-2 : tie.Need-returns-2
 returns-2 c =
+    let at-shared-slice-known = c .before .before .before .before .before .before .before .before in
+    let at-shared-slice-known3 = c .before .before .before .before .before in
+    let at-shared-slice-known4 = c .before .before .before in
     let start = c .before .before .before .before .before .before .before .before .before in
     let at-wide = c .before .before .before .before .before .before in
     let at-wide2 = c .before .before .before .before in
@@ -62,6 +69,11 @@ returns-2 c =
 
 returns-3 : tie.Need-returns-3
 returns-3 c =
+    let at-shared-slice-known = c .before .before .before .before .before .before .before .before .before .before .before in
+    let at-shared-slice-known3 = c .before .before .before .before .before .before .before .before in
+    let at-shared-slice-known4 = c .before .before .before .before .before .before in
+    let at-if2 = c .before .before .before .before in
+    let at-shared-slice-known5 = c .before .before .before in
     let start = c .before .before .before .before .before .before .before .before .before .before .before .before in
     let at-wide = c .before .before .before .before .before .before .before .before .before in
     let at-wide2 = c .before .before .before .before .before .before .before in
@@ -71,6 +83,10 @@ returns-3 c =
 
 returns-4 : tie.Need-returns-4
 returns-4 c =
+    let at-shared-slice-known = c .before .before .before .before .before .before .before .before .before .before in
+    let at-shared-slice-known3 = c .before .before .before .before .before .before .before in
+    let at-shared-slice-known4 = c .before .before .before .before .before in
+    let at-if2 = c .before .before .before in
     let start = c .before .before .before .before .before .before .before .before .before .before .before in
     let at-wide = c .before .before .before .before .before .before .before .before in
     let at-wide2 = c .before .before .before .before .before .before in

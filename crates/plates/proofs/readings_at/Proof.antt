@@ -67,6 +67,8 @@ shared-slice-read-t29 c = search needs
 returns : tie.Need-returns
 returns c =
     let at-shared-slice-known = c .before .before .before .before .before .before in
+    let at-shared-slice-known2 = c .before .before .before .before .before in
+    let at-shared-slice-known = c .before .before .before .before .before .before in
     let start = c .before .before .before .before .before .before .before in
     seven (start .args .sheet .now) (start .args .at) (start .pre)
 

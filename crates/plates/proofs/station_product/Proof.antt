@@ -89,11 +89,16 @@ returns c =
     let at-wide3 = c .before .before .before .before in
     let at-wide4 = c .before .before .before in
     let at-wide5 = c .before .before in
+    let at-wide6 = c .before in
+    let at-wide2 = c .before .before .before .before .before in
+    let at-wide3 = c .before .before .before .before in
+    let at-wide4 = c .before .before .before in
+    let at-wide5 = c .before .before in
     let at-wide = c .before .before .before .before .before .before in
     let at-wide2 = c .before .before .before .before .before in
     let at-wide3 = c .before .before .before .before in
     let at-wide4 = c .before .before .before in
-    simp (at-wide .wide .ensures, at-wide2 .wide2 .ensures, at-wide3 .wide3 .ensures, at-wide4 .wide4 .ensures, at-wide5 .wide5 .ensures, c .before .wide6 .ensures, c .wide7 .ensures)
+    simp (at-wide .wide .ensures, at-wide2 .wide2 .ensures, at-wide3 .wide3 .ensures, at-wide4 .wide4 .ensures, at-wide5 .wide5 .ensures, at-wide6 .wide6 .ensures, c .wide7 .ensures)
 
 pub station-product-spec : {M : Type 1} → statement M
 station-product-spec =

@@ -39,6 +39,12 @@ wide-requires c κs = search needs
 mul-result : tie.Need-mul-result
 mul-result c =
     let at-station-product-arg = c .before .before .before .before .before .before .before .before in
+    let at-station-product = c .before .before .before .before .before .before .before in
+    let at-station-product-arg2 = c .before .before .before .before .before .before in
+    let at-station-product2 = c .before .before .before .before .before in
+    let at-station-product-arg3 = c .before .before .before .before in
+    let at-station-product3 = c .before .before .before in
+    let at-station-product-arg = c .before .before .before .before .before .before .before .before in
     let at-station-product-arg2 = c .before .before .before .before .before .before in
     let at-station-product-arg3 = c .before .before .before .before in
     let start = c .before .before .before .before .before .before .before .before .before in
@@ -49,6 +55,12 @@ mul-result c =
 
 mul-result-2 : tie.Need-mul-result-2
 mul-result-2 c =
+    let at-station-product-arg = c .before .before .before .before .before .before .before .before in
+    let at-station-product = c .before .before .before .before .before .before .before in
+    let at-station-product-arg2 = c .before .before .before .before .before .before in
+    let at-station-product2 = c .before .before .before .before .before in
+    let at-station-product-arg3 = c .before .before .before .before in
+    let at-station-product3 = c .before .before .before in
     let at-station-product-arg = c .before .before .before .before .before .before .before .before in
     let at-station-product-arg2 = c .before .before .before .before .before .before in
     let at-station-product-arg3 = c .before .before .before .before in
@@ -61,6 +73,12 @@ mul-result-2 c =
 add-result : tie.Need-add-result
 add-result c =
     let at-station-product-arg = c .before .before .before .before .before .before .before .before in
+    let at-station-product = c .before .before .before .before .before .before .before in
+    let at-station-product-arg2 = c .before .before .before .before .before .before in
+    let at-station-product2 = c .before .before .before .before .before in
+    let at-station-product-arg3 = c .before .before .before .before in
+    let at-station-product3 = c .before .before .before in
+    let at-station-product-arg = c .before .before .before .before .before .before .before .before in
     let at-station-product-arg2 = c .before .before .before .before .before .before in
     let at-station-product-arg3 = c .before .before .before .before in
     let start = c .before .before .before .before .before .before .before .before .before in
@@ -71,6 +89,12 @@ add-result c =
 
 mul-result-3 : tie.Need-mul-result-3
 mul-result-3 c =
+    let at-station-product-arg = c .before .before .before .before .before .before .before .before in
+    let at-station-product = c .before .before .before .before .before .before .before in
+    let at-station-product-arg2 = c .before .before .before .before .before .before in
+    let at-station-product2 = c .before .before .before .before .before in
+    let at-station-product-arg3 = c .before .before .before .before in
+    let at-station-product3 = c .before .before .before in
     let at-station-product-arg = c .before .before .before .before .before .before .before .before in
     let at-station-product-arg2 = c .before .before .before .before .before .before in
     let at-station-product-arg3 = c .before .before .before .before in
@@ -83,6 +107,12 @@ mul-result-3 c =
 add-result-2 : tie.Need-add-result-2
 add-result-2 c =
     let at-station-product-arg = c .before .before .before .before .before .before .before .before in
+    let at-station-product = c .before .before .before .before .before .before .before in
+    let at-station-product-arg2 = c .before .before .before .before .before .before in
+    let at-station-product2 = c .before .before .before .before .before in
+    let at-station-product-arg3 = c .before .before .before .before in
+    let at-station-product3 = c .before .before .before in
+    let at-station-product-arg = c .before .before .before .before .before .before .before .before in
     let at-station-product-arg2 = c .before .before .before .before .before .before in
     let at-station-product-arg3 = c .before .before .before .before in
     let start = c .before .before .before .before .before .before .before .before .before in
@@ -93,6 +123,12 @@ add-result-2 c =
 
 add-result-3 : tie.Need-add-result-3
 add-result-3 c =
+    let at-station-product-arg = c .before .before .before .before .before .before .before .before in
+    let at-station-product = c .before .before .before .before .before .before .before in
+    let at-station-product-arg2 = c .before .before .before .before .before .before in
+    let at-station-product2 = c .before .before .before .before .before in
+    let at-station-product-arg3 = c .before .before .before .before in
+    let at-station-product3 = c .before .before .before in
     let at-station-product-arg = c .before .before .before .before .before .before .before .before in
     let at-station-product-arg2 = c .before .before .before .before .before .before in
     let at-station-product-arg3 = c .before .before .before .before in
@@ -105,6 +141,12 @@ add-result-3 c =
 mul-result-4 : tie.Need-mul-result-4
 mul-result-4 c =
     let at-station-product-arg = c .before .before .before .before .before .before .before .before in
+    let at-station-product = c .before .before .before .before .before .before .before in
+    let at-station-product-arg2 = c .before .before .before .before .before .before in
+    let at-station-product2 = c .before .before .before .before .before in
+    let at-station-product-arg3 = c .before .before .before .before in
+    let at-station-product3 = c .before .before .before in
+    let at-station-product-arg = c .before .before .before .before .before .before .before .before in
     let at-station-product-arg2 = c .before .before .before .before .before .before in
     let at-station-product-arg3 = c .before .before .before .before in
     let start = c .before .before .before .before .before .before .before .before .before in
@@ -115,6 +157,10 @@ mul-result-4 c =
 
 returns : tie.Need-returns
 returns c =
+    let at-station-product-arg2 = c .before .before .before .before .before .before in
+    let at-station-product2 = c .before .before .before .before .before in
+    let at-station-product-arg3 = c .before .before .before .before in
+    let at-station-product3 = c .before .before .before in
     let at-station-product-arg2 = c .before .before .before .before .before .before in
     let at-station-product-arg3 = c .before .before .before .before in
     let at-station-product = c .before .before .before .before .before .before .before in
