@@ -6,7 +6,7 @@ use lib.Dec.{eqb, leb, ltb}
 use lib.IntN.{ℤ, pos, _+ℤ_, _-ℤ_, _*ℤ_}
 use Rattle.sheet.specs.declared.Answer.{Answer}
 use Rattle.sheet.specs.declared.Answer.the-variants.{Refused, Plate}
-use Rattle.plates.specs.Whole.{floorDiv, ceilDiv, below, whole}
+use Rattle.plates.specs.Whole.{floorDiv, ceilDiv, isBelow, whole}
 use Rattle.plates.specs.Words.{hullLength, transomWidth, transomHeight, flat, remote, fuel, machinery, outboard}
 use Rattle.plates.specs.Volume.{gram, netZ}
 use Rattle.plates.specs.Weights.{boatM}
@@ -72,4 +72,4 @@ noPower s = eqb (outboard s) 1 && (eqb (flat s) 1 && leb (factorP s) 2250000)
 -- ---- the plate
 
 unfoldable pub plateA : List ℕ → Answer
-plateA s = cond (below (markedA s) 1) (Refused 12) (cond (noPower s) (Refused 13) (Plate (whole (markedA s)) (powerA s)))
+plateA s = cond (isBelow (markedA s) 1) (Refused 12) (cond (noPower s) (Refused 13) (Plate (whole (markedA s)) (powerA s)))

@@ -8,7 +8,7 @@ use lib.ListN.{length}
 use lib.IntN.{ℤ, pos, _-ℤ_, _*ℤ_}
 use Rattle.sheet.specs.declared.Answer.{Answer}
 use Rattle.sheet.specs.declared.Answer.the-variants.{Refused, Plate}
-use Rattle.plates.specs.Whole.{floorDiv, below, least, whole}
+use Rattle.plates.specs.Whole.{floorDiv, isBelow, least, whole}
 use Rattle.plates.specs.Words.{fuel, machinery, outboard, declared, positions, tested}
 use Rattle.plates.specs.Volume.{gram, netZ}
 use Rattle.plates.specs.Weights.{boatM}
@@ -80,7 +80,7 @@ personsC s ps ws =
 unfoldable pub plateC : List ℕ → List ℕ → List ℕ → Answer
 plateC s ps ws =
     cond (not (rowsRight ps ws)) (Refused 10)
-    (cond (below (markedC s) 1) (Refused 12)
+    (cond (isBelow (markedC s) 1) (Refused 12)
     (cond (wantsRow s && not (reaches (declared s) ps)) (Refused 11)
-    (cond (below (liveLoad s ps ws) testedGrams && eqb (tested s) 0) (Refused 14)
-    (cond (below (personsC s ps ws) 1) (Refused 15) (Plate (whole (markedC s)) (whole (personsC s ps ws)))))))
+    (cond (isBelow (liveLoad s ps ws) testedGrams && eqb (tested s) 0) (Refused 14)
+    (cond (isBelow (personsC s ps ws) 1) (Refused 15) (Plate (whole (markedC s)) (whole (personsC s ps ws)))))))

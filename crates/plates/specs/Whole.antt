@@ -14,9 +14,9 @@ abbrev pub ceilDiv : ℕ → ℕ → ℕ
 ceilDiv a d = (a + (d - 1)) / d
 
 -- whether z is below n
-abbrev pub below : ℤ → ℕ → Bool
-below (pos m) n = ltb m n
-below (negsuc m) n = true
+abbrev pub isBelow : ℤ → ℕ → Bool
+isBelow (pos m) n = ltb m n
+isBelow (negsuc m) n = true
 
 abbrev pub least : ℤ → ℤ → ℤ
 least (pos m) (pos n) = cond (leb m n) (pos m) (pos n)

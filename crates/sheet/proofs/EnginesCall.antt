@@ -17,7 +17,7 @@ use Rattle.sheet.specs.Engines.{readRows, readEngines, powersOf, weights
 use Rattle.sheet.specs.declared.Answer.{Answer}
 use Rattle.sheet.specs.declared.Answer.the-variants.{Refused, Count}
 use Rattle.sheet.specs.Settled.{Settled}
-use Rattle.sheet.specs.Calls.{startsWith, rowsFit, enginesAnswer, columnsInto}
+use Rattle.sheet.specs.Calls.{putFirst, rowsFit, enginesAnswer, columnsInto}
 use Rattle.sheet.proofs.Engines.{Counted, columns-even, rows-counted}
 
 -- ---- the call
@@ -98,12 +98,12 @@ module _ (t a b : List ℕ) (h : length t ≤ mostBytes) where
         let e = columns-even (counted .paired) in
         ap (take n) (p .weights ∙ sets-start b₀ (weightsOf (readRows mostRows 1 t .numbers)) (omega (arith, counted .few))) ∙ take-at (weightsOf (readRows mostRows 1 t .numbers)) _ n (e ∙ sym (read .2))
 
-    pub settled-read : {x y : List ℕ} → n ≤ length a → n ≤ length b → x ≡ startsWith (take n c) a → y ≡ startsWith (take n d) b → Promise t a b (Count n) x y
+    pub settled-read : {x y : List ℕ} → n ≤ length a → n ≤ length b → x ≡ putFirst (take n c) a → y ≡ putFirst (take n d) b → Promise t a b (Count n) x y
     settled-read {x} {y} l m e f =
         let q = engines-short t h in
         let k = read .1 in
         let r : rowsFit (readRows mostRows 1 t .numbers) (length a) (length b) ≡ true =
         rw (le-leb (length (powersOf (readRows mostRows 1 t .numbers))) (length a) (omega (arith, read .2)), le-leb (length (powersOf (readRows mostRows 1 t .numbers))) (length b) (omega (arith, read .2))) in
-        let x₁ : x ≡ startsWith (powersOf (readRows mostRows 1 t .numbers)) a = e ∙ ap (λ (l : List ℕ). startsWith l a) first-powers in
-        let y₁ : y ≡ startsWith (weightsOf (readRows mostRows 1 t .numbers)) b = f ∙ ap (λ (l : List ℕ). startsWith l b) first-weights in
+        let x₁ : x ≡ putFirst (powersOf (readRows mostRows 1 t .numbers)) a = e ∙ ap (λ (l : List ℕ). putFirst l a) first-powers in
+        let y₁ : y ≡ putFirst (weightsOf (readRows mostRows 1 t .numbers)) b = f ∙ ap (λ (l : List ℕ). putFirst l b) first-weights in
         record { answered = rw (q, k, r, read .2); kept = rw (q, k, r, x₁, y₁) }

@@ -10,7 +10,7 @@ use lib.ListN.{length, drop, getD, replicate, length-append, length-drop, length
 use Rattle.text.specs.declared.LineRead.{LineRead}
 use Rattle.text.specs.declared.LineRead.the-variants.{Taken, Fault}
 use Rattle.text.specs.Field.{begins}
-use Rattle.text.specs.Limit.{between, holds, allHold}
+use Rattle.text.specs.Limit.{ranging, holds, allHold}
 use Rattle.text.specs.Line.{Reading, refused, after, readLine}
 use Rattle.text.proofs.Number.{both-hold}
 use Rattle.text.proofs.Line.{extent, line-extent, extent-shift}
@@ -30,8 +30,8 @@ pub record Two (a b c d : ℕ) (ns : List ℕ) : Type 0 where
   pub w-low : c ≤ w
   pub w-high : w ≤ d
 
-two-between : (a b c d n w : ℕ) → holds (between a b) 0 n ≡ true → holds (between c d) n w ≡ true → Two a b c d (n ∷ w ∷ [])
-two-between a b c d n w h k =
+two-ranging : (a b c d n w : ℕ) → holds (ranging a b) 0 n ≡ true → holds (ranging c d) n w ≡ true → Two a b c d (n ∷ w ∷ [])
+two-ranging a b c d n w h k =
     let p = both-hold (leb a n) (leb n b && true) h in
     let q = both-hold (leb c w) (leb w d && true) k in
     record {
@@ -44,16 +44,16 @@ two-between a b c d n w h k =
       w-high = leb-true w d (both-hold (leb w d) true (q .1) .0);
     }
 
-pub two-numbers : (a b c d : ℕ) (ns : List ℕ) → allHold (between a b ∷ between c d ∷ []) 0 ns ≡ true → Two a b c d ns
+pub two-numbers : (a b c d : ℕ) (ns : List ℕ) → allHold (ranging a b ∷ ranging c d ∷ []) 0 ns ≡ true → Two a b c d ns
 unfolding allHold
 two-numbers a b c d [] h = absurd (true≢false (sym h))
-two-numbers a b c d (n ∷ []) h = absurd (true≢false (sym (both-hold (holds (between a b) 0 n) false h .1)))
+two-numbers a b c d (n ∷ []) h = absurd (true≢false (sym (both-hold (holds (ranging a b) 0 n) false h .1)))
 two-numbers a b c d (n ∷ w ∷ []) h =
-    let p = both-hold (holds (between a b) 0 n) (holds (between c d) n w && true) h in
-    two-between a b c d n w (p .0) (both-hold (holds (between c d) n w) true (p .1) .0)
+    let p = both-hold (holds (ranging a b) 0 n) (holds (ranging c d) n w && true) h in
+    two-ranging a b c d n w (p .0) (both-hold (holds (ranging c d) n w) true (p .1) .0)
 two-numbers a b c d (n ∷ w ∷ m ∷ ns) h =
-    let p = both-hold (holds (between a b) 0 n) (holds (between c d) n w && false) h in
-    absurd (true≢false (sym (both-hold (holds (between c d) n w) false (p .1) .1)))
+    let p = both-hold (holds (ranging a b) 0 n) (holds (ranging c d) n w && false) h in
+    absurd (true≢false (sym (both-hold (holds (ranging c d) n w) false (p .1) .1)))
 
 abbrev pub Fit : ℕ → List ℕ → Type 0
 Fit next ns = Two next fittings 1 fittingHigh ns

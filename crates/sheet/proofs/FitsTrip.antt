@@ -11,7 +11,7 @@ use lib.ListN.{length, take, drop, replicate, length-append, replicate-append-re
 use lib.Seq.{drop-append-seam}
 use Rattle.text.specs.declared.LineRead.the-variants.{Taken, Fault}
 use Rattle.text.specs.Field.{begins, agreed}
-use Rattle.text.specs.Limit.{Limit, between, holds, allHold}
+use Rattle.text.specs.Limit.{Limit, ranging, holds, allHold}
 use Rattle.text.specs.Line.{Reading, readNumbers, readLine, numbersText, lineText}
 use Rattle.text.proofs.Number.{both-hold}
 use Rattle.text.proofs.Field.{agreed-whole}
@@ -39,7 +39,7 @@ zeros-snoc (suc j) ws = ap (λ (l : List ℕ). 0 ∷ l) (zeros-snoc j ws)
 weight-some : (last w : ℕ) → holds fitLimit last w ≡ true → (w ≡ 0 → ⊥) → (1 ≤ w) × (w ≤ fittingHigh)
 weight-some last w h n = (omega arith, weight-most last w h)
 
-fit-held : (low n w : ℕ) → low ≤ n → n ≤ fittings → 1 ≤ w → w ≤ fittingHigh → allHold (between low fittings ∷ between 1 fittingHigh ∷ []) 0 (n ∷ w ∷ []) ≡ true
+fit-held : (low n w : ℕ) → low ≤ n → n ≤ fittings → 1 ≤ w → w ≤ fittingHigh → allHold (ranging low fittings ∷ ranging 1 fittingHigh ∷ []) 0 (n ∷ w ∷ []) ≡ true
 unfolding allHold
 fit-held low n w a b c d = rw (le-leb low n a, le-leb n fittings b, le-leb 1 w c, le-leb w fittingHigh d)
 

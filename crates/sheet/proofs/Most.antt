@@ -9,7 +9,7 @@ use lib.Dec.{eqb}
 use lib.ListN.{length, take, drop, replicate, length-append}
 use Rattle.text.specs.Quoted.{dash}
 use Rattle.text.specs.Number.{digitsIn, digitsOf}
-use Rattle.text.specs.Limit.{Limit, betweenOrNone, isNone, holds, allHold}
+use Rattle.text.specs.Limit.{Limit, rangingOrNone, isNone, holds, allHold}
 use Rattle.text.specs.Line.{Line, ender, entryText, numbersText, lineText}
 use Rattle.text.proofs.Number.{both-hold, length-digits-mono}
 use Rattle.text.proofs.Limit.{within-high}
@@ -56,11 +56,11 @@ lines-most (l ∷ ls) ms last s o h =
     let n : List ℕ = numbersText (l .limits) s in
     let rest : List ℕ = drop (length (l .limits)) s in
     let m : length n ≤ numbersMost (l .limits) = rw (numbers-take (l .limits) s) at (numbers-most (l .limits) 0 (take (length (l .limits)) s) (p .first)) in
-    let ih = lines-most ls ms (p .between) rest (both-hold (opens (l .limits)) (linesOpen ls) o .1) (p .rest) in
+    let ih = lines-most ls ms (p .ranging) rest (both-hold (opens (l .limits)) (linesOpen ls) o .1) (p .rest) in
     omega (arith, length-append (lineText l s) (linesText ls rest), length-append (l .tag) n)
 
 abbrev pub fitLimit : Limit
-fitLimit = betweenOrNone 1 fittingHigh
+fitLimit = rangingOrNone 1 fittingHigh
 
 fitMost : ℕ → ℕ
 fitMost n = length (digitsOf n) + (length (digitsOf fittingHigh) + 6)
@@ -117,7 +117,7 @@ pub sheet-fits : (s : List ℕ) → sheetOk s ≡ true → (m : ℕ) → allHold
 unfolding opens
 sheet-fits s h m =
     let p = hold-split (limitsOn lines) (replicate fittings fitLimit) 0 s (sheet-lines s h) in
-    hold-free (replicate fittings fitLimit) m (p .between) (drop (length (limitsOn lines)) s) refl ∙ p .rest
+    hold-free (replicate fittings fitLimit) m (p .ranging) (drop (length (limitsOn lines)) s) refl ∙ p .rest
 
 total : linesMost lines + fitsMost 1 fittings + 4 ≡ mostText
 unfolding linesMost numbersMost fitsMost fitMost digitsOf digitsIn

@@ -18,8 +18,8 @@ abbrev pub noRoom : ℕ
 noRoom = 16
 
 -- a list that starts with xs, and goes on as it was
-abbrev pub startsWith : List ℕ → List ℕ → List ℕ
-startsWith xs before = xs ++ drop (length xs) before
+abbrev pub putFirst : List ℕ → List ℕ → List ℕ
+putFirst xs before = xs ++ drop (length xs) before
 
 -- ---- read a sheet from a text
 
@@ -37,7 +37,7 @@ abbrev pub writeAnswer : List ℕ → ℕ → Answer
 writeAnswer s room = cond (sheetOk s) (cond (leb (length (sheetText s)) room) (Count (length (sheetText s))) (Refused noRoom)) (Refused outsideLimits)
 
 abbrev pub writeInto : List ℕ → List ℕ → List ℕ
-writeInto s before = cond (sheetOk s && leb (length (sheetText s)) (length before)) (startsWith (sheetText s) before) before
+writeInto s before = cond (sheetOk s && leb (length (sheetText s)) (length before)) (putFirst (sheetText s) before) before
 
 -- ---- read engine rows
 
@@ -52,6 +52,6 @@ enginesAnswer p a b = elim (p .ended) [ Taken k ↦ cond (rowsFit (p .numbers) a
 abbrev pub columnsInto : Reading → List ℕ → List ℕ → List ℕ × List ℕ
 columnsInto p powers weights =
     elim (p .ended) [
-      | Taken k ↦ cond (rowsFit (p .numbers) (length powers) (length weights)) (startsWith (powersOf (p .numbers)) powers, startsWith (weightsOf (p .numbers)) weights) (powers, weights)
+      | Taken k ↦ cond (rowsFit (p .numbers) (length powers) (length weights)) (putFirst (powersOf (p .numbers)) powers, putFirst (weightsOf (p .numbers)) weights) (powers, weights)
       | Fault number at ↦ (powers, weights)
     ]

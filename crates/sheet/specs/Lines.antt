@@ -5,7 +5,7 @@ use Prim.Native.String.{String}
 use mathlib.Core.List.{List, [], _∷_}
 use lib.ListN.{replicate}
 use Rattle.text.specs.Quoted.{bytes}
-use Rattle.text.specs.Limit.{Limit, between, betweenCapped, betweenOrNone}
+use Rattle.text.specs.Limit.{Limit, ranging, rangingCapped, rangingOrNone}
 use Rattle.text.specs.Line.{Line}
 
 abbrev pub line : String → List Limit → Line
@@ -13,29 +13,29 @@ line tag limits = record { tag = bytes tag; limits = limits }
 
 -- length; reference length, not above length; transom width; transom height; flat bottom; remote steering
 abbrev pub formLimits : List Limit
-formLimits = between 2000 6000 ∷ betweenCapped 2000 6000 ∷ between 500 3000 ∷ between 200 900 ∷ between 0 1 ∷ between 0 1 ∷ []
+formLimits = ranging 2000 6000 ∷ rangingCapped 2000 6000 ∷ ranging 500 3000 ∷ ranging 200 900 ∷ ranging 0 1 ∷ ranging 0 1 ∷ []
 
 -- B, then q r s t u v
 abbrev pub stationLimits : List Limit
-stationLimits = between 0 4000 ∷ replicate 6 (between 0 2500)
+stationLimits = ranging 0 4000 ∷ replicate 6 (ranging 0 2500)
 
 -- the lines from HULL to SEAT
 abbrev pub lines : List Line
 lines =
-    line "HULL\t" (between 0 15 ∷ [])
+    line "HULL\t" (ranging 0 15 ∷ [])
     ∷ line "FORM\t" formLimits
     ∷ line "STN\tQ\t" stationLimits
     ∷ line "STN\tR\t" stationLimits
     ∷ line "STN\tS\t" stationLimits
     ∷ line "STN\tT\t" stationLimits
     -- aft structure, motor well, flooding chambers
-    ∷ line "VOL\t" (between 0 5000000 ∷ between 0 5000000 ∷ between 0 5000000 ∷ [])
+    ∷ line "VOL\t" (ranging 0 5000000 ∷ ranging 0 5000000 ∷ ranging 0 5000000 ∷ [])
     -- bare boat, permanent tanks with fuel, installed machinery
-    ∷ line "MASS\t" (between 1 2000000 ∷ between 0 500000 ∷ between 0 500000 ∷ [])
+    ∷ line "MASS\t" (ranging 1 2000000 ∷ ranging 0 500000 ∷ ranging 0 500000 ∷ [])
     -- 1 outboard or 0 inboard, declared power
-    ∷ line "PWR\t" (between 0 1 ∷ between 0 200000 ∷ [])
+    ∷ line "PWR\t" (ranging 0 1 ∷ ranging 0 200000 ∷ [])
     -- designated positions; tested persons, or `-`
-    ∷ line "SEAT\t" (between 1 24 ∷ betweenOrNone 1 24 ∷ [])
+    ∷ line "SEAT\t" (ranging 1 24 ∷ rangingOrNone 1 24 ∷ [])
     ∷ []
 
 -- how many lines of fittings a sheet has room for
@@ -47,14 +47,14 @@ fittingHigh = 500000
 
 -- a fitting's line number and weight
 abbrev pub fitLine : ℕ → Line
-fitLine next = line "FIT\t" (between next fittings ∷ between 1 fittingHigh ∷ [])
+fitLine next = line "FIT\t" (ranging next fittings ∷ ranging 1 fittingHigh ∷ [])
 
 abbrev pub endLine : Line
 endLine = line "END\n" []
 
 -- an engine's power and weight
 abbrev pub engineLine : ℕ → Line
-engineLine next = line "ENG\t" (between next 200000 ∷ between 0 1000000 ∷ [])
+engineLine next = line "ENG\t" (ranging next 200000 ∷ ranging 0 1000000 ∷ [])
 
 -- how many engine rows a text may have
 abbrev pub mostRows : ℕ

@@ -5,7 +5,7 @@ use mathlib.Core.Bool.{Bool, true, false}
 use mathlib.Core.List.{List, [], _∷_, _++_}
 use lib.Dec.{eqb}
 use lib.ListN.{length, getD, take, drop, replicate}
-use Rattle.text.specs.Limit.{Limit, betweenOrNone, allHold}
+use Rattle.text.specs.Limit.{Limit, rangingOrNone, allHold}
 use Rattle.text.specs.Line.{Line, lineText}
 use Rattle.sheet.specs.Lines.{lines, fittings, fittingHigh, fitLine, endLine}
 
@@ -31,7 +31,7 @@ wordAt i = length (limitsOn (take i lines))
 
 -- the limits of a sheet's numbers: those of its lines, and a weight or none for each fitting
 unfoldable pub sheetLimits : List Limit
-sheetLimits = limitsOn lines ++ replicate fittings (betweenOrNone 1 fittingHigh)
+sheetLimits = limitsOn lines ++ replicate fittings (rangingOrNone 1 fittingHigh)
 
 -- whether s is a sheet within the limits
 abbrev pub sheetOk : List ℕ → Bool

@@ -8,7 +8,7 @@ ghost use Rattle.sheet.specs.Lines.{lines, fittings, mostRows};
 ghost use Rattle.sheet.specs.Sheet.{textWords, lineAt, wordAt, linesText, fitText, fitsText, sheetText};
 ghost use Rattle.sheet.specs.Reading.{readLines, readFits, readEnd, readRest, readSheet};
 ghost use Rattle.sheet.specs.Engines.{readRows, readEngines, Rowed};
-ghost use Rattle.sheet.specs.Calls.{readAnswer, readInto, writeAnswer, writeInto, startsWith, enginesAnswer, columnsInto};
+ghost use Rattle.sheet.specs.Calls.{readAnswer, readInto, writeAnswer, writeInto, putFirst, enginesAnswer, columnsInto};
 use text::CAPPED;
 use text::Limit;
 use text::LineRead;
@@ -395,7 +395,7 @@ fn read_rows(text: &[u8], powers: &mut [u32], weights: &mut [u32]) -> RowsRead
 // Lays numbers at the start of out, which has room for them.
 fn copy_numbers(numbers: &[u32], out: &mut [u32])
     requires { ⌜ length (now numbers) ≤ length (now out) ⌝ }
-    ensures { λ r. ⌜ now (out .exit) ≡ startsWith (now (numbers .entry)) (now (out .entry)) ⌝ }
+    ensures { λ r. ⌜ now (out .exit) ≡ putFirst (now (numbers .entry)) (now (out .entry)) ⌝ }
 {
     let mut i = 0;
     while i < numbers.len() {

@@ -8,7 +8,7 @@ use Rattle.text.specs.declared.EntryRead.the-variants.{Number, Misread}
 use Rattle.text.specs.Quoted.{bytes, tab}
 use Rattle.text.specs.Field.{fieldOf}
 use Rattle.text.specs.Number.{restOf, numberOf, digitsIn, digitsOf}
-use Rattle.text.specs.Limit.{Limit, between, betweenCapped, betweenOrNone}
+use Rattle.text.specs.Limit.{Limit, ranging, rangingCapped, rangingOrNone}
 use Rattle.text.specs.Line.{readEntry}
 
 -- ---- a number: 1 to 10 digits, no leading zero but 0 itself
@@ -38,23 +38,23 @@ read c = readEntry (c .limit) 4000 tab (bytes (c .text))
 
 entries : List Case
 entries =
-    record { limit = between 1 24; text = "24\t" }
-    ∷ record { limit = between 1 24; text = "25\t" }
-    ∷ record { limit = between 1 24; text = "0\t" }
+    record { limit = ranging 1 24; text = "24\t" }
+    ∷ record { limit = ranging 1 24; text = "25\t" }
+    ∷ record { limit = ranging 1 24; text = "0\t" }
     -- out of limits and ended by the wrong byte: 2, not 3
-    ∷ record { limit = between 1 24; text = "25\n" }
-    ∷ record { limit = between 1 24; text = "25" }
-    ∷ record { limit = between 1 24; text = "10000000000\t" }
-    ∷ record { limit = between 1 24; text = "9999999999\t" }
-    ∷ record { limit = between 1 24; text = "4294967297\t" }
-    ∷ record { limit = between 1 24; text = "-\t" }
-    ∷ record { limit = betweenOrNone 1 24; text = "-\t" }
-    ∷ record { limit = betweenOrNone 1 24; text = "0\t" }
-    ∷ record { limit = betweenOrNone 0 24; text = "0\t" }
-    ∷ record { limit = betweenOrNone 1 24; text = "-\n" }
-    ∷ record { limit = betweenOrNone 1 24; text = "-5\t" }
-    ∷ record { limit = betweenCapped 2000 6000; text = "4000\t" }
-    ∷ record { limit = betweenCapped 2000 6000; text = "4001\t" }
+    ∷ record { limit = ranging 1 24; text = "25\n" }
+    ∷ record { limit = ranging 1 24; text = "25" }
+    ∷ record { limit = ranging 1 24; text = "10000000000\t" }
+    ∷ record { limit = ranging 1 24; text = "9999999999\t" }
+    ∷ record { limit = ranging 1 24; text = "4294967297\t" }
+    ∷ record { limit = ranging 1 24; text = "-\t" }
+    ∷ record { limit = rangingOrNone 1 24; text = "-\t" }
+    ∷ record { limit = rangingOrNone 1 24; text = "0\t" }
+    ∷ record { limit = rangingOrNone 0 24; text = "0\t" }
+    ∷ record { limit = rangingOrNone 1 24; text = "-\n" }
+    ∷ record { limit = rangingOrNone 1 24; text = "-5\t" }
+    ∷ record { limit = rangingCapped 2000 6000; text = "4000\t" }
+    ∷ record { limit = rangingCapped 2000 6000; text = "4001\t" }
     ∷ []
 
 entries-right :

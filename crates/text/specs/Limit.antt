@@ -25,16 +25,16 @@ abbrev pub limit : ℕ → ℕ → ℕ → Limit
 limit low high rule = record { low = low; high = high; rule = rule }
 
 -- low..high
-abbrev pub between : ℕ → ℕ → Limit
-between low high = limit low high plain
+abbrev pub ranging : ℕ → ℕ → Limit
+ranging low high = limit low high plain
 
 -- low..high, or none, for which 0 stands among the numbers and `-` in a text
-abbrev pub betweenOrNone : ℕ → ℕ → Limit
-betweenOrNone low high = limit low high orNone
+abbrev pub rangingOrNone : ℕ → ℕ → Limit
+rangingOrNone low high = limit low high orNone
 
 -- low..high, and not above the number before it
-abbrev pub betweenCapped : ℕ → ℕ → Limit
-betweenCapped low high = limit low high capped
+abbrev pub rangingCapped : ℕ → ℕ → Limit
+rangingCapped low high = limit low high capped
 
 -- whether n is none: a 0 where 0 stands for none
 abbrev pub isNone : Limit → ℕ → Bool
