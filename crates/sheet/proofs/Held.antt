@@ -38,18 +38,18 @@ hold-free (l ∷ ls) a b (n ∷ ns) e = rw (holds-free l a b n (not-false (eqb (
 -- ---- numbers by two lists of limits
 
 pub record Split (ls ms : List Limit) (last : ℕ) (ns : List ℕ) : Type 0 where
-  pub ranging : ℕ
+  pub seam : ℕ
   pub first : allHold ls last (take (length ls) ns) ≡ true
-  pub rest : allHold ms ranging (drop (length ls) ns) ≡ true
+  pub rest : allHold ms seam (drop (length ls) ns) ≡ true
 
 pub hold-split : (ls ms : List Limit) (last : ℕ) (ns : List ℕ) → allHold (ls ++ ms) last ns ≡ true → Split ls ms last ns
 unfolding allHold
-hold-split [] ms last ns h = record { ranging = last; first = refl; rest = h }
+hold-split [] ms last ns h = record { seam = last; first = refl; rest = h }
 hold-split (l ∷ ls) ms last [] h = absurd (true≢false (sym h))
 hold-split (l ∷ ls) ms last (n ∷ ns) h =
     let p = both-hold (holds l last n) (allHold (ls ++ ms) n ns) h in
     let s = hold-split ls ms n ns (p .1) in
-    record { ranging = s .ranging; first = rw (p .0, s .first); rest = s .rest }
+    record { seam = s .seam; first = rw (p .0, s .first); rest = s .rest }
 
 pub hold-join : (ls ms : List Limit) (last : ℕ) (xs ys : List ℕ) → allHold ls last xs ≡ true → ((m : ℕ) → allHold ms m ys ≡ true) → allHold (ls ++ ms) last (xs ++ ys) ≡ true
 unfolding allHold
@@ -63,16 +63,16 @@ hold-join (l ∷ ls) ms last (x ∷ xs) ys h r =
 -- ---- a line, and the lines after it
 
 pub record Lined (l : Line) (ls : List Line) (ms : List Limit) (s : List ℕ) : Type 0 where
-  pub ranging : ℕ
+  pub seam : ℕ
   pub first : allHold (l .limits) 0 (take (length (l .limits)) s) ≡ true
-  pub rest : allHold (limitsOn ls ++ ms) ranging (drop (length (l .limits)) s) ≡ true
+  pub rest : allHold (limitsOn ls ++ ms) seam (drop (length (l .limits)) s) ≡ true
 
 pub lines-split : (l : Line) (ls : List Line) (ms : List Limit) (last : ℕ) (s : List ℕ) → linesOpen (l ∷ ls) ≡ true → allHold (limitsOn (l ∷ ls) ++ ms) last s ≡ true → Lined l ls ms s
 unfolding linesOpen limitsOn
 lines-split l ls ms last s o h =
     let p = hold-split (l .limits) (limitsOn ls ++ ms) last s (rw (append-assoc (l .limits) (limitsOn ls) ms) at h) in
     record {
-      ranging = p .ranging;
+      seam = p .seam;
       first = hold-free (l .limits) 0 last (take (length (l .limits)) s) (both-hold (opens (l .limits)) (linesOpen ls) o .0) ∙ p .first;
       rest = p .rest;
     }

@@ -41,7 +41,7 @@ lines-forth (l ∷ ls) ms last s rest o w h =
     let y : List ℕ = linesText ls (drop n s) in
     let t : lineText l (take n s) ≡ x = ap (λ (z : List ℕ). l .tag ++ z) (numbers-take (l .limits) s) in
     let a : readLine l (x ++ (y ++ rest)) ≡ got (length x) (take n s) = rw t at (line-forth l (take n s) (y ++ rest) (both-hold (narrow (l .limits)) (linesNarrow ls) w .0) (p .first)) in
-    let b = lines-forth ls ms (p .ranging) (drop n s) rest (both-hold (opens (l .limits)) (linesOpen ls) o .1) (both-hold (narrow (l .limits)) (linesNarrow ls) w .1) (p .rest) in
+    let b = lines-forth ls ms (p .seam) (drop n s) rest (both-hold (opens (l .limits)) (linesOpen ls) o .1) (both-hold (narrow (l .limits)) (linesNarrow ls) w .1) (p .rest) in
     rw (append-assoc x y rest, length-append x y, length-append (l .limits) (limitsOn ls), take-add n (length (limitsOn ls)) s)
     (followed-got (readLine l (x ++ (y ++ rest))) (readLines ls) x (y ++ rest) (take n s) (take (length (limitsOn ls)) (drop n s)) (length y) a b)
 

@@ -56,7 +56,7 @@ lines-most (l ∷ ls) ms last s o h =
     let n : List ℕ = numbersText (l .limits) s in
     let rest : List ℕ = drop (length (l .limits)) s in
     let m : length n ≤ numbersMost (l .limits) = rw (numbers-take (l .limits) s) at (numbers-most (l .limits) 0 (take (length (l .limits)) s) (p .first)) in
-    let ih = lines-most ls ms (p .ranging) rest (both-hold (opens (l .limits)) (linesOpen ls) o .1) (p .rest) in
+    let ih = lines-most ls ms (p .seam) rest (both-hold (opens (l .limits)) (linesOpen ls) o .1) (p .rest) in
     omega (arith, length-append (lineText l s) (linesText ls rest), length-append (l .tag) n)
 
 abbrev pub fitLimit : Limit
@@ -117,7 +117,7 @@ pub sheet-fits : (s : List ℕ) → sheetOk s ≡ true → (m : ℕ) → allHold
 unfolding opens
 sheet-fits s h m =
     let p = hold-split (limitsOn lines) (replicate fittings fitLimit) 0 s (sheet-lines s h) in
-    hold-free (replicate fittings fitLimit) m (p .ranging) (drop (length (limitsOn lines)) s) refl ∙ p .rest
+    hold-free (replicate fittings fitLimit) m (p .seam) (drop (length (limitsOn lines)) s) refl ∙ p .rest
 
 total : linesMost lines + fitsMost 1 fittings + 4 ≡ mostText
 unfolding linesMost numbersMost fitsMost fitMost digitsOf digitsIn
