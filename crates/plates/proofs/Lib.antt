@@ -3,7 +3,9 @@ pub mod Whole
 pub mod Volume
 pub mod Loads
 pub mod Power
-pub mod Answers
 pub mod Within
 pub mod Rounding
+pub mod Persons
+pub mod Engines
+pub mod Answers
 pub mod Samples

@@ -2,11 +2,11 @@
 use mathlib.Core.Path.{_≡_, refl}
 use mathlib.Core.Bool.{Bool, true, false}
 use mathlib.Core.List.{List, [], _∷_}
-use Prim.Native.Nat.{ℕ, suc, _+_, _*_, _/_, _≤_, _<_}
-use native.Mathlib.Nat.{mul-le-mul, le-trans}
+use Prim.Native.Nat.{ℕ, suc, _+_, _-_, _*_, _≤_, _<_}
+use native.Mathlib.Nat.{mul-le-mul, mul-div-le, le-trans}
 use native.Mathlib.Omega.{arith}
 use lib.Dec.{eqb, ltb}
-use borrow.Author.Tests.{lt-ltb, le-ltb}
+use borrow.Author.Tests.{lt-ltb, le-ltb, ltb-true, ltb-false}
 use lib.IntN.{ℤ, pos, subℕ, _+ℤ_, _*ℤ_}
 use lib.ListN.{length, getD}
 use Rattle.plates.specs.Whole.{floorDiv, whole}
@@ -106,16 +106,23 @@ loss-most s k b h = omega (arith, carried-most s k b h refl refl, b .well-most, 
 
 -- ---- a marked load fits 32 bits
 
-floor-most : (a b : ℕ) → whole (floorDiv (subℕ a b) fifthKilo) ≤ a / fifthKilo
-floor-most a b = go (ltb a b) refl
+floor-most : (a b d : ℕ) → d * whole (floorDiv (subℕ a b) d) ≤ a
+floor-most a b d = go (ltb a b) refl
   where
-    go : (t : Bool) → ltb a b ≡ t → whole (floorDiv (subℕ a b) fifthKilo) ≤ a / fifthKilo
+    go : (t : Bool) → ltb a b ≡ t → d * whole (floorDiv (subℕ a b) d) ≤ a
     go true e = rw e (omega arith)
-    go false e = rw e (omega arith)
+    go false e = rw e (omega (arith, mul-div-le (a - b) d))
 
 pub marked-most : (s : List ℕ) → Bounds s → whole (markedA s) ≤ 20000
 marked-most s b = go (eqb (outboard s) 1) refl
   where
     go : (t : Bool) → eqb (outboard s) 1 ≡ t → whole (markedA s) ≤ 20000
-    go true e = omega (arith, marked-outboard s e, floor-most (gain s + halfMarked) (loss 1 s), volume-most s b, b .aft-most)
-    go false e = omega (arith, marked-inboard s e, floor-most (gain s + halfMarked) (loss 5 s), volume-most s b, b .aft-most)
+    go true e = omega (arith, marked-outboard s e, floor-most (gain s + halfMarked) (loss 1 s) fifthKilo, volume-most s b, b .aft-most)
+    go false e = omega (arith, marked-inboard s e, floor-most (gain s + halfMarked) (loss 5 s) fifthKilo, volume-most s b, b .aft-most)
+
+pub c-most : (s : List ℕ) → Bounds s → whole (markedC s) ≤ 20000
+c-most s b = go (ltb lowPower (declared s)) refl
+  where
+    go : (t : Bool) → ltb lowPower (declared s) ≡ t → whole (markedC s) ≤ 20000
+    go true e = omega (arith, marked-high s (ltb-true lowPower (declared s) e), floor-most (gain s) (loss 1 s) fifthKilo, volume-most s b, b .aft-most)
+    go false e = omega (arith, marked-low s (ltb-false lowPower (declared s) e), floor-most (3 * gain s) (3 * loss 1 s) (2 * fifthKilo), volume-most s b, b .aft-most)

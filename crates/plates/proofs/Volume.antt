@@ -1,8 +1,8 @@
 -- Laws of the volume: a station's readings, and bounds of its product and of N. Assumes nothing.
-use mathlib.Core.Path.{_≡_}
+use mathlib.Core.Path.{_≡_, ap, _∙_}
 use mathlib.Core.List.{List, [], _∷_}
-use Prim.Native.Nat.{ℕ, suc, _+_, _≤_, _<_}
-use native.Mathlib.Nat.{mul-le-mul, le-trans}
+use Prim.Native.Nat.{ℕ, suc, _+_, _*_, _≤_, _<_}
+use native.Mathlib.Nat.{mul-add, mul-le-mul, le-trans}
 use native.Mathlib.Numerals.{add-one, add-two, add-three, add-four, add-five, add-six}
 use native.Mathlib.Omega.{arith}
 use lib.ListN.{length, getD, take, drop, drop-of-length-le}
@@ -41,6 +41,14 @@ seven l j h =
 pub product-most : (l : List ℕ) → Readings l → product l ≤ 150000000
 unfolding product
 product-most l r = le-trans (mul-le-mul {n₂ = 4000} {m₂ = 37500} (r .b) (omega arith)) (omega arith)
+
+-- nothing is rounded: each millimetre of a depth counts exactly its share of B
+pub product-exact : (b q r s t u v : ℕ) → product (b ∷ (q + 1) ∷ r ∷ s ∷ t ∷ u ∷ v ∷ []) ≡ product (b ∷ q ∷ r ∷ s ∷ t ∷ u ∷ v ∷ []) + b
+unfolding product
+product-exact b q r s t u v =
+    let x : ℕ = q + 4 * r + 2 * s + 4 * t + 2 * u + 2 * v in
+    let e : (q + 1) + 4 * r + 2 * s + 4 * t + 2 * u + 2 * v ≡ x + 1 = omega arith in
+    ap (λ (y : ℕ). b * y) e ∙ (mul-add b x 1 ∙ omega arith)
 
 -- ---- the sum of weights, one after the other
 

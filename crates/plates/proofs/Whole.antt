@@ -4,7 +4,7 @@ use mathlib.Core.Bool.{Bool, true, false, cond}
 use Prim.Native.Nat.{ℕ, zero, suc, _+_, _-_, _*_, _≤_, min}
 use native.Mathlib.Nat.{mul-add}
 use native.Mathlib.Omega.{arith}
-use borrow.Author.Tests.{le-ltb, ltb-true, ltb-false, leb-true, leb-false, ne-eqb}
+use borrow.Author.Tests.{lt-ltb, le-ltb, ltb-true, ltb-false, leb-true, leb-false, ne-eqb}
 use lib.Dec.{eqb, leb, ltb}
 use lib.IntN.{ℤ, pos, negsuc, negℤ, subℕ, _+ℤ_, _-ℤ_, _*ℤ_}
 use Rattle.plates.specs.Whole.{isBelow, least, whole}
@@ -70,10 +70,28 @@ pub whole-pos : (z : ℤ) → 1 ≤ whole z → z ≡ pos (whole z)
 whole-pos (pos n) h = refl
 whole-pos (negsuc n) h = absurd (omega arith)
 
-pub whole-least : (a : ℕ) (z : ℤ) → whole (least (pos a) z) ≡ min a (whole z)
-whole-least a (pos n) = go (leb a n) refl
+-- whether a difference is below n
+pub below-sub : (a b n : ℕ) → isBelow (subℕ a b) n ≡ ltb a (b + n)
+below-sub a b n = go (ltb a b) refl
+  where
+    go : (t : Bool) → ltb a b ≡ t → isBelow (subℕ a b) n ≡ ltb a (b + n)
+    go true e = let h = ltb-true a b e in rw (e, lt-ltb a (b + n) (omega arith)) refl
+    go false e = let h = ltb-false a b e in rw e (less (ltb (a - b) n) refl h)
+      where
+        less : (u : Bool) → ltb (a - b) n ≡ u → b ≤ a → ltb (a - b) n ≡ ltb a (b + n)
+        less true f h = let k = ltb-true (a - b) n f in rw (f, lt-ltb a (b + n) (omega arith)) refl
+        less false f h = let k = ltb-false (a - b) n f in rw (f, le-ltb a (b + n) (omega arith)) refl
+
+pub whole-least : (y z : ℤ) → whole (least y z) ≡ min (whole y) (whole z)
+whole-least (pos a) (pos n) = go (leb a n) refl
   where
     go : (t : Bool) → leb a n ≡ t → whole (cond t (pos a) (pos n)) ≡ min a n
     go true e = let h = leb-true a n e in omega arith
     go false e = let h = leb-false a n e in omega arith
-whole-least a (negsuc n) = omega arith
+whole-least (pos a) (negsuc n) = omega arith
+whole-least (negsuc a) (pos n) = omega arith
+whole-least (negsuc a) (negsuc n) = go (leb a n)
+  where
+    go : (t : Bool) → whole (cond t (negsuc n) (negsuc a)) ≡ min 0 0
+    go true = omega arith
+    go false = omega arith

@@ -12,7 +12,7 @@ use native.Mathlib.Nat.{le-trans}
 use Rattle.text.specs.Limit.{Limit, within, holds, allHold}
 use Rattle.text.proofs.Number.{both-hold}
 use Rattle.text.proofs.Limit.{within-high, hold-length}
-use Rattle.sheet.specs.Sheet.{limitsOn, sheetLimits}
+use Rattle.sheet.specs.Sheet.{limitsOn, sheetLimits, wordsOk}
 use Rattle.plates.specs.Words.{station}
 use Rattle.plates.specs.Bounds.{Readings, Weights, Bounds}
 
@@ -68,7 +68,7 @@ one-of-four s a b c d (suc (suc zero)) l = c
 one-of-four s a b c d (suc (suc (suc zero))) l = d
 one-of-four s a b c d (suc (suc (suc (suc i)))) l = absurd (omega arith)
 
-pub within-bounds : (s : List ℕ) → allHold (drop 1 sheetLimits) 0 s ≡ true → Bounds s
+pub within-bounds : (s : List ℕ) → wordsOk s ≡ true → Bounds s
 unfolding sheetLimits limitsOn
 within-bounds s e =
     let h : List ℕ = highs (drop 1 sheetLimits) in
@@ -89,6 +89,7 @@ within-bounds s e =
       machinery-most = m 39;
       outboard-most = m 40;
       declared-most = m 41;
+      positions-most = m 42;
       stations = one-of-four s (readings-keep s h m 6 refl) (readings-keep s h m 13 refl) (readings-keep s h m 20 refl) (readings-keep s h m 27 refl);
       fittings = weights-keep s h m n refl;
     }

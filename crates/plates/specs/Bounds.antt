@@ -3,7 +3,7 @@ use Prim.Native.Nat.{ℕ, _≤_, _<_}
 use mathlib.Core.Path.{_≡_}
 use mathlib.Core.List.{List, []}
 use lib.ListN.{length, getD}
-use Rattle.plates.specs.Words.{hullLength, reference, transomWidth, flat, remote, station, fittingsOf, aft, well, flooding, bare, fuel, machinery, outboard, declared}
+use Rattle.plates.specs.Words.{hullLength, reference, transomWidth, flat, remote, station, fittingsOf, aft, well, flooding, bare, fuel, machinery, outboard, declared, positions}
 
 -- a station's seven readings
 pub record Readings (l : List ℕ) : Type 0 where
@@ -43,5 +43,6 @@ pub record Bounds (s : List ℕ) : Type 0 where
   pub machinery-most : machinery s ≤ 500000
   pub outboard-most : outboard s ≤ 1
   pub declared-most : declared s ≤ 200000
+  pub positions-most : positions s ≤ 24
   pub stations : (i : ℕ) → i < 4 → Readings (station s i)
   pub fittings : Weights (fittingsOf s)

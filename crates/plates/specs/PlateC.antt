@@ -1,13 +1,14 @@
 -- 01, Plate C (002, 4.3.1 and 4.3.2). Marked load, live load and persons are total; the refusals stand apart, in 01's order: 10, 12, 11, 14, 15.
 -- Engine rows come as two lists of numbers, powers and weights. Assumes nothing: these are definitions.
 use Prim.Native.Nat.{ℕ, suc, _+_, _*_}
-use mathlib.Core.Bool.{Bool, true, false, not, _&&_, _||_, cond}
+use mathlib.Core.Bool.{Bool, true, false, not, _&&_, cond}
 use mathlib.Core.List.{List, [], _∷_}
 use lib.Dec.{eqb, leb, ltb}
-use lib.ListN.{length}
+use lib.ListN.{length, getD}
 use lib.IntN.{ℤ, pos, _-ℤ_, _*ℤ_}
 use Rattle.sheet.specs.declared.Answer.{Answer}
 use Rattle.sheet.specs.declared.Answer.the-variants.{Refused, Plate}
+use Rattle.sheet.specs.Lines.{mostRows, enginePowerHigh, engineWeightHigh}
 use Rattle.plates.specs.Whole.{floorDiv, isBelow, least, whole}
 use Rattle.plates.specs.Words.{fuel, machinery, outboard, declared, positions, tested}
 use Rattle.plates.specs.Volume.{gram, netZ}
@@ -30,36 +31,42 @@ markedC s = cond (ltb lowPower (declared s)) (floorDiv (exactX s) fifthKilo) (fl
 
 -- ---- the engine's weight
 
--- rows of equal number, one to 40, powers 1..200000 rising, weights 0..1000000
+-- whether a row's values are within limits, its power not below `next`
+abbrev pub rowFits : ℕ → ℕ → ℕ → Bool
+rowFits next p w = leb next p && (leb p enginePowerHigh && leb w engineWeightHigh)
+
+-- rows of powers from `next` on, each above the one before
 unfoldable pub rising : ℕ → List ℕ → List ℕ → Bool
 rising next [] [] = true
 rising next [] (w ∷ ws) = false
 rising next (p ∷ ps) [] = false
-rising next (p ∷ ps) (w ∷ ws) = leb next p && (leb p 200000 && (leb w 1000000 && rising (suc p) ps ws))
+rising next (p ∷ ps) (w ∷ ws) = rowFits next p w && rising (p + 1) ps ws
 
-abbrev pub rowsRight : List ℕ → List ℕ → Bool
-rowsRight ps ws = not (eqb (length ps) 0) && (leb (length ps) 40 && rising 1 ps ws)
+-- slices of equal length, 1 to 40 rows
+abbrev pub leastRows : ℕ
+leastRows = 1
 
--- an outboard of declared power above 0 has a row
+unfoldable pub rowsRight : List ℕ → List ℕ → Bool
+rowsRight ps ws = eqb (length ps) (length ws) && (leb leastRows (length ps) && (leb (length ps) mostRows && rising 1 ps ws))
+
+-- an outboard of declared power above 0 has an engine to weigh
 abbrev pub wantsRow : List ℕ → Bool
 wantsRow s = eqb (outboard s) 1 && ltb 0 (declared s)
 
--- whether a row's power is not below the declared power, and the weight of the first such row
-unfoldable pub reaches : ℕ → List ℕ → Bool
-reaches power [] = false
-reaches power (p ∷ ps) = leb power p || reaches power ps
+-- the place of the first row whose power is not below the declared power; past the rows where there is none
+unfoldable pub rowFor : ℕ → List ℕ → ℕ
+rowFor power [] = 0
+rowFor power (p ∷ ps) = elim (leb power p) [ true ↦ 0 | false ↦ suc (rowFor power ps) ]
 
-unfoldable pub weightFor : ℕ → List ℕ → List ℕ → ℕ
-weightFor power [] ws = 0
-weightFor power (p ∷ ps) [] = 0
-weightFor power (p ∷ ps) (w ∷ ws) = elim (leb power p) [ true ↦ w | false ↦ weightFor power ps ws ]
+unfoldable pub noRow : List ℕ → List ℕ → Bool
+noRow s ps = wantsRow s && leb (length ps) (rowFor (declared s) ps)
 
 unfoldable pub engineWeight : List ℕ → List ℕ → List ℕ → ℕ
-engineWeight s ps ws = cond (wantsRow s) (weightFor (declared s) ps ws) 0
+engineWeight s ps ws = cond (wantsRow s) (getD ws (rowFor (declared s) ps) 0) 0
 
 -- ---- persons
 
--- grams
+-- grams; below zero where the engine outweighs the marked load
 unfoldable pub liveLoad : List ℕ → List ℕ → List ℕ → ℤ
 liveLoad s ps ws = pos 1000 *ℤ markedC s -ℤ pos (engineWeight s ps ws)
 
@@ -69,18 +76,23 @@ personGrams = 75000
 abbrev pub testedGrams : ℕ
 testedGrams = 250000
 
--- the least of designated positions, persons by the live load, and tested persons where entered
-unfoldable pub personsC : List ℕ → List ℕ → List ℕ → ℤ
-personsC s ps ws =
-    let byLoad = least (pos (positions s)) (floorDiv (liveLoad s ps ws) personGrams) in
-    cond (eqb (tested s) 0) byLoad (least byLoad (pos (tested s)))
+-- of a live load: the least of designated positions, persons by the load, and tested persons where entered
+unfoldable pub persons : List ℕ → ℤ → ℤ
+persons s live =
+    let seated = least (pos (positions s)) (floorDiv live personGrams) in
+    cond (eqb (tested s) 0) seated (least seated (pos (tested s)))
+
+-- a low live load must have tested persons
+unfoldable pub untested : List ℕ → ℤ → Bool
+untested s live = isBelow live testedGrams && eqb (tested s) 0
 
 -- ---- the plate
 
 unfoldable pub plateC : List ℕ → List ℕ → List ℕ → Answer
 plateC s ps ws =
+    let live = liveLoad s ps ws in
     cond (not (rowsRight ps ws)) (Refused 10)
     (cond (isBelow (markedC s) 1) (Refused 12)
-    (cond (wantsRow s && not (reaches (declared s) ps)) (Refused 11)
-    (cond (isBelow (liveLoad s ps ws) testedGrams && eqb (tested s) 0) (Refused 14)
-    (cond (isBelow (personsC s ps ws) 1) (Refused 15) (Plate (whole (markedC s)) (whole (personsC s ps ws)))))))
+    (cond (noRow s ps) (Refused 11)
+    (cond (untested s live) (Refused 14)
+    (cond (isBelow (persons s live) 1) (Refused 15) (Plate (whole (markedC s)) (whole (persons s live)))))))

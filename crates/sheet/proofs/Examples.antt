@@ -13,6 +13,7 @@ use Rattle.text.proofs.LineTrip.{got}
 use Rattle.sheet.specs.Sheet.{fitText, fitsText, sheetText, linesText, limitsOn}
 use Rattle.sheet.specs.Reading.{readLines, readFits, readEnd, readRest, readSheet}
 use Rattle.sheet.specs.Engines.{readRows, readEngines}
+use Rattle.sheet.specs.Calls.{columnsInto}
 
 -- ---- a sheet with some of its lines given
 
@@ -125,3 +126,8 @@ table-reads :
     (1500 ∷ 15000 ∷ 2900 ∷ 20000 ∷ 5100 ∷ 43000 ∷ 8100 ∷ 84000 ∷ 17100 ∷ 106000 ∷ 26000 ∷ 159000 ∷ 48400 ∷ 208000 ∷ 70700 ∷ 285000 ∷ 78200 ∷ 294000 ∷ 108000 ∷ 328000 ∷ 145300 ∷ 346000 ∷ 156500 ∷ 391000 ∷ 200000 ∷ 415000 ∷ [])
 unfolding table readEngines readRows readLine agreed readNumbers readEntry fieldOf numberOf restOf
 table-reads = refl
+
+-- the columns of two rows at the start of longer slices
+columns-right : columnsInto (readEngines (bytes "ENG\t1\t5\nENG\t2\t6\n")) (7 ∷ 7 ∷ 7 ∷ []) (8 ∷ 8 ∷ 8 ∷ []) ≡ (1 ∷ 2 ∷ 7 ∷ [], 5 ∷ 6 ∷ 8 ∷ [])
+unfolding readEngines readRows readLine agreed readNumbers readEntry fieldOf numberOf restOf
+columns-right = refl

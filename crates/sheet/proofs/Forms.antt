@@ -11,11 +11,11 @@ use lib.Dec.{leb}
 use lib.ListN.{length, take, drop, getD, length-map, List·getD-map}
 use lib.Seq.{drop-cons}
 use Rattle.text.specs.Quoted.{bytes}
-use Rattle.text.specs.Limit.{Limit, limitsOf}
+use Rattle.text.specs.Limit.{limitsOf}
 use Rattle.text.specs.Line.{Line, lineOf}
 use Rattle.text.proofs.Number.{both-hold}
 use Rattle.sheet.specs.Lines.{lines, endLine}
-use Rattle.sheet.specs.Sheet.{lineAt, wordAt, sheetLimits, limitsOn}
+use Rattle.sheet.specs.Sheet.{limitRows, lineAt, wordAt, sheetLimits, limitsOn}
 
 -- ---- the tables, as the code has them
 
@@ -28,15 +28,9 @@ tagPlaces = 0 ∷ 5 ∷ 10 ∷ 16 ∷ 22 ∷ 28 ∷ 34 ∷ 38 ∷ 43 ∷ 47 ∷ 
 abbrev pub wordPlaces : List ℕ
 wordPlaces = 0 ∷ 1 ∷ 7 ∷ 14 ∷ 21 ∷ 28 ∷ 35 ∷ 38 ∷ 41 ∷ 43 ∷ 45 ∷ []
 
-abbrev pub rowOf : Limit → List ℕ
-rowOf l = l .low ∷ l .high ∷ l .rule ∷ []
-
-unfoldable pub table : List (List ℕ)
-table = map rowOf sheetLimits
-
 -- the form that the code reads and writes line i by
 unfoldable pub formAt : ℕ → Line
-formAt i = lineOf (take (getD tagPlaces (i + 1) 0 - getD tagPlaces i 0) (drop (getD tagPlaces i 0) tags)) (take (wordAt (i + 1) - wordAt i) (drop (wordAt i) table))
+formAt i = lineOf (take (getD tagPlaces (i + 1) 0 - getD tagPlaces i 0) (drop (getD tagPlaces i 0) tags)) (take (wordAt (i + 1) - wordAt i) (drop (wordAt i) limitRows))
 
 -- ---- a rule that is computed over a whole table, at each of its entries
 
@@ -66,7 +60,7 @@ at-each f g n i e h =
     sym (List·getD-map f (from 0 n) i 0 ∙ ap f j) ∙ rw e (getD-any (map g (from 0 n)) i (f 0) (g 0) (omega arith)) ∙ List·getD-map g (from 0 n) i 0 ∙ ap g j
 
 pub form-at : (i : ℕ) → i < 10 → formAt i ≡ lineAt i
-unfolding formAt table sheetLimits limitsOn wordAt
+unfolding formAt limitRows sheetLimits limitsOn wordAt
 form-at i h = at-each formAt lineAt 10 i same h
   where
     same : map formAt (from 0 10) ≡ map lineAt (from 0 10)
@@ -122,12 +116,24 @@ unfolding rises
 word-part i h = rw (← place-at i (omega arith), ← place-at (i + 1) (omega arith), add-one i) (rises-at 45 wordPlaces i refl (omega arith))
 
 -- the form that the code hands over for line i
-pub form-read : (i w e : ℕ) (rows : List (List ℕ)) → i < 10 → w ≡ wordAt i → e ≡ wordAt (i + 1) → rows ≡ table
+pub form-read : (i w e : ℕ) (rows : List (List ℕ)) → i < 10 → w ≡ wordAt i → e ≡ wordAt (i + 1) → rows ≡ limitRows
     → lineOf (take (getD tagPlaces (i + 1) 0 - getD tagPlaces i 0) (drop (getD tagPlaces i 0) tags)) (take (e - w) (drop w rows)) ≡ lineAt i
 unfolding formAt
 form-read i w e rows h p q t = rw (p, q, t) (form-at i h)
 
 -- the table's rows are the sheet's limits
-pub table-limits : limitsOf table ≡ sheetLimits
-unfolding table sheetLimits limitsOn
+pub table-limits : limitsOf limitRows ≡ sheetLimits
+unfolding limitRows sheetLimits limitsOn
 table-limits = refl
+
+pub words-limits : limitsOf (drop 1 limitRows) ≡ drop 1 sheetLimits
+unfolding limitRows sheetLimits limitsOn
+words-limits = refl
+
+-- a table that is the sheet's, and the limits in it
+pub rows-limits : {rows : List (List ℕ)} → rows ≡ limitRows → limitsOf rows ≡ sheetLimits
+rows-limits e = ap limitsOf e ∙ table-limits
+
+pub rows-long : {rows : List (List ℕ)} → rows ≡ limitRows → length rows ≡ 69
+unfolding limitRows sheetLimits limitsOn
+rows-long e = ap length e

@@ -7,7 +7,7 @@ use Prim.Native.Nat.{ℕ, _+_, _-_}
 use lib.ListN.{length, take, drop, length-append}
 use lib.Seq.{take-add, drop-append-seam, drop-at, take-at}
 use Rattle.text.specs.declared.LineRead.the-variants.{Taken}
-use Rattle.text.specs.Limit.{Limit, ranging, allHold}
+use Rattle.text.specs.Limit.{Limit, allHold}
 use Rattle.text.specs.Line.{Line, Reading, followed, readLine, lineText}
 use Rattle.text.proofs.Number.{both-hold}
 use Rattle.text.proofs.Limit.{hold-length}

@@ -52,9 +52,16 @@ fitLine next = line "FIT\t" (ranging next fittings ∷ ranging 1 fittingHigh ∷
 abbrev pub endLine : Line
 endLine = line "END\n" []
 
+-- the limits of an engine's power and weight, shared with the plates' check of rows
+abbrev pub enginePowerHigh : ℕ
+enginePowerHigh = 200000
+
+abbrev pub engineWeightHigh : ℕ
+engineWeightHigh = 1000000
+
 -- an engine's power and weight
 abbrev pub engineLine : ℕ → Line
-engineLine next = line "ENG\t" (ranging next 200000 ∷ ranging 0 1000000 ∷ [])
+engineLine next = line "ENG\t" (ranging next enginePowerHigh ∷ ranging 0 engineWeightHigh ∷ [])
 
 -- how many engine rows a text may have
 abbrev pub mostRows : ℕ

@@ -2,7 +2,7 @@
 -- SEAT come first, then the weight on each fitting line 1..24, 0 for an empty line; tested persons 0 stands for `-`. Its one text. Assumes nothing: these are definitions.
 use Prim.Native.Nat.{ℕ, suc, _+_}
 use mathlib.Core.Bool.{Bool, true, false}
-use mathlib.Core.List.{List, [], _∷_, _++_}
+use mathlib.Core.List.{List, [], _∷_, _++_, map}
 use lib.Dec.{eqb}
 use lib.ListN.{length, getD, take, drop, replicate}
 use Rattle.text.specs.Limit.{Limit, rangingOrNone, allHold}
@@ -33,9 +33,17 @@ wordAt i = length (limitsOn (take i lines))
 unfoldable pub sheetLimits : List Limit
 sheetLimits = limitsOn lines ++ replicate fittings (rangingOrNone 1 fittingHigh)
 
+-- the same as the code's tables have them, three numbers a limit
+unfoldable pub limitRows : List (List ℕ)
+limitRows = map (λ (l : Limit). l .low ∷ l .high ∷ l .rule ∷ []) sheetLimits
+
 -- whether s is a sheet within the limits
 abbrev pub sheetOk : List ℕ → Bool
 sheetOk s = allHold sheetLimits 0 s
+
+-- whether s is the words of a sheet within the limits, without its HULL number
+abbrev pub wordsOk : List ℕ → Bool
+wordsOk s = allHold (drop 1 sheetLimits) 0 s
 
 -- ---- the text of a sheet
 

@@ -1,12 +1,15 @@
 -- Runs of stores into a lent slice, `sets` of lib.Seq, where what would go past the end is dropped. Assumes nothing.
 use mathlib.Core.Path.{_≡_, refl, sym, ap, _∙_}
+use mathlib.Core.Bool.{Bool, true, false}
 use mathlib.Core.List.{List, [], _∷_, _++_, append-nil, append-assoc}
-use Prim.Native.Nat.{ℕ, zero, suc, _+_, _-_, _≤_, _<_}
+use Prim.Native.Nat.{ℕ, zero, suc, _+_, _-_, _≤_, _<_, min}
 use native.Mathlib.Nat.{add-zero, zero-add, add-suc, suc-add, sub-zero, zero-sub, suc-sub-suc}
 use native.Mathlib.Omega.{arith}
 use native.Mathlib.Numerals.{add-one}
+use borrow.Author.Tests.{leb-true, leb-false}
+use lib.Dec.{leb}
 use lib.ListN.{length, getD, take, drop, set, replicate, length-append, length-drop, length-replicate, replicate-append-replicate, take-append-drop, drop-of-length-le}
-use lib.Seq.{sets, sets-eq, drop-cons, drop-length, take-all, set-out, take-suc, length-take-le, take-set-le, drop-set-add}
+use lib.Seq.{sets, sets-eq, drop-cons, drop-length, take-all, set-out, take-suc, length-take-le, take-set-le, drop-set-add, length-sets}
 
 pub sets-append : (l : List ℕ) (i : ℕ) (xs ys : List ℕ) → sets l i (xs ++ ys) ≡ sets (sets l i xs) (i + length xs) ys
 sets-append l i [] ys = rw add-zero
@@ -96,3 +99,15 @@ sets-whole l xs h =
 -- a list stored from the start, with what stands after it
 pub sets-start : (l xs : List ℕ) → length xs ≤ length l → sets l 0 xs ≡ xs ++ drop (length xs) l
 sets-start l xs h = sets-eq xs l 0 (omega arith) ∙ rw (zero-add (length xs))
+
+-- a write of as many bytes as there are, or as there is room for, is the whole of it
+pub sets-enough : (l xs : List ℕ) (i : ℕ) → min (length xs) (length l) ≤ i → sets l 0 (take i xs) ≡ sets l 0 xs
+sets-enough l xs i h = go (leb (length xs) i) refl
+  where
+    go : (t : Bool) → leb (length xs) i ≡ t → sets l 0 (take i xs) ≡ sets l 0 xs
+    go true e = ap (sets l 0) (take-all i xs (leb-true (length xs) i e))
+    go false e =
+        let k = leb-false (length xs) i e in
+        let n : length (take i xs) ≡ i = length-take-le i xs (omega arith) in
+        let o : length (sets l 0 (take i xs)) ≤ 0 + length (take i xs) = omega (arith, length-sets l 0 (take i xs)) in
+        sym (ap (sets l 0) (sym (take-append-drop i xs)) ∙ (sets-append l 0 (take i xs) (drop i xs) ∙ sets-out (sets l 0 (take i xs)) (0 + length (take i xs)) (drop i xs) o))

@@ -1,0 +1,3 @@
+-- Laws that the proofs of the functions here go by.
+pub mod Settling
+pub mod Sheets

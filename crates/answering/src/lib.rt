@@ -1,0 +1,340 @@
+// Every call on the register, in lent memory. Each is total: it refuses by 01's numbers, in 01's order, and a refusal leaves the memory as it stood.
+ghost use mathlib.Core.Path.{_≡_};
+ghost use mathlib.Core.List.{_∷_};
+ghost use lib.ListN.{length};
+ghost use Rattle.sheet.specs.Settled.{Settled};
+ghost use Rattle.sheet.specs.Sheet.{sheetWords};
+ghost use Rattle.register.specs.Refusals.{hullRefusal, deskRefusal};
+ghost use Rattle.register.specs.Hulls.{freshAnswer, freshMemory, roomRefusal, newAnswer, newMemory, hullPlateA, hullPlateC, hullWritten, hullWrittenInto};
+ghost use Rattle.register.specs.Drafts.{openRefusal, openAnswer, openMemory, putRefusal, putAnswer, putMemory, takeRefusal, takeAnswer, takeMemory, replaceAnswer, replaceMemory, trialA, trialC, saveRefusal, saveAnswer, saveMemory, dropAnswer, dropMemory};
+use memory::DESKS;
+use memory::MOST_EDITS;
+use memory::MOST_HULLS;
+use memory::REGISTER_WORDS;
+use sheet::Answer;
+use sheet::SHEET_WORDS;
+use sheet::TEXT_WORDS;
+use text::LineRead;
+
+// The refusals that are the register's own.
+const BAD_MEMORY: u32 = 1;
+
+const OUTSIDE_LIMITS: u32 = 3;
+
+const FULL: u32 = 4;
+
+const NO_HULL: u32 = 5;
+
+const NO_DESK: u32 = 6;
+
+const NO_DRAFT: u32 = 7;
+
+const EDITED_SINCE: u32 = 8;
+
+const EDITS_SPENT: u32 = 9;
+
+const EMPTY_LINE: u32 = 17;
+
+const FITTINGS: u32 = 24;
+
+const FITTING_HIGH: u32 = 500_000;
+
+// ---- the shared checks; 0 where nothing is refused
+
+fn hull_refusal(mem: &[u32], hull: u32) -> u32
+    ensures { λ r. ⌜ r ≡ hullRefusal (now (mem .entry)) hull ⌝ }
+{
+    if judging::is_formed(mem) {
+        if hull < mem[0] { 0 } else { NO_HULL }
+    } else {
+        BAD_MEMORY
+    }
+}
+
+fn desk_refusal(mem: &[u32], desk: u32) -> u32
+    ensures { λ r. ⌜ r ≡ deskRefusal (now (mem .entry)) desk ⌝ }
+{
+    if judging::is_formed(mem) {
+        let d = desk as usize;
+        if DESKS <= d {
+            return NO_DESK;
+        }
+        let at = keeping::draft_at(d);
+        if mem[at] == 0 { NO_DRAFT } else { 0 }
+    } else {
+        BAD_MEMORY
+    }
+}
+
+// ---- hulls
+
+// Fresh start: makes of a memory of the right size one with no hulls and no drafts, every word 0.
+pub fn fresh(mem: &mut [u32]) -> Answer
+    ensures { λ r. ⌜ Settled (freshAnswer (now (mem .entry))) (freshMemory (now (mem .entry))) r (now (mem .exit)) ⌝ }
+{
+    if mem.len() != REGISTER_WORDS {
+        return Answer::Refused(BAD_MEMORY);
+    }
+    keeping::clear(mem);
+    Answer::Done
+}
+
+fn room_refusal(mem: &[u32]) -> u32
+    ensures { λ r. ⌜ r ≡ roomRefusal (now (mem .entry)) ⌝ }
+{
+    if judging::is_formed(mem) {
+        if keeping::number_at(mem, 0) < MOST_HULLS {
+            0
+        } else {
+            FULL
+        }
+    } else {
+        BAD_MEMORY
+    }
+}
+
+// Enters a new hull from a text and answers its number.
+pub fn new_hull(mem: &mut [u32], text: &[u8]) -> Answer
+    ensures { λ r. ⌜ Settled (newAnswer (now (mem .entry)) (now (text .entry))) (newMemory (now (mem .entry)) (now (text .entry))) r (now (mem .exit)) ⌝ }
+{
+    let refusal = room_refusal(&mem[..]);
+    if refusal != 0 {
+        return Answer::Refused(refusal);
+    }
+    let mut words = [0u32; TEXT_WORDS];
+    match reading::read_words(text, &mut words) {
+        LineRead::Fault(fault, _) => Answer::Refused(fault),
+        LineRead::Taken(_) => Answer::Count(keeping::enter_hull(mem, &words[1..])),
+    }
+}
+
+// Plate A of a hull.
+pub fn plate_a(mem: &[u32], hull: u32) -> Answer
+    ensures { λ r. ⌜ r ≡ hullPlateA (now (mem .entry)) hull ⌝ }
+{
+    let refusal = hull_refusal(mem, hull);
+    if refusal != 0 {
+        return Answer::Refused(refusal);
+    }
+    let at = keeping::hull_at(hull as usize) + 1;
+    let end = at + SHEET_WORDS;
+    figuring::plate_a(&mem[at..end])
+}
+
+// Plate C of a hull.
+pub fn plate_c(mem: &[u32], hull: u32, powers: &[u32], weights: &[u32]) -> Answer
+    ensures { λ r. ⌜ r ≡ hullPlateC (now (mem .entry)) hull (now (powers .entry)) (now (weights .entry)) ⌝ }
+{
+    let refusal = hull_refusal(mem, hull);
+    if refusal != 0 {
+        return Answer::Refused(refusal);
+    }
+    let start = keeping::hull_at(hull as usize) + 1;
+    let end = start + SHEET_WORDS;
+    figuring::plate_c(&mem[start..end], powers, weights)
+}
+
+// The words of a sheet with a hull's number before them.
+fn numbered(number: u32, sheet: &[u32]) -> [u32; TEXT_WORDS]
+    requires { ⌜ length (now sheet) ≡ sheetWords ⌝ }
+    ensures { λ r. ⌜ r ≡ number ∷ now (sheet .entry) ⌝ }
+{
+    let mut words = [0u32; TEXT_WORDS];
+    words[0] = number;
+    reading::copy_numbers(sheet, &mut words[1..]);
+    words
+}
+
+// Writes a hull's sheet, under the register's number, from the start of out and answers how many bytes it has.
+pub fn write_hull(mem: &[u32], hull: u32, out: &mut [u8]) -> Answer
+    ensures { λ r. ⌜ Settled (hullWritten (now (mem .entry)) hull (length (now (out .entry)))) (hullWrittenInto (now (mem .entry)) hull (now (out .entry))) r (now (out .exit)) ⌝ }
+{
+    let refusal = hull_refusal(mem, hull);
+    if refusal != 0 {
+        return Answer::Refused(refusal);
+    }
+    let at = keeping::hull_at(hull as usize) + 1;
+    let end = at + SHEET_WORDS;
+    let words = numbered(hull, &mem[at..end]);
+    writing::write_sheet(&words, out)
+}
+
+// ---- drafts
+
+fn open_refusal(mem: &[u32], desk: u32, hull: u32) -> u32
+    ensures { λ r. ⌜ r ≡ openRefusal (now (mem .entry)) desk hull ⌝ }
+{
+    if judging::is_formed(mem) {
+        if DESKS <= desk as usize {
+            return NO_DESK;
+        }
+        if mem[0] <= hull {
+            return NO_HULL;
+        }
+        0
+    } else {
+        BAD_MEMORY
+    }
+}
+
+// Opens a hull at a desk, which discards a draft that the desk held, and answers the hull's edit number.
+pub fn open_hull(mem: &mut [u32], desk: u32, hull: u32) -> Answer
+    ensures { λ r. ⌜ Settled (openAnswer (now (mem .entry)) desk hull) (openMemory (now (mem .entry)) desk hull) r (now (mem .exit)) ⌝ }
+{
+    let refusal = open_refusal(&mem[..], desk, hull);
+    if refusal != 0 {
+        return Answer::Refused(refusal);
+    }
+    Answer::Count(keeping::open_draft(mem, desk as usize, hull))
+}
+
+fn put_refusal(mem: &[u32], desk: u32, line: u32, weight: u32) -> u32
+    ensures { λ r. ⌜ r ≡ putRefusal (now (mem .entry)) desk line weight ⌝ }
+{
+    let refusal = desk_refusal(mem, desk);
+    if refusal != 0 {
+        return refusal;
+    }
+    if line < 1 {
+        return OUTSIDE_LIMITS;
+    }
+    if FITTINGS < line {
+        return OUTSIDE_LIMITS;
+    }
+    if weight < 1 {
+        return OUTSIDE_LIMITS;
+    }
+    if FITTING_HIGH < weight {
+        return OUTSIDE_LIMITS;
+    }
+    0
+}
+
+// Puts a fitting on a line of a desk's draft, in place of one that is there.
+pub fn put_fitting(mem: &mut [u32], desk: u32, line: u32, weight: u32) -> Answer
+    ensures { λ r. ⌜ Settled (putAnswer (now (mem .entry)) desk line weight) (putMemory (now (mem .entry)) desk line weight) r (now (mem .exit)) ⌝ }
+{
+    let refusal = put_refusal(&mem[..], desk, line, weight);
+    if refusal != 0 {
+        return Answer::Refused(refusal);
+    }
+    keeping::set_fitting(mem, desk as usize, line as usize, weight);
+    Answer::Done
+}
+
+fn take_refusal(mem: &[u32], desk: u32, line: u32) -> u32
+    ensures { λ r. ⌜ r ≡ takeRefusal (now (mem .entry)) desk line ⌝ }
+{
+    let refusal = desk_refusal(mem, desk);
+    if refusal != 0 {
+        return refusal;
+    }
+    if line < 1 {
+        return OUTSIDE_LIMITS;
+    }
+    if FITTINGS < line {
+        return OUTSIDE_LIMITS;
+    }
+    if keeping::fitting(mem, desk as usize, line as usize) == 0 {
+        EMPTY_LINE
+    } else {
+        0
+    }
+}
+
+// Takes off the fitting on a line of a desk's draft.
+pub fn take_off(mem: &mut [u32], desk: u32, line: u32) -> Answer
+    ensures { λ r. ⌜ Settled (takeAnswer (now (mem .entry)) desk line) (takeMemory (now (mem .entry)) desk line) r (now (mem .exit)) ⌝ }
+{
+    let refusal = take_refusal(&mem[..], desk, line);
+    if refusal != 0 {
+        return Answer::Refused(refusal);
+    }
+    keeping::set_fitting(mem, desk as usize, line as usize, 0);
+    Answer::Done
+}
+
+// Makes a desk's draft the sheet of a text.
+pub fn replace(mem: &mut [u32], desk: u32, text: &[u8]) -> Answer
+    ensures { λ r. ⌜ Settled (replaceAnswer (now (mem .entry)) desk (now (text .entry))) (replaceMemory (now (mem .entry)) desk (now (text .entry))) r (now (mem .exit)) ⌝ }
+{
+    let refusal = desk_refusal(&mem[..], desk);
+    if refusal != 0 {
+        return Answer::Refused(refusal);
+    }
+    let mut words = [0u32; TEXT_WORDS];
+    match reading::read_words(text, &mut words) {
+        LineRead::Fault(fault, _) => Answer::Refused(fault),
+        LineRead::Taken(_) => {
+            keeping::replace_sheet(mem, desk as usize, &words[1..]);
+            Answer::Done
+        }
+    }
+}
+
+// Plate A of a desk's draft, as a trial.
+pub fn trial_a(mem: &[u32], desk: u32) -> Answer
+    ensures { λ r. ⌜ r ≡ trialA (now (mem .entry)) desk ⌝ }
+{
+    let refusal = desk_refusal(mem, desk);
+    if refusal != 0 {
+        return Answer::Refused(refusal);
+    }
+    let at = keeping::draft_at(desk as usize) + 3;
+    let end = at + SHEET_WORDS;
+    figuring::plate_a(&mem[at..end])
+}
+
+// Plate C of a desk's draft, as a trial.
+pub fn trial_c(mem: &[u32], desk: u32, powers: &[u32], weights: &[u32]) -> Answer
+    ensures { λ r. ⌜ r ≡ trialC (now (mem .entry)) desk (now (powers .entry)) (now (weights .entry)) ⌝ }
+{
+    let refusal = desk_refusal(mem, desk);
+    if refusal != 0 {
+        return Answer::Refused(refusal);
+    }
+    let start = keeping::draft_at(desk as usize) + 3;
+    let end = start + SHEET_WORDS;
+    figuring::plate_c(&mem[start..end], powers, weights)
+}
+
+fn save_refusal(mem: &[u32], desk: u32) -> u32
+    ensures { λ r. ⌜ r ≡ saveRefusal (now (mem .entry)) desk ⌝ }
+{
+    let refusal = desk_refusal(mem, desk);
+    if refusal != 0 {
+        return refusal;
+    }
+    let draft = keeping::draft_at(desk as usize);
+    let edits = keeping::hull_at(keeping::number_at(mem, draft + 1));
+    if mem[edits] != mem[draft + 2] {
+        return EDITED_SINCE;
+    }
+    if mem[edits] == MOST_EDITS {
+        return EDITS_SPENT;
+    }
+    0
+}
+
+// Saves a desk's draft as its hull's sheet, ends it, and answers the hull's edit number.
+pub fn save(mem: &mut [u32], desk: u32) -> Answer
+    ensures { λ r. ⌜ Settled (saveAnswer (now (mem .entry)) desk) (saveMemory (now (mem .entry)) desk) r (now (mem .exit)) ⌝ }
+{
+    let refusal = save_refusal(&mem[..], desk);
+    if refusal != 0 {
+        return Answer::Refused(refusal);
+    }
+    Answer::Count(keeping::save_draft(mem, desk as usize))
+}
+
+// Ends a desk's draft.
+pub fn drop_draft(mem: &mut [u32], desk: u32) -> Answer
+    ensures { λ r. ⌜ Settled (dropAnswer (now (mem .entry)) desk) (dropMemory (now (mem .entry)) desk) r (now (mem .exit)) ⌝ }
+{
+    let refusal = desk_refusal(&mem[..], desk);
+    if refusal != 0 {
+        return Answer::Refused(refusal);
+    }
+    keeping::drop_draft(mem, desk as usize);
+    Answer::Done
+}

@@ -1,0 +1,105 @@
+-- A memory shows a state of the model: the same count, hulls and drafts. Fresh start shows the model's start; a change of one desk's slot shows that desk changed.
+-- Assumes nothing.
+use Prim.Native.Nat.{ℕ, _<_}
+use native.Mathlib.Omega.{arith}
+use mathlib.Core.Path.{_≡_, refl, sym, ap, _∙_}
+use mathlib.Core.Bool.{Bool, true, false, cond}
+use mathlib.Core.List.{List}
+use mathlib.Core.Option.{Option, none, some}
+use lib.Dec.{eqb}
+use borrow.Author.Tests.{eqb-true, eqb-false}
+use Rattle.memory.specs.Layout.{mostHulls, desks, hullAt, draftAt, count, edit, hullSheet, held, draftHull, opening, draftSheet}
+use Rattle.memory.specs.Formed.{formed}
+use Rattle.memory.specs.Updates.{freshWords}
+use Rattle.memory.proofs.Sound.{sound, held-draft}
+use Rattle.memory.proofs.Slots.{SameDraft}
+use Rattle.memory.proofs.OneSlot.{ButDesk}
+use Rattle.memory.proofs.Changes.{fresh-changes}
+use Rattle.memory.proofs.Keeps.{fresh-formed}
+use Rattle.history.proofs.Model.{Draft, State, atDesk, fresh}
+use Rattle.history.proofs.Tools.{at-or, self, none≢some, some-inj}
+
+-- the draft that stands in desk d's slot
+abbrev slot : List ℕ → ℕ → Draft
+slot m d = record { hull = draftHull m d; opening = opening m d; sheet = draftSheet m d }
+
+abbrev pub draftIn : List ℕ → ℕ → Option Draft
+draftIn m d = cond (eqb (held m d) 0) none (some (slot m d))
+
+pub record Shows (m : List ℕ) (s : State) : Type 0 where
+  pub ok : formed m ≡ true
+  pub counts : count m ≡ s .register .entered
+  pub numbers : (h : ℕ) → h < mostHulls → edit m h ≡ s .register .hull h .edits
+  pub sheets : (h : ℕ) → h < mostHulls → hullSheet m h ≡ s .register .hull h .sheet
+  pub drafts : (d : ℕ) → d < desks → draftIn m d ≡ s .draft d
+
+pub fresh-shows : Shows freshWords fresh
+unfolding fresh
+fresh-shows =
+    let zeros = fresh-changes .words in
+    record {
+      ok = fresh-formed;
+      counts = zeros 0;
+      numbers = λ h l. zeros (hullAt h);
+      sheets = λ h l. refl;
+      drafts = λ d l. rw (zeros (draftAt d));
+    }
+
+-- ---- a desk's slot
+
+-- desk d of the memory m holds the draft x
+pub record Holds (m : List ℕ) (d : ℕ) (x : Draft) : Type 0 where
+  pub some : held m d ≡ 0 → ⊥
+  pub hull : draftHull m d ≡ x .hull
+  pub number : opening m d ≡ x .opening
+  pub sheet : draftSheet m d ≡ x .sheet
+
+pub holds-it : (m : List ℕ) (d : ℕ) (x : Draft) → draftIn m d ≡ some x → Holds m d x
+holds-it m d x e = go (eqb (held m d) 0) refl e
+  where
+    go : (t : Bool) → eqb (held m d) 0 ≡ t → cond t none (some (slot m d)) ≡ some x → Holds m d x
+    go true z u = absurd (none≢some u)
+    go false z u =
+        let v = some-inj u in
+        record { some = eqb-false (held m d) 0 z; hull = ap (λ (y : Draft). y .hull) v; number = ap (λ (y : Draft). y .opening) v; sheet = ap (λ (y : Draft). y .sheet) v }
+
+pub holds-none : (m : List ℕ) (d : ℕ) → draftIn m d ≡ none → held m d ≡ 0
+holds-none m d e = go (eqb (held m d) 0) refl e
+  where
+    go : (t : Bool) → eqb (held m d) 0 ≡ t → cond t none (some (slot m d)) ≡ none → held m d ≡ 0
+    go true z u = eqb-true (held m d) 0 z
+    go false z u = absurd (none≢some (sym u))
+
+pub same-draft-in : {o m : List ℕ} {d : ℕ} → SameDraft o m d → draftIn o d ≡ draftIn m d
+same-draft-in c = rw (c .holds, c .hull, c .opened, c .sheet)
+
+-- ---- one desk changed, and none
+
+pub desk-shows : {m o : List ℕ} {s : State} {d : ℕ} {x : Option Draft} → Shows m s → formed o ≡ true → ButDesk o m d → draftIn o d ≡ x → Shows o (atDesk s d x)
+desk-shows {m} {o} {s} {d} {x} S f c e =
+    record {
+      ok = f;
+      counts = c .counts ∙ S .counts;
+      numbers = λ h l. c .hulls h l .number ∙ S .numbers h l;
+      sheets = λ h l. c .hulls h l .sheet ∙ S .sheets h l;
+      drafts = at-or d _ (λ l. rw self e) (λ j n l. rw n (same-draft-in (c .others j l (eqb-false j d n)) ∙ S .drafts j l));
+    }
+
+pub same-shows : {m : List ℕ} {s : State} {d : ℕ} {x : Option Draft} → Shows m s → s .draft d ≡ x → Shows m (atDesk s d x)
+same-shows {m} {s} {d} {x} S e =
+    record { ok = S .ok; counts = S .counts; numbers = S .numbers; sheets = S .sheets; drafts = at-or d _ (λ l. rw self (S .drafts d l ∙ e)) (λ j n l. rw n (S .drafts j l)) }
+
+-- ---- limits
+
+module _ {m : List ℕ} {s : State} (S : Shows m s) where
+  pub shown-few : {h : ℕ} → h < s .register .entered → h < mostHulls
+  shown-few l = omega (arith, S .counts, sound m (S .ok) .few)
+
+  pub there-few : {h : ℕ} → h < count m → h < mostHulls
+  there-few l = omega (arith, sound m (S .ok) .few)
+
+  pub shown-holds : {d : ℕ} {x : Draft} → d < desks → s .draft d ≡ some x → Holds m d x
+  shown-holds {d} {x} l e = holds-it m d x (S .drafts d l ∙ e)
+
+  pub shown-hull : {d : ℕ} {x : Draft} → d < desks → s .draft d ≡ some x → x .hull < s .register .entered
+  shown-hull {d} {x} l e = let H = shown-holds l e in omega (arith, held-draft m d (S .ok) l (H .some) .entered, H .hull, S .counts)

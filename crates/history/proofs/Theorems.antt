@@ -1,0 +1,105 @@
+-- DEMAND 3: the theorems. Of any memory m of the right size, fresh start on it, and any list of calls after it, newest first. Assumes nothing.
+use Prim.Native.Nat.{ℕ, _≤_, _<_}
+use mathlib.Core.Path.{_≡_, refl, sym, ap, _∙_}
+use mathlib.Core.Bool.{true}
+use mathlib.Core.List.{List, _∷_, map}
+use mathlib.Core.Logic.{_↔_}
+use lib.ListN.{length}
+use borrow.Author.Tests.{ne-eqb}
+use Rattle.memory.specs.Layout.{registerWords, count, edit}
+use Rattle.memory.specs.Formed.{mostEdits, formed}
+use Rattle.memory.proofs.Sound
+use Rattle.history.specs.Calls.{Call, save, Reply, reply}
+use Rattle.history.specs.Runs.{call, after, history, taken, accepted}
+use Rattle.history.specs.History.{block, serial}
+use Rattle.history.specs.Told.{Opening, savesOf}
+use Rattle.history.specs.Demand.{Due, SaveDoes, Gives}
+use Rattle.history.proofs.Tools.{self}
+use Rattle.history.proofs.Blocks.{Whole, block-whole, saveless}
+use Rattle.history.proofs.Model.{Register, State, Outcome, stateOf, eventsOf}
+use Rattle.history.proofs.Rules.{sound}
+use Rattle.history.proofs.Replay.{state-by}
+use Rattle.history.proofs.Serial.{serial-runs}
+use Rattle.history.proofs.Shown.{shown-few, there-few}
+use Rattle.history.proofs.RunsShown.{run-shows, run-replies, run-history}
+use Rattle.history.proofs.HistoryTells.{history-tells}
+use Rattle.history.proofs.Saves.{Saved, save-only, save-taken, taken-clean}
+
+module _ (m : List ℕ) (z : length m ≡ registerWords) where
+  -- Every run keeps the memory well formed: no call of it is refused with 1.
+  pub run-formed : (cs : List Call) → formed (after m cs) ≡ true
+  run-formed cs = run-shows m z cs .ok
+
+  -- The edit number of every hull is its count of accepted saves.
+  pub edits-count : (cs : List Call) (h : ℕ) → h < count (after m cs) → edit (after m cs) h ≡ savesOf h (history m cs)
+  edits-count cs h l =
+      let S = run-shows m z cs in
+      rw (run-history m z cs) (S .numbers h (there-few S l) ∙ history-tells cs .edits h)
+
+  -- ---- (a) the exact rule for saves
+
+  -- no edit number passes 65,535: the memory is well formed
+  few : (cs : List Call) (h : ℕ) → h < stateOf cs .register .entered → stateOf cs .register .hull h .edits ≤ mostEdits
+  few cs h l =
+      let S = run-shows m z cs in
+      rw (← S .numbers h (shown-few S l)) (Sound.sound (after m cs) (S .ok) .hulls h (rw (S .counts) l) .number)
+
+  -- A save by desk d that is due, of the draft opened as o says, does what demand 3 says.
+  save-due-does : (cs : List Call) (d : ℕ) (o : Opening) → Saved (stateOf cs) (eventsOf cs) d o → SaveDoes m cs d o
+  save-due-does cs d o y =
+      let S = run-shows m z cs in
+      let T = run-shows m z (save d ∷ cs) in
+      let k = shown-few S (y .known) in
+      let next = state-by cs (y .rule) in
+      record {
+        answer = ap (λ (r : Reply). r .answer) (run-replies m z cs (save d) ∙ ap (λ (x : Outcome). x .reply) (sound (stateOf cs) (y .rule))) ∙ rw (run-history m z cs, y .count) refl;
+        number = rw (run-history m z cs) (T .numbers (o .hull) k ∙ rw (next, self, y .count) refl);
+        sheet = rw (run-history m z cs, run-shows m z (map call (o .before)) .sheets (o .hull) k) (T .sheets (o .hull) k ∙ rw (next, self) refl);
+        hulls = T .counts ∙ ap (λ (s : State). s .register .entered) next ∙ sym (S .counts);
+        others = λ h l n. let j = there-few S l in
+            (T .numbers h j ∙ rw (next, ne-eqb h (o .hull) n) (sym (S .numbers h j)), T .sheets h j ∙ rw (next, ne-eqb h (o .hull) n) (sym (S .sheets h j)));
+      }
+
+  due-taken : (cs : List Call) (d : ℕ) (u : Due d (history m cs)) → Saved (stateOf cs) (eventsOf cs) d (u .draft)
+  due-taken cs d u =
+      let e = run-history m z cs in
+      let holds = u .holds in
+      let quiet = u .quiet in
+      let room = u .room in
+      save-taken cs d (u .draft) (rw e at holds) (rw e at quiet) (rw e at room)
+
+  -- A save is accepted exactly when its desk holds a draft, the hull has had no accepted save since that draft was opened, and it has had fewer than 65,535.
+  pub save-iff : (cs : List Call) (d : ℕ) → (accepted (reply (after m cs) (save d)) ≡ true) ↔ Due d (history m cs)
+  save-iff cs d =
+      (λ a. rw (run-history m z cs) (save-only cs d (few cs) (rw (run-replies m z cs (save d)) at a)), λ u. ap taken (save-due-does cs d (u .draft) (due-taken cs d u) .answer))
+
+  -- The accepted save answers the count of accepted saves, which the hull then has as its edit number, and the hull holds its sheet at the opening with the draft's
+  -- accepted work done on it; every other hull is as it was.
+  pub save-does : (cs : List Call) (d : ℕ) (u : Due d (history m cs)) → SaveDoes m cs d (u .draft)
+  save-does cs d u = save-due-does cs d (u .draft) (due-taken cs d u)
+
+  -- The block of an accepted save is the open that made its draft, and every call on that draft since.
+  pub taken-whole : (cs : List Call) (d : ℕ) (u : Due d (history m cs)) → Whole d (history m cs) (u .draft) (block d (history m cs))
+  taken-whole cs d u = block-whole d (history m cs) (u .draft) (u .holds)
+
+  -- Where a save is accepted, no call of its block is a save.
+  pub taken-saveless : (cs : List Call) (d : ℕ) → accepted (reply (after m cs) (save d)) ≡ true → saveless (block d (history m cs)) ≡ true
+  taken-saveless cs d a = rw (run-history m z cs) (taken-clean cs d (rw (run-replies m z cs (save d)) at a))
+
+  -- ---- (b) the list of demand 3
+
+  -- Run from fresh, the serial list of a history gives the same hulls, the same edit numbers and the same reply to every call kept.
+  pub serial-gives : (cs : List Call) → Gives m (serial (history m cs)) (after m cs)
+  serial-gives cs =
+      let ks : List Call = map call (serial (eventsOf cs)) in
+      let g = serial-runs cs in
+      let S = run-shows m z cs in
+      let T = run-shows m z ks in
+      rw (run-history m z cs) (record {
+        replies = run-history m z ks ∙ g .replies;
+        hulls = record {
+          counts = T .counts ∙ ap (λ (r : Register). r .entered) (g .register) ∙ sym (S .counts);
+          numbers = λ h l. let j = there-few S l in T .numbers h j ∙ ap (λ (r : Register). r .hull h .edits) (g .register) ∙ sym (S .numbers h j);
+          sheets = λ h l. let j = there-few S l in T .sheets h j ∙ ap (λ (r : Register). r .hull h .sheet) (g .register) ∙ sym (S .sheets h j);
+        };
+      })

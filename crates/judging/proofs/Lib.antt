@@ -1,0 +1,3 @@
+-- The laws of the check.
+pub mod Parts
+pub mod Checks

@@ -1,0 +1,113 @@
+// Whether the register's memory is well formed: the check that every call on the register makes first. It reads the memory once, slot by slot, without copies.
+ghost use mathlib.Core.Path.{_≡_};
+ghost use Prim.Native.Nat.{_+_, _≤_, _<_};
+ghost use lib.ListN.{length, drop};
+ghost use Rattle.sheet.specs.Sheet.{sheetWords, limitRows, wordsOk};
+ghost use Rattle.memory.specs.Layout.{mostHulls, desks, registerWords, part, count};
+ghost use Rattle.memory.specs.Formed.{each, hullOk, draftOk, formed};
+use memory::DESKS;
+use memory::MOST_EDITS;
+use memory::MOST_HULLS;
+use memory::REGISTER_WORDS;
+use sheet::SHEET_WORDS;
+use text::Limit;
+
+// The words of the line FORM, the only one that has a number capped by the one before it.
+const FORM_WORDS: usize = 6;
+
+// Whether the words from a place on are a sheet within limits. The limits are those of a sheet without its HULL number.
+fn sheet_ok(limits: &[Limit], mem: &[u32], at: usize) -> bool
+    requires { ⌜ (now limits ≡ drop 1 limitRows) × (at + sheetWords ≤ length (now mem)) ⌝ }
+    ensures { λ r. ⌜ r ≡ wordsOk (part (now (mem .entry)) at sheetWords) ⌝ }
+{
+    let rest = at + FORM_WORDS;
+    let end = at + SHEET_WORDS;
+    if spelling::all_hold(&limits[..FORM_WORDS], &mem[at..rest]) {
+        spelling::all_hold_free(&limits[FORM_WORDS..], &mem[rest..end])
+    } else {
+        false
+    }
+}
+
+fn hull_ok(limits: &[Limit], mem: &[u32], hull: usize) -> bool
+    requires { ⌜ (now limits ≡ drop 1 limitRows) × (length (now mem) ≡ registerWords) × (hull < mostHulls) ⌝ }
+    ensures { λ r. ⌜ r ≡ hullOk (now (mem .entry)) hull ⌝ }
+{
+    let at = keeping::hull_at(hull);
+    if mem[at] <= MOST_EDITS {
+        sheet_ok(limits, mem, at + 1)
+    } else {
+        false
+    }
+}
+
+fn hulls_ok(limits: &[Limit], mem: &[u32], hulls: usize) -> bool
+    requires { ⌜ (now limits ≡ drop 1 limitRows) × (length (now mem) ≡ registerWords) × (hulls ≤ mostHulls) ⌝ }
+    ensures { λ r. ⌜ r ≡ each hulls (hullOk (now (mem .entry))) ⌝ }
+{
+    let mut i = 0;
+    while i < hulls {
+        if hull_ok(limits, mem, i) {
+            i += 1;
+        } else {
+            return false;
+        }
+    }
+    true
+}
+
+fn draft_ok(limits: &[Limit], mem: &[u32], desk: usize) -> bool
+    requires { ⌜ (now limits ≡ drop 1 limitRows) × (length (now mem) ≡ registerWords) × (count (now mem) ≤ mostHulls) × (desk < desks) ⌝ }
+    ensures { λ r. ⌜ r ≡ draftOk (now (mem .entry)) desk ⌝ }
+{
+    let at = keeping::draft_at(desk);
+    if mem[at] == 0 {
+        return true;
+    }
+    if mem[at] != 1 {
+        return false;
+    }
+    let hull = keeping::number_at(mem, at + 1);
+    if keeping::number_at(mem, 0) <= hull {
+        return false;
+    }
+    let edits = keeping::hull_at(hull);
+    if mem[edits] < mem[at + 2] {
+        return false;
+    }
+    sheet_ok(limits, mem, at + 3)
+}
+
+fn drafts_ok(limits: &[Limit], mem: &[u32]) -> bool
+    requires { ⌜ (now limits ≡ drop 1 limitRows) × (length (now mem) ≡ registerWords) × (count (now mem) ≤ mostHulls) ⌝ }
+    ensures { λ r. ⌜ r ≡ each desks (draftOk (now (mem .entry))) ⌝ }
+{
+    let mut desk = 0;
+    while desk < DESKS {
+        if draft_ok(limits, mem, desk) {
+            desk += 1;
+        } else {
+            return false;
+        }
+    }
+    true
+}
+
+// Whether the memory is well formed: refusal 1 is given where it is not.
+pub fn is_formed(mem: &[u32]) -> bool
+    ensures { λ r. ⌜ r ≡ formed (now (mem .entry)) ⌝ }
+{
+    if mem.len() != REGISTER_WORDS {
+        return false;
+    }
+    let hulls = keeping::number_at(mem, 0);
+    if MOST_HULLS < hulls {
+        return false;
+    }
+    let limits = sheet::LIMITS;
+    if hulls_ok(&limits[1..], mem, hulls) {
+        drafts_ok(&limits[1..], mem)
+    } else {
+        false
+    }
+}

@@ -1,0 +1,2 @@
+-- Laws that the proofs of the functions here go by.
+pub mod Writes

@@ -1,0 +1,102 @@
+-- What a well-formed memory has, slot by slot, and that a memory that has it is well formed. Assumes nothing.
+use mathlib.Core.Path.{_≡_, refl}
+use mathlib.Core.Bool.{Bool, true, false, _&&_}
+use mathlib.Core.Logic.{_⊎_, inl, inr}
+use mathlib.Core.List.{List}
+use Prim.Native.Nat.{ℕ, _≤_, _<_}
+use borrow.Author.Tests.{ltb-true, leb-true, eqb-true, lt-ltb, le-leb, eq-eqb}
+use lib.Dec.{eqb, leb, ltb}
+use lib.ListN.{length}
+use Rattle.text.proofs.Number.{both-hold}
+use Rattle.sheet.specs.Sheet.{wordsOk}
+use Rattle.memory.specs.Layout.{mostHulls, desks, registerWords, count, edit, hullSheet, held, draftHull, opening, draftSheet}
+use Rattle.memory.specs.Formed.{mostEdits, each, hullOk, draftOk, formed}
+use Rattle.memory.proofs.Each.{each-at, each-every}
+
+-- hull i is as an entered hull should be
+pub record Hull (m : List ℕ) (i : ℕ) : Type 0 where
+  pub number : edit m i ≤ mostEdits
+  pub sheet : wordsOk (hullSheet m i) ≡ true
+
+-- desk d holds a draft that is as it should be
+pub record Draft (m : List ℕ) (d : ℕ) : Type 0 where
+  pub holds : held m d ≡ 1
+  pub entered : draftHull m d < count m
+  pub opened : opening m d ≤ edit m (draftHull m d)
+  pub sheet : wordsOk (draftSheet m d) ≡ true
+
+pub record Sound (m : List ℕ) : Type 0 where
+  pub size : length m ≡ registerWords
+  pub few : count m ≤ mostHulls
+  pub hulls : (i : ℕ) → i < count m → Hull m i
+  pub drafts : (d : ℕ) → d < desks → (held m d ≡ 0) ⊎ Draft m d
+
+-- ---- what a test that holds says of its slot
+
+hull-sound : (m : List ℕ) (i : ℕ) → hullOk m i ≡ true → Hull m i
+unfolding hullOk
+hull-sound m i e =
+    let p = both-hold (leb (edit m i) mostEdits) (wordsOk (hullSheet m i)) e in
+    record { number = leb-true (edit m i) mostEdits (p .0); sheet = p .1 }
+
+draft-sound : (m : List ℕ) (d : ℕ) → draftOk m d ≡ true → (held m d ≡ 0) ⊎ Draft m d
+unfolding draftOk
+draft-sound m d e = go (eqb (held m d) 0) refl
+  where
+    known : Bool
+    known = ltb (draftHull m d) (count m)
+
+    ordered : Bool
+    ordered = leb (opening m d) (edit m (draftHull m d))
+
+    go : (t : Bool) → eqb (held m d) 0 ≡ t → (held m d ≡ 0) ⊎ Draft m d
+    go true z = inl (eqb-true (held m d) 0 z)
+    go false z =
+        let f : (eqb (held m d) 1 && (known && (ordered && wordsOk (draftSheet m d)))) ≡ true = rw z at e in
+        let p = both-hold (eqb (held m d) 1) (known && (ordered && wordsOk (draftSheet m d))) f in
+        let q = both-hold known (ordered && wordsOk (draftSheet m d)) (p .1) in
+        let r = both-hold ordered (wordsOk (draftSheet m d)) (q .1) in
+        inr (record {
+          holds = eqb-true (held m d) 1 (p .0);
+          entered = ltb-true (draftHull m d) (count m) (q .0);
+          opened = leb-true (opening m d) (edit m (draftHull m d)) (r .0);
+          sheet = r .1;
+        })
+
+pub sound : (m : List ℕ) → formed m ≡ true → Sound m
+unfolding formed
+sound m e =
+    let hulls : Bool = each (count m) (hullOk m) in
+    let drafts : Bool = each desks (draftOk m) in
+    let p = both-hold (eqb (length m) registerWords) (leb (count m) mostHulls && (hulls && drafts)) e in
+    let q = both-hold (leb (count m) mostHulls) (hulls && drafts) (p .1) in
+    let r = both-hold hulls drafts (q .1) in
+    record {
+      size = eqb-true (length m) registerWords (p .0);
+      few = leb-true (count m) mostHulls (q .0);
+      hulls = λ (i : ℕ) (l : i < count m). hull-sound m i (each-at (hullOk m) (count m) i l (r .0));
+      drafts = λ (d : ℕ) (l : d < desks). draft-sound m d (each-at (draftOk m) desks d l (r .1));
+    }
+
+-- ---- the other way
+
+hull-holds : (m : List ℕ) (i : ℕ) → Hull m i → hullOk m i ≡ true
+unfolding hullOk
+hull-holds m i h = rw (le-leb (edit m i) mostEdits (h .number), h .sheet) refl
+
+draft-holds : (m : List ℕ) (d : ℕ) → (held m d ≡ 0) ⊎ Draft m d → draftOk m d ≡ true
+unfolding draftOk
+draft-holds m d (inl z) = rw (eq-eqb (held m d) 0 z) refl
+draft-holds m d (inr h) =
+    rw (h .holds, lt-ltb (draftHull m d) (count m) (h .entered), le-leb (opening m d) (edit m (draftHull m d)) (h .opened), h .sheet) refl
+
+pub sound-formed : (m : List ℕ) → Sound m → formed m ≡ true
+unfolding formed
+sound-formed m s =
+    let hulls : each (count m) (hullOk m) ≡ true = each-every (hullOk m) (count m) (λ (i : ℕ) (l : i < count m). hull-holds m i (s .hulls i l)) in
+    let drafts : each desks (draftOk m) ≡ true = each-every (draftOk m) desks (λ (d : ℕ) (l : d < desks). draft-holds m d (s .drafts d l)) in
+    rw (eq-eqb (length m) registerWords (s .size), le-leb (count m) mostHulls (s .few), hulls, drafts) refl
+
+-- a desk that is not free holds a draft that is as it should be
+pub held-draft : (m : List ℕ) (d : ℕ) → formed m ≡ true → d < desks → (held m d ≡ 0 → ⊥) → Draft m d
+held-draft m d e l n = elim (sound m e .drafts d l) [ inl z ↦ absurd (n z) | inr h ↦ h ]

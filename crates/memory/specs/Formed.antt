@@ -1,0 +1,28 @@
+-- 01, Refusal 1: "register memory has the wrong size, or holds something outside the stated limits (counts, sheets, a draft's hull not entered, an opening number
+-- above the hull's)". What stands in the slots of hulls not entered and of desks without a draft is free. Assumes nothing: these are definitions.
+use Prim.Native.Nat.{ℕ, zero, suc}
+use mathlib.Core.Bool.{Bool, true, _&&_, _||_}
+use mathlib.Core.List.{List}
+use lib.Dec.{eqb, leb, ltb}
+use lib.ListN.{length}
+use Rattle.sheet.specs.Sheet.{wordsOk}
+use Rattle.memory.specs.Layout.{mostHulls, desks, registerWords, count, edit, hullSheet, held, draftHull, opening, draftSheet}
+
+abbrev pub mostEdits : ℕ
+mostEdits = 65535
+
+-- f holds of each number below n
+unfoldable pub each : ℕ → (ℕ → Bool) → Bool
+each zero f = true
+each (suc n) f = each n f && f n
+
+unfoldable pub hullOk : List ℕ → ℕ → Bool
+hullOk m i = leb (edit m i) mostEdits && wordsOk (hullSheet m i)
+
+-- of a draft: its hull is entered, its opening number is not above the hull's, its sheet is within limits
+unfoldable pub draftOk : List ℕ → ℕ → Bool
+draftOk m d =
+    eqb (held m d) 0 || (eqb (held m d) 1 && (ltb (draftHull m d) (count m) && (leb (opening m d) (edit m (draftHull m d)) && wordsOk (draftSheet m d))))
+
+unfoldable pub formed : List ℕ → Bool
+formed m = eqb (length m) registerWords && (leb (count m) mostHulls && (each (count m) (hullOk m) && each desks (draftOk m)))

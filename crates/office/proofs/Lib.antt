@@ -1,0 +1,3 @@
+-- The laws of the C face.
+pub mod Facing
+pub mod Outcomes

@@ -1,0 +1,2 @@
+-- The C face: an answer as C reads it.
+pub mod Face

@@ -1,0 +1,2 @@
+-- What the program's own functions promise of its input.
+pub mod Input

@@ -1,0 +1,69 @@
+-- Worked inputs, computed: 01's printed sample, and the inputs where a program slips. Assumes nothing.
+use mathlib.Core.Path.{_≡_, refl}
+use mathlib.Core.List.{List, [], _∷_, _++_, map}
+use mathlib.Core.Bool.{true}
+use Prim.Native.Nat.{ℕ}
+use Prim.Native.String.{String}
+use lib.ListN.{replicate}
+use Rattle.text.specs.Quoted.{bytes}
+use Rattle.text.specs.Field.{fieldOf, agreed}
+use Rattle.text.specs.Number.{restOf, numberOf, digitsIn, digitsOf}
+use Rattle.text.specs.Line.{readEntry, readNumbers, readLine, numbersText}
+use Rattle.sheet.specs.Reading.{readLines, readFits, readEnd, readRest, readSheet}
+use Rattle.sheet.specs.Engines.{readRows, readEngines}
+use Rattle.plates.specs.Volume.{product, volumeN, netZ}
+use Rattle.plates.specs.Weights.{sum, boatM}
+use Rattle.plates.specs.PlateC.{exactX, markedC, rising, rowsRight, rowFor, noRow, engineWeight, liveLoad, persons, untested, plateC}
+use Rattle.plates.specs.PlateA.{inboardX, loadX, markedA, rowWatts, beforeWatts, formulaWatts, powerA, plateA}
+use Rattle.printout.specs.Input.{sheetBytes}
+use Rattle.printout.specs.Printed.{platesText, rowsPrinted, printed}
+
+-- 01's sheet with another boat, and then engine lines
+withBoat : String → String → List ℕ
+withBoat mass engines =
+    bytes "HULL\t0\nFORM\t4500\t4000\t1200\t500\t0\t1\nSTN\tQ\t1000\t500\t500\t500\t500\t500\t500\nSTN\tR\t1000\t500\t500\t500\t500\t500\t500\nSTN\tS\t1000\t500\t500\t500\t500\t500\t500\nSTN\tT\t1000\t500\t500\t500\t500\t500\t500\nVOL\t0\t0\t0\n"
+    ++ (bytes mass ++ (bytes "PWR\t1\t20000\nSEAT\t5\t3\nFIT\t1\t3334\nEND\n" ++ bytes engines))
+
+abbrev boat : String
+boat = "MASS\t200000\t0\t0\n"
+
+-- 01's engine lines
+abbrev engines : String
+engines = "ENG\t10000\t45000\nENG\t20000\t60000\n"
+
+-- each input, and then what is printed of each
+inputs : List (List ℕ)
+inputs =
+    withBoat boat engines
+    -- an END line at the start is the sheet; no input; no engine lines, and more after them
+    ∷ (bytes "END\n" ++ withBoat boat engines) ∷ [] ∷ withBoat boat "" ∷ withBoat boat "ENG\t20000\t60000\n\n"
+    -- no row reaches the declared power; too heavy a boat for either plate
+    ∷ withBoat boat "ENG\t10000\t45000\n" ∷ withBoat "MASS\t2000000\t0\t0\n" engines
+    -- the sheet is judged before the engine lines
+    ∷ withBoat "MASS\t0\t0\t0\n" "" ∷ withBoat boat "ENG\t0\t0\n"
+    -- an END that is not at the start of its line does not end the sheet, which has more than 4,096 bytes then
+    ∷ (bytes "HULL\t16\nxEND\n" ++ replicate 4096 120) ∷ (bytes "HULL\t16\nEND\n" ++ replicate 4096 120)
+    -- 8,192 bytes are judged, 8,193 are not
+    ∷ (bytes "HULL\t16\nEND\n" ++ replicate 8180 120) ∷ (bytes "HULL\t16\nEND\n" ++ replicate 8181 120)
+    ∷ []
+
+inputs-right :
+    map printed inputs
+    ≡ bytes "PLATE\tA\t326\t20000\nPLATE\tC\t325\t3\n"
+    ∷ bytes "INPUT\t2\n" ∷ bytes "INPUT\t2\n" ∷ bytes "INPUT\t2\n" ∷ bytes "INPUT\t2\n"
+    ∷ bytes "PLATE\tA\t326\t20000\nREFUSED\tC\t11\n" ∷ bytes "REFUSED\tA\t12\nREFUSED\tC\t12\n"
+    ∷ bytes "INPUT\t3\n" ∷ bytes "INPUT\t3\n"
+    ∷ bytes "INPUT\t2\n" ∷ bytes "INPUT\t3\n"
+    ∷ bytes "INPUT\t3\n" ∷ bytes "INPUT\t2\n"
+    ∷ []
+unfolding inputs withBoat printed rowsPrinted platesText sheetBytes readSheet readLines readLine agreed readNumbers readEntry fieldOf numberOf restOf readRest readFits readEnd readEngines readRows numbersText digitsOf digitsIn product volumeN netZ sum boatM exactX markedC rising rowsRight rowFor noRow engineWeight liveLoad persons untested plateC inboardX loadX markedA rowWatts beforeWatts formulaWatts powerA plateA
+inputs-right = refl
+
+-- ---- where the sheet ends
+
+starts : List (List ℕ)
+starts = bytes "END\nEND\n" ∷ bytes "FIT\t1\t5\nEND\nENG" ∷ bytes "xEND\nEND\n" ∷ bytes "END \nEND\n" ∷ bytes "END" ∷ [] ∷ []
+
+ends-right : map (sheetBytes true) starts ≡ 4 ∷ 12 ∷ 9 ∷ 9 ∷ 3 ∷ 0 ∷ []
+unfolding starts sheetBytes agreed
+ends-right = refl

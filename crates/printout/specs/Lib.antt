@@ -1,0 +1,3 @@
+-- What the plate program prints.
+pub mod Input
+pub mod Printed

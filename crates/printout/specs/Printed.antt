@@ -1,0 +1,58 @@
+-- 01, Sample sheets: "It prints plate A, load in kilograms, power in watts; then plate C, load, persons. A refused plate prints REFUSED, its letter, its
+-- number. A faulty input prints one line, INPUT and its number: the sheet is judged first". Fields are parted by a tab, each line is ended by a line feed.
+-- Assumes nothing: these are definitions.
+use Prim.Native.Nat.{ℕ}
+use mathlib.Core.Bool.{cond}
+use mathlib.Core.List.{List, [], _∷_, _++_}
+use lib.Dec.{leb, ltb}
+use lib.ListN.{length, drop, replicate}
+use Rattle.text.specs.declared.LineRead.the-variants.{Taken, Fault}
+use Rattle.text.specs.Quoted.{bytes}
+use Rattle.text.specs.Limit.{ranging}
+use Rattle.text.specs.Line.{Line, brokenLine, lineText}
+use Rattle.sheet.specs.declared.Answer.{Answer}
+use Rattle.sheet.specs.declared.Answer.the-variants.{Refused, Done, Count, Plate}
+use Rattle.sheet.specs.Reading.{readSheet}
+use Rattle.sheet.specs.Engines.{readEngines, powersOf, weightsOf}
+use Rattle.sheet.specs.Calls.{noRoom, putFirst}
+use Rattle.plates.specs.PlateA.{plateA}
+use Rattle.plates.specs.PlateC.{plateC}
+use Rattle.printout.specs.Input.{mostInput, sheetPart, enginePart}
+
+-- a line of so many figures after its tag; a figure is any number of 32 bits
+abbrev pub figures : List ℕ → ℕ → Line
+figures tag count = record { tag = tag; limits = replicate count (ranging 0 4294967295) }
+
+abbrev pub inputText : ℕ → List ℕ
+inputText number = lineText (figures (bytes "INPUT\t") 1) (number ∷ [])
+
+-- a plate's line, by the tags of a marked and of a refused one; a plate is one or the other
+abbrev pub plateText : List ℕ → List ℕ → Answer → List ℕ
+plateText marked refused (Plate load figure) = lineText (figures marked 2) (load ∷ figure ∷ [])
+plateText marked refused (Refused number) = lineText (figures refused 1) (number ∷ [])
+plateText marked refused Done = []
+plateText marked refused (Count n) = []
+
+unfoldable pub platesText : List ℕ → List ℕ → List ℕ → List ℕ
+platesText s ps ws = plateText (bytes "PLATE\tA\t") (bytes "REFUSED\tA\t") (plateA s) ++ plateText (bytes "PLATE\tC\t") (bytes "REFUSED\tC\t") (plateC s ps ws)
+
+-- of a sheet's words and the bytes after it
+unfoldable pub rowsPrinted : List ℕ → List ℕ → List ℕ
+rowsPrinted s t =
+    let rows = readEngines t in
+    elim (rows .ended) [ Taken k ↦ platesText s (powersOf (rows .numbers)) (weightsOf (rows .numbers)) | Fault number at ↦ inputText number ]
+
+-- what is printed of an input; the HULL number is not used
+unfoldable pub printed : List ℕ → List ℕ
+printed t =
+    let sheet = readSheet (sheetPart t) in
+    cond (ltb mostInput (length t)) (inputText brokenLine)
+    (elim (sheet .ended) [ Taken k ↦ rowsPrinted (drop 1 (sheet .numbers)) (enginePart t) | Fault number at ↦ inputText number ])
+
+-- ---- the call, into a lent buffer
+
+unfoldable pub printAnswer : List ℕ → ℕ → Answer
+printAnswer t room = cond (leb (length (printed t)) room) (Count (length (printed t))) (Refused noRoom)
+
+unfoldable pub printInto : List ℕ → List ℕ → List ℕ
+printInto t before = cond (leb (length (printed t)) (length before)) (putFirst (printed t) before) before

@@ -1,0 +1,4 @@
+-- Laws that the proofs of the functions here go by.
+pub mod EnginesLoop
+pub mod FitsLoop
+pub mod ReadCall

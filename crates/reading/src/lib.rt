@@ -1,0 +1,239 @@
+// Reads a sheet, and engine rows, from a text.
+ghost use mathlib.Core.Path.{_≡_};
+ghost use Prim.Native.Nat.{_<_, _≤_};
+ghost use lib.ListN.{length, replicate};
+ghost use Rattle.text.specs.Line.{Reads, readLine};
+ghost use Rattle.sheet.specs.Settled.{Settled};
+ghost use Rattle.sheet.specs.Lines.{lines, fittings, mostRows};
+ghost use Rattle.sheet.specs.Sheet.{textWords, limitRows, lineAt, wordAt};
+ghost use Rattle.sheet.specs.Reading.{readLines, readFits, readEnd, readRest, readSheet};
+ghost use Rattle.sheet.specs.Engines.{readRows, readEngines, Rowed};
+ghost use Rattle.sheet.specs.Calls.{readAnswer, readInto, putFirst, enginesAnswer, columnsInto};
+use sheet::Answer;
+use sheet::FITTINGS;
+use sheet::LIMITS;
+use sheet::LINE_WORDS;
+use sheet::LINES;
+use sheet::MOST_ROWS;
+use sheet::NO_ROOM;
+use sheet::RowsRead;
+use sheet::TAG_AT;
+use sheet::TAGS;
+use sheet::TEXT_WORDS;
+use text::Limit;
+use text::LineRead;
+use text::PLAIN;
+
+const MOST_BYTES: usize = 4096;
+
+// Where the words of line i start, and after the last line where the fittings do.
+pub fn word_at(i: usize) -> usize
+    requires { ⌜ i ≤ length lines ⌝ }
+    ensures { λ r. ⌜ r ≡ wordAt i ⌝ }
+{
+    let places = [0, 1, 7, 14, 21, 28, 35, 38, 41, 43, 45];
+    places[i]
+}
+
+// ---- reading a sheet
+
+// Reads line i of HULL to SEAT from the start of text.
+fn read_line_at(i: usize, limits: &[Limit], text: &[u8], words: &mut [u32]) -> LineRead
+    requires { ⌜ (i < length lines) × (now limits ≡ limitRows) ⌝ }
+    ensures { λ r. ⌜ Reads (readLine (lineAt i) (now (text .entry))) (now (words .entry)) r (now (words .exit)) ⌝ }
+{
+    let tag = TAG_AT[i];
+    let tag_end = TAG_AT[i + 1];
+    let word = word_at(i);
+    let word_end = word_at(i + 1);
+    spelling::read_line(&TAGS[tag..tag_end], &limits[word..word_end], text, words)
+}
+
+// Reads the lines HULL to SEAT.
+fn read_lines(limits: &[Limit], text: &[u8], words: &mut [u32]) -> LineRead
+    requires { ⌜ (now limits ≡ limitRows) × (length (now words) ≡ textWords) ⌝ }
+    ensures { λ r. ⌜ Reads (readLines lines (now (text .entry))) (now (words .entry)) r (now (words .exit)) ⌝ }
+{
+    let mut i = 0;
+    let mut at = 0;
+    while i < LINES {
+        let word = word_at(i);
+        match read_line_at(i, limits, &text[at..], &mut words[word..]) {
+            LineRead::Fault(refusal, place) => {
+                return LineRead::Fault(refusal, at + place);
+            }
+            LineRead::Taken(len) => {
+                at += len;
+                i += 1;
+            }
+        }
+    }
+    LineRead::Taken(at)
+}
+
+// Reads FIT lines up to the line that must be END. The weights are all 0 before it.
+fn read_fits(text: &[u8], weights: &mut [u32]) -> LineRead
+    requires { ⌜ now weights ≡ replicate fittings 0 ⌝ }
+    ensures { λ r. ⌜ Reads (readFits fittings 1 (now (text .entry))) (now (weights .entry)) r (now (weights .exit)) ⌝ }
+{
+    let mut read = 0;
+    let mut at = 0;
+    let mut next = 1;
+    while read < FITTINGS {
+        if spelling::starts(&text[at..], b'F') {
+            let limits = [[next, 24, PLAIN], [1, 500000, PLAIN]];
+            let mut fit = [0u32; 2];
+            match spelling::read_line(b"FIT\t", &limits, &text[at..], &mut fit) {
+                LineRead::Fault(refusal, place) => {
+                    return LineRead::Fault(refusal, at + place);
+                }
+                LineRead::Taken(len) => {
+                    weights[fit[0] as usize - 1] = fit[1];
+                    next = fit[0] + 1;
+                    at += len;
+                    read += 1;
+                }
+            }
+        } else {
+            return LineRead::Taken(at);
+        }
+    }
+    LineRead::Taken(at)
+}
+
+// Reads END, after which nothing may stand.
+fn read_end(text: &[u8]) -> LineRead
+    ensures { λ r. ⌜ r ≡ readEnd (now (text .entry)) .ended ⌝ }
+{
+    let same = spelling::agreement(b"END\n", text);
+    if same < 4 {
+        return LineRead::Fault(text::BROKEN_LINE, same);
+    }
+    if text.len() > 4 {
+        return LineRead::Fault(text::BROKEN_LINE, 4);
+    }
+    LineRead::Taken(4)
+}
+
+// Reads what follows the line SEAT.
+fn read_rest(text: &[u8], weights: &mut [u32]) -> LineRead
+    requires { ⌜ now weights ≡ replicate fittings 0 ⌝ }
+    ensures { λ r. ⌜ Reads (readRest (now (text .entry))) (now (weights .entry)) r (now (weights .exit)) ⌝ }
+{
+    match read_fits(text, weights) {
+        LineRead::Fault(refusal, place) => LineRead::Fault(refusal, place),
+        LineRead::Taken(at) => match read_end(&text[at..]) {
+            LineRead::Fault(refusal, place) => LineRead::Fault(refusal, at + place),
+            LineRead::Taken(len) => LineRead::Taken(at + len),
+        },
+    }
+}
+
+// Reads a whole sheet. The words are all 0 before it.
+pub fn read_words(text: &[u8], words: &mut [u32]) -> LineRead
+    requires { ⌜ now words ≡ replicate textWords 0 ⌝ }
+    ensures { λ r. ⌜ Reads (readSheet (now (text .entry))) (now (words .entry)) r (now (words .exit)) ⌝ }
+{
+    if text.len() > MOST_BYTES {
+        return LineRead::Fault(text::BROKEN_LINE, 0);
+    }
+    match read_lines(&LIMITS, text, words) {
+        LineRead::Fault(refusal, place) => LineRead::Fault(refusal, place),
+        LineRead::Taken(at) => match read_rest(&text[at..], &mut words[LINE_WORDS..]) {
+            LineRead::Fault(refusal, place) => LineRead::Fault(refusal, at + place),
+            LineRead::Taken(len) => LineRead::Taken(at + len),
+        },
+    }
+}
+
+// Reads a sheet, its HULL number first, from a text of at most 4,096 bytes. A refusal, 2 or 3, leaves `sheet` as it stood.
+pub fn read_sheet(text: &[u8], sheet: &mut [u32; TEXT_WORDS]) -> Answer
+    ensures { λ r. ⌜ Settled (readAnswer (readSheet (now (text .entry)) .ended)) (readInto (readSheet (now (text .entry))) (now (sheet .entry))) r (now (sheet .exit)) ⌝ }
+{
+    let mut words = [0u32; TEXT_WORDS];
+    match read_words(text, &mut words) {
+        LineRead::Fault(refusal, _) => Answer::Refused(refusal),
+        LineRead::Taken(_) => {
+            *sheet = words;
+            Answer::Done
+        }
+    }
+}
+
+// ---- engine rows
+
+// Reads engine rows, the powers and the weights of them apart.
+fn read_rows(text: &[u8], powers: &mut [u32], weights: &mut [u32]) -> RowsRead
+    requires { ⌜ (length (now powers) ≡ mostRows) × (length (now weights) ≡ mostRows) ⌝ }
+    ensures { λ r. ⌜ Rowed (readRows mostRows 1 (now (text .entry))) (now (powers .entry)) (now (weights .entry)) r (now (powers .exit)) (now (weights .exit)) ⌝ }
+{
+    let mut rows = 0;
+    let mut at = 0;
+    let mut next = 1;
+    while rows < MOST_ROWS {
+        let limits = [[next, 200000, PLAIN], [0, 1000000, PLAIN]];
+        let mut row = [0u32; 2];
+        match spelling::read_line(b"ENG\t", &limits, &text[at..], &mut row) {
+            LineRead::Fault(refusal, place) => {
+                return RowsRead::NoRows(refusal, at + place);
+            }
+            LineRead::Taken(len) => {
+                powers[rows] = row[0];
+                weights[rows] = row[1];
+                next = row[0] + 1;
+                at += len;
+                rows += 1;
+                if at >= text.len() {
+                    return RowsRead::Rows(rows);
+                }
+            }
+        }
+    }
+    RowsRead::NoRows(text::BROKEN_LINE, at)
+}
+
+// Reads engine rows from a text of at most 4,096 bytes into room for as many as there may be.
+pub fn read_columns(text: &[u8], powers: &mut [u32], weights: &mut [u32]) -> RowsRead
+    requires { ⌜ (length (now powers) ≡ mostRows) × (length (now weights) ≡ mostRows) ⌝ }
+    ensures { λ r. ⌜ Rowed (readEngines (now (text .entry))) (now (powers .entry)) (now (weights .entry)) r (now (powers .exit)) (now (weights .exit)) ⌝ }
+{
+    if text.len() > MOST_BYTES {
+        return RowsRead::NoRows(text::BROKEN_LINE, 0);
+    }
+    read_rows(text, powers, weights)
+}
+
+// Lays numbers at the start of out, which has room for them.
+pub fn copy_numbers(numbers: &[u32], out: &mut [u32])
+    requires { ⌜ length (now numbers) ≤ length (now out) ⌝ }
+    ensures { λ r. ⌜ now (out .exit) ≡ putFirst (now (numbers .entry)) (now (out .entry)) ⌝ }
+{
+    let mut i = 0;
+    while i < numbers.len() {
+        out[i] = numbers[i];
+        i += 1;
+    }
+}
+
+// Reads engine rows from a text of at most 4,096 bytes into two lent slices and answers how many there are. A refusal, 2 or 3, or 16 where
+// either slice is shorter than the rows, leaves both as they stood.
+pub fn read_engines(text: &[u8], powers: &mut [u32], weights: &mut [u32]) -> Answer
+    ensures { λ r. ⌜ Settled (enginesAnswer (readEngines (now (text .entry))) (length (now (powers .entry))) (length (now (weights .entry)))) (columnsInto (readEngines (now (text .entry))) (now (powers .entry)) (now (weights .entry))) r (now (powers .exit), now (weights .exit)) ⌝ }
+{
+    let mut read_powers = [0u32; MOST_ROWS];
+    let mut read_weights = [0u32; MOST_ROWS];
+    match read_columns(text, &mut read_powers, &mut read_weights) {
+        RowsRead::NoRows(refusal, _) => Answer::Refused(refusal),
+        RowsRead::Rows(rows) => {
+            if powers.len() < rows {
+                return Answer::Refused(NO_ROOM);
+            }
+            if weights.len() < rows {
+                return Answer::Refused(NO_ROOM);
+            }
+            copy_numbers(&read_powers[..rows], powers);
+            copy_numbers(&read_weights[..rows], weights);
+            Answer::Count(rows as u32)
+        }
+    }
+}

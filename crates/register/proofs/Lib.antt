@@ -1,0 +1,6 @@
+-- The laws of the calls on the register.
+pub mod Refusals
+pub mod Own
+pub mod Keeps
+pub mod Effects
+pub mod Examples

@@ -1,0 +1,53 @@
+-- 01, Calls on the register: fresh start; new hull from text; plate A and C of a hull; write a hull's sheet. Assumes nothing: these are definitions.
+use Prim.Native.Nat.{ℕ}
+use mathlib.Core.Bool.{cond}
+use mathlib.Core.List.{List, _∷_}
+use lib.Dec.{eqb, ltb}
+use lib.ListN.{length}
+use Rattle.sheet.specs.declared.Answer.{Answer}
+use Rattle.sheet.specs.declared.Answer.the-variants.{Refused, Done, Count}
+use Rattle.sheet.specs.Calls.{writeAnswer, writeInto}
+use Rattle.plates.specs.PlateA.{plateA}
+use Rattle.plates.specs.PlateC.{plateC}
+use Rattle.memory.specs.Layout.{mostHulls, registerWords, count, hullSheet}
+use Rattle.memory.specs.Formed.{formed}
+use Rattle.memory.specs.Updates.{freshWords, entered}
+use Rattle.register.specs.Refusals.{hullRefusal, orRefused, orKept, sheetOf, onText}
+
+-- ---- fresh start: "refuses only a wrong size"
+
+abbrev pub freshRefusal : List ℕ → ℕ
+freshRefusal m = cond (eqb (length m) registerWords) 0 1
+
+abbrev pub freshAnswer : List ℕ → Answer
+freshAnswer m = orRefused (freshRefusal m) Done
+
+abbrev pub freshMemory : List ℕ → List ℕ
+freshMemory m = orKept (freshRefusal m) freshWords m
+
+-- ---- new hull: 1, 4, then the text; it answers its number
+
+unfoldable pub roomRefusal : List ℕ → ℕ
+roomRefusal m = cond (formed m) (cond (ltb (count m) mostHulls) 0 4) 1
+
+abbrev pub newAnswer : List ℕ → List ℕ → Answer
+newAnswer m t = orRefused (roomRefusal m) (onText t (Count (count m)) Refused)
+
+abbrev pub newMemory : List ℕ → List ℕ → List ℕ
+newMemory m t = orKept (roomRefusal m) (onText t (entered m (sheetOf t)) (λ (number : ℕ). m)) m
+
+-- ---- plates of a hull: 1, 5, then the plate's own
+
+abbrev pub hullPlateA : List ℕ → ℕ → Answer
+hullPlateA m h = orRefused (hullRefusal m h) (plateA (hullSheet m h))
+
+abbrev pub hullPlateC : List ℕ → ℕ → List ℕ → List ℕ → Answer
+hullPlateC m h ps ws = orRefused (hullRefusal m h) (plateC (hullSheet m h) ps ws)
+
+-- ---- write a hull's sheet under the register's number: 1, 5, then 16
+
+abbrev pub hullWritten : List ℕ → ℕ → ℕ → Answer
+hullWritten m h room = orRefused (hullRefusal m h) (writeAnswer (h ∷ hullSheet m h) room)
+
+abbrev pub hullWrittenInto : List ℕ → ℕ → List ℕ → List ℕ
+hullWrittenInto m h out = orKept (hullRefusal m h) (writeInto (h ∷ hullSheet m h) out) out

@@ -1,0 +1,524 @@
+/*
+ * office: a register of hull sheets in a file, worked from the command line. It shows how a server calls Willowblink: the library judges and changes
+ * the words, and this program only carries them between the file and the library.
+ *
+ *     office FILE fresh
+ *     office FILE new SHEETFILE
+ *     office FILE open DESK HULL
+ *     ..; without words it prints them all
+ *
+ * It says in plain words what was answered, a refusal with its number, and ends with 0 when the call was accepted, 1 when it was refused, and 2 on
+ * bad usage or trouble with a file. Answers and refusals go to standard output, trouble to standard error.
+ *
+ * The file is the register's 1673 words, the lowest byte of each first, and nothing else. Beside it stand FILE.lock, which is empty and stays, and
+ * for the length of a change FILE.new.
+ *
+ * Who is killed before it answers does not know whether its change was made, and has to look; but the register is then whole either way.
+ */
+#include <errno.h>
+#include <fcntl.h>
+#include <stdint.h>
+#include <stdio.h>
+#include <stdlib.h>
+#include <string.h>
+#include <sys/stat.h>
+#include <sys/types.h>
+#include <unistd.h>
+
+#include "willowblink.h"
+
+enum { ACCEPTED = 0, REFUSED = 1, TROUBLE = 2 };
+
+enum { REGISTER_BYTES = 4 * WB_REGISTER_WORDS };
+
+/* One byte more than the longest text that is read, so that the library sees, and refuses, a text that is too long. */
+enum { TEXT_ROOM = WB_MOST_TEXT + 1 };
+
+/* What a run works on: the register's words, and what the command line lends to the call. */
+struct work {
+    uint32_t words[WB_REGISTER_WORDS];
+    size_t count; /* how many words are lent: all, or none where the file has another size */
+    uint32_t number[3];
+    const char *path; /* of the text */
+    uint8_t text[TEXT_ROOM];
+    size_t text_len;
+    uint32_t powers[WB_ENGINE_ROWS];
+    uint32_t weights[WB_ENGINE_ROWS];
+    size_t rows;
+    uint8_t sheet[WB_SHEET_TEXT];
+};
+
+/* Ends the run over trouble with a file. */
+static void trouble(const char *what, const char *path)
+{
+    fprintf(stderr, "office: %s %s: %s\n", what, path, strerror(errno));
+    exit(TROUBLE);
+}
+
+/* ---- refusals ---- */
+
+static const char *const refusals[] = {
+    [WB_BAD_MEMORY] = "this is no register, or one that was spoilt",
+    [WB_BROKEN_LINE] = "the text breaks the line rules",
+    [WB_OUTSIDE_LIMITS] = "a number is outside its limits",
+    [WB_FULL] = "sixteen hulls are entered, and there is no room for another",
+    [WB_NO_HULL] = "there is no such hull",
+    [WB_NO_DESK] = "there is no such desk; the desks are 0 to 7",
+    [WB_NO_DRAFT] = "the desk has no hull open",
+    [WB_EDITED_SINCE] = "another desk has saved the hull since this one opened it; open it again",
+    [WB_EDITS_SPENT] = "the hull has been saved 65535 times and can be saved no more",
+    [WB_BAD_ROWS] = "the engine rows are not as they must be",
+    [WB_NO_ROW] = "no engine row reaches the declared power",
+    [WB_NO_LOAD] = "the marked load would be below 1 kg",
+    [WB_NO_POWER] = "a flat bottom so small is given no outboard",
+    [WB_UNTESTED] = "so small a live load wants persons passed by stability tests",
+    [WB_NO_PERSONS] = "not one person could be carried",
+    [WB_NO_ROOM] = "the answer does not fit",
+    [WB_EMPTY_LINE] = "there is no fitting on that line",
+};
+
+static int refuse(uint32_t refusal)
+{
+    const char *why = "for a reason that this program does not know";
+    if (refusal < sizeof refusals / sizeof refusals[0])
+        why = refusals[refusal];
+    printf("refused (%u): %s\n", (unsigned)refusal, why);
+    return REFUSED;
+}
+
+/* ---- files ---- */
+
+/* Reads until the file ends or the room is full, and answers how many bytes came. A pipe may give them in pieces. */
+static size_t read_all(int fd, const char *path, uint8_t *room, size_t size)
+{
+    size_t got = 0;
+    while (got < size) {
+        ssize_t n = read(fd, room + got, size - got);
+        if (n == 0)
+            break;
+        if (n > 0)
+            got += (size_t)n;
+        else if (errno != EINTR)
+            trouble("cannot read", path);
+    }
+    return got;
+}
+
+static void write_all(int fd, const char *path, const uint8_t *bytes, size_t size)
+{
+    size_t put = 0;
+    while (put < size) {
+        ssize_t n = write(fd, bytes + put, size - put);
+        if (n >= 0)
+            put += (size_t)n;
+        else if (errno != EINTR)
+            trouble("cannot write", path);
+    }
+}
+
+static void load_text(struct work *w, const char *path)
+{
+    int fd = open(path, O_RDONLY);
+    if (fd < 0)
+        trouble("cannot open", path);
+    w->path = path;
+    w->text_len = read_all(fd, path, w->text, sizeof w->text);
+    close(fd);
+}
+
+/* The name of a file beside the register. */
+static char *beside(const char *path, const char *ending)
+{
+    char *name = malloc(strlen(path) + strlen(ending) + 1);
+    if (name == NULL)
+        trouble("no memory for the name of", path);
+    strcpy(name, path);
+    strcat(name, ending);
+    return name;
+}
+
+/* ---- the register's file ---- */
+
+/*
+ * Waits until no other run is changing the register. The system lets go of the lock when the run ends, also when it is killed, so none is left over.
+ *
+ * The lock is on a file of its own. A change puts a new file in the register's place: who waited for a lock on the old one would get it when the
+ * change is done, and would then hold a file that is the register no more, beside a third run that locks the new one. The lock's file must last as
+ * the register's does not, so nobody renames or removes it; and it is opened once, since closing any handle of it would let go of the lock.
+ */
+static void lock_register(const char *path)
+{
+    struct flock whole = {.l_type = F_WRLCK, .l_whence = SEEK_SET, .l_start = 0, .l_len = 0};
+    char *name = beside(path, ".lock");
+    int fd = open(name, O_RDWR | O_CREAT | O_NOFOLLOW, 0666);
+    if (fd < 0)
+        trouble("cannot open", name);
+    while (fcntl(fd, F_SETLKW, &whole) != 0)
+        if (errno != EINTR)
+            trouble("cannot lock", name);
+    free(name);
+}
+
+/* Under a second name the register would have a second lock, and by a change the two names would come to stand for two registers. */
+static void see_one_name(int fd, const char *path)
+{
+    struct stat about;
+    if (fstat(fd, &about) != 0)
+        trouble("cannot look at", path);
+    if (S_ISREG(about.st_mode) && about.st_nlink <= 1)
+        return;
+    fprintf(stderr, "office: %s is not a plain file with one name\n", path);
+    exit(TROUBLE);
+}
+
+/*
+ * Loads the words. A file of another size is lent as no words at all, which the library refuses as it refuses any wrong size. The file that is open
+ * here never changes, since a change makes another; so who only reads needs no lock.
+ */
+static void load_register(struct work *w, const char *path)
+{
+    uint8_t bytes[REGISTER_BYTES + 1];
+    int fd = open(path, O_RDONLY | O_NOFOLLOW | O_NONBLOCK);
+    if (fd < 0)
+        trouble("cannot open the register", path);
+    see_one_name(fd, path);
+    size_t size = read_all(fd, path, bytes, sizeof bytes);
+    close(fd);
+    w->count = 0;
+    if (size != REGISTER_BYTES)
+        return;
+    w->count = WB_REGISTER_WORDS;
+    for (size_t i = 0; i < WB_REGISTER_WORDS; i++) {
+        const uint8_t *b = bytes + 4 * i;
+        w->words[i] = (uint32_t)b[0] | (uint32_t)b[1] << 8 | (uint32_t)b[2] << 16 | (uint32_t)b[3] << 24;
+    }
+}
+
+/* Fresh start is for a place where no register is: one that is there is worth more than the room it takes. */
+static void begin_register(struct work *w, const char *path)
+{
+    struct stat about;
+    if (lstat(path, &about) == 0) {
+        errno = EEXIST;
+        trouble("will not start a fresh register over", path);
+    }
+    if (errno != ENOENT)
+        trouble("cannot look at", path);
+    memset(w->words, 0, sizeof w->words);
+    w->count = WB_REGISTER_WORDS;
+}
+
+/* The rights of the register, for the file that takes its place; a new one has what the user's umask leaves. */
+static void keep_rights(int fd, const char *name, const char *path)
+{
+    struct stat about;
+    if (stat(path, &about) != 0) {
+        if (errno != ENOENT)
+            trouble("cannot look at", path);
+    } else if (fchmod(fd, about.st_mode & 07777) != 0)
+        trouble("cannot set the rights of", name);
+}
+
+/* A new name reaches the disk with its folder. */
+static void sync_folder(const char *path)
+{
+    char *folder = beside(path, "");
+    char *slash = strrchr(folder, '/');
+    if (slash == NULL)
+        strcpy(folder, ".");
+    else
+        slash[slash == folder] = '\0';
+    int fd = open(folder, O_RDONLY | O_DIRECTORY);
+    if (fd < 0 || fsync(fd) != 0)
+        trouble("cannot sync", folder);
+    close(fd);
+    free(folder);
+}
+
+/*
+ * Puts the words in the register's place. They are on the disk under another name before that name becomes the register's, and the rename is one
+ * step: a run that is killed, or a machine that stops, leaves the old words or the new. Only the holder of the lock comes here, so the other name can
+ * be a fixed one, and what a killed run left under it is cleared away by the next.
+ */
+static void store_register(const struct work *w, const char *path)
+{
+    uint8_t bytes[REGISTER_BYTES];
+    for (size_t i = 0; i < REGISTER_BYTES; i++)
+        bytes[i] = (uint8_t)(w->words[i / 4] >> 8 * (i % 4));
+    char *name = beside(path, ".new");
+    if (unlink(name) != 0 && errno != ENOENT)
+        trouble("cannot clear away", name);
+    int fd = open(name, O_WRONLY | O_CREAT | O_EXCL, 0666);
+    if (fd < 0)
+        trouble("cannot make", name);
+    keep_rights(fd, name, path);
+    write_all(fd, name, bytes, sizeof bytes);
+    if (fsync(fd) != 0 || close(fd) != 0)
+        trouble("cannot write", name);
+    if (rename(name, path) != 0)
+        trouble("cannot put in its place", name);
+    sync_folder(path);
+    free(name);
+}
+
+/* ---- the calls, and what is said when each was accepted ---- */
+
+static wb_answer ask_fresh(struct work *w)
+{
+    return wb_fresh(w->words, w->count);
+}
+
+static void tell_fresh(const struct work *w, wb_answer a)
+{
+    (void)w, (void)a;
+    printf("a fresh register, without hulls and drafts\n");
+}
+
+static wb_answer ask_new(struct work *w)
+{
+    return wb_new_hull(w->words, w->count, w->text, w->text_len);
+}
+
+static void tell_new(const struct work *w, wb_answer a)
+{
+    printf("hull %u entered from %s\n", (unsigned)a.first, w->path);
+}
+
+static wb_answer ask_open(struct work *w)
+{
+    return wb_open(w->words, w->count, w->number[0], w->number[1]);
+}
+
+static void tell_open(const struct work *w, wb_answer a)
+{
+    printf("desk %u has hull %u open at edit %u\n", (unsigned)w->number[0], (unsigned)w->number[1], (unsigned)a.first);
+}
+
+static wb_answer ask_put(struct work *w)
+{
+    return wb_put(w->words, w->count, w->number[0], w->number[1], w->number[2]);
+}
+
+static void tell_put(const struct work *w, wb_answer a)
+{
+    (void)a;
+    printf("desk %u put %u g on line %u\n", (unsigned)w->number[0], (unsigned)w->number[2], (unsigned)w->number[1]);
+}
+
+static wb_answer ask_take_off(struct work *w)
+{
+    return wb_take_off(w->words, w->count, w->number[0], w->number[1]);
+}
+
+static void tell_take_off(const struct work *w, wb_answer a)
+{
+    (void)a;
+    printf("desk %u took off line %u\n", (unsigned)w->number[0], (unsigned)w->number[1]);
+}
+
+static wb_answer ask_replace(struct work *w)
+{
+    return wb_replace(w->words, w->count, w->number[0], w->text, w->text_len);
+}
+
+static void tell_replace(const struct work *w, wb_answer a)
+{
+    (void)a;
+    printf("desk %u has the sheet of %s\n", (unsigned)w->number[0], w->path);
+}
+
+static wb_answer ask_trial_a(struct work *w)
+{
+    return wb_trial_a(w->words, w->count, w->number[0]);
+}
+
+static void tell_trial_a(const struct work *w, wb_answer a)
+{
+    printf("desk %u, trial of plate A: %u kg, %u W\n", (unsigned)w->number[0], (unsigned)a.first, (unsigned)a.second);
+}
+
+static wb_answer ask_trial_c(struct work *w)
+{
+    return wb_trial_c(w->words, w->count, w->number[0], w->powers, w->rows, w->weights, w->rows);
+}
+
+static void tell_trial_c(const struct work *w, wb_answer a)
+{
+    printf("desk %u, trial of plate C: %u kg, persons %u\n", (unsigned)w->number[0], (unsigned)a.first, (unsigned)a.second);
+}
+
+static wb_answer ask_save(struct work *w)
+{
+    return wb_save(w->words, w->count, w->number[0]);
+}
+
+static void tell_save(const struct work *w, wb_answer a)
+{
+    printf("desk %u saved its hull, now at edit %u\n", (unsigned)w->number[0], (unsigned)a.first);
+}
+
+static wb_answer ask_drop(struct work *w)
+{
+    return wb_drop(w->words, w->count, w->number[0]);
+}
+
+static void tell_drop(const struct work *w, wb_answer a)
+{
+    (void)a;
+    printf("desk %u dropped its draft\n", (unsigned)w->number[0]);
+}
+
+static wb_answer ask_plate_a(struct work *w)
+{
+    return wb_plate_a(w->words, w->count, w->number[0]);
+}
+
+static void tell_plate_a(const struct work *w, wb_answer a)
+{
+    printf("hull %u, plate A: %u kg, %u W\n", (unsigned)w->number[0], (unsigned)a.first, (unsigned)a.second);
+}
+
+static wb_answer ask_plate_c(struct work *w)
+{
+    return wb_plate_c(w->words, w->count, w->number[0], w->powers, w->rows, w->weights, w->rows);
+}
+
+static void tell_plate_c(const struct work *w, wb_answer a)
+{
+    printf("hull %u, plate C: %u kg, persons %u\n", (unsigned)w->number[0], (unsigned)a.first, (unsigned)a.second);
+}
+
+static wb_answer ask_write(struct work *w)
+{
+    return wb_write_hull(w->words, w->count, w->number[0], w->sheet, sizeof w->sheet);
+}
+
+/* The text alone, so that it can be kept and given to replace. */
+static void tell_write(const struct work *w, wb_answer a)
+{
+    fwrite(w->sheet, 1, a.first, stdout);
+}
+
+/* ---- the command line ---- */
+
+enum { READS, CHANGES, BEGINS };
+
+/* What a command is lent: for each word after its name a letter, n for a number, t for a sheet's text, e for one of engine rows. */
+struct command {
+    const char *name;
+    const char *words;
+    const char *lent;
+    int does;
+    wb_answer (*ask)(struct work *w);
+    void (*tell)(const struct work *w, wb_answer a);
+};
+
+static const struct command commands[] = {
+    {"fresh", "", "", BEGINS, ask_fresh, tell_fresh},
+    {"new", " SHEETFILE", "t", CHANGES, ask_new, tell_new},
+    {"open", " DESK HULL", "nn", CHANGES, ask_open, tell_open},
+    {"put", " DESK LINE WEIGHT", "nnn", CHANGES, ask_put, tell_put},
+    {"take-off", " DESK LINE", "nn", CHANGES, ask_take_off, tell_take_off},
+    {"replace", " DESK SHEETFILE", "nt", CHANGES, ask_replace, tell_replace},
+    {"trial-a", " DESK", "n", READS, ask_trial_a, tell_trial_a},
+    {"trial-c", " DESK ENGINEFILE", "ne", READS, ask_trial_c, tell_trial_c},
+    {"save", " DESK", "n", CHANGES, ask_save, tell_save},
+    {"drop", " DESK", "n", CHANGES, ask_drop, tell_drop},
+    {"plate-a", " HULL", "n", READS, ask_plate_a, tell_plate_a},
+    {"plate-c", " HULL ENGINEFILE", "ne", READS, ask_plate_c, tell_plate_c},
+    {"write", " HULL", "n", READS, ask_write, tell_write},
+};
+
+static void usage(void)
+{
+    for (size_t i = 0; i < sizeof commands / sizeof commands[0]; i++)
+        fprintf(stderr, "%s office FILE %s%s\n", i == 0 ? "usage:" : "      ", commands[i].name, commands[i].words);
+    exit(TROUBLE);
+}
+
+static const struct command *find_command(const char *name)
+{
+    for (size_t i = 0; i < sizeof commands / sizeof commands[0]; i++)
+        if (strcmp(commands[i].name, name) == 0)
+            return &commands[i];
+    usage();
+    return NULL;
+}
+
+/* Any number of 32 bits goes to the library, which judges it; what is none, or larger, is bad usage. */
+static uint32_t number_of(const char *word)
+{
+    uint64_t n = 0;
+    if (*word == '\0')
+        usage();
+    for (; *word != '\0'; word++) {
+        if (*word < '0' || *word > '9')
+            usage();
+        n = 10 * n + (uint64_t)(*word - '0');
+        if (n > UINT32_MAX)
+            usage();
+    }
+    return (uint32_t)n;
+}
+
+/* Makes engine rows of the text, which is a call of its own and may be refused. */
+static uint32_t read_rows(struct work *w)
+{
+    wb_answer a = wb_read_engines(w->text, w->text_len, w->powers, WB_ENGINE_ROWS, w->weights, WB_ENGINE_ROWS);
+    w->rows = a.first;
+    return a.refusal;
+}
+
+/* Takes what the command is lent from the command line; answers a refusal of engine rows, 0 if there is none. */
+static uint32_t take_words(struct work *w, const struct command *c, char **words)
+{
+    for (size_t i = 0; c->lent[i] != '\0'; i++) {
+        if (c->lent[i] == 'n')
+            w->number[i] = number_of(words[i]);
+        else
+            load_text(w, words[i]);
+    }
+    return strchr(c->lent, 'e') == NULL ? 0 : read_rows(w);
+}
+
+static void bring_register(struct work *w, const struct command *c, const char *path)
+{
+    if (c->does != READS)
+        lock_register(path);
+    if (c->does == BEGINS)
+        begin_register(w, path);
+    else
+        load_register(w, path);
+}
+
+/* What was said counts only once it is out. */
+static int said(int status)
+{
+    if (fflush(stdout) == 0 && !ferror(stdout))
+        return status;
+    perror("office: cannot print the answer");
+    return TROUBLE;
+}
+
+int main(int argc, char **argv)
+{
+    static struct work w;
+    if (argc < 3)
+        usage();
+    const char *path = argv[1];
+    const struct command *c = find_command(argv[2]);
+    if ((size_t)argc - 3 != strlen(c->lent))
+        usage();
+    /* Texts are read before the lock is taken: one that comes slowly, by a pipe, keeps no other desk waiting. */
+    uint32_t refusal = take_words(&w, c, argv + 3);
+    if (refusal != WB_ACCEPTED)
+        return said(refuse(refusal));
+    bring_register(&w, c, path);
+    wb_answer a = c->ask(&w);
+    if (a.refusal != WB_ACCEPTED)
+        return said(refuse(a.refusal));
+    if (c->does != READS)
+        store_register(&w, path);
+    c->tell(&w, a);
+    return said(ACCEPTED);
+}

@@ -1,0 +1,205 @@
+/*
+ * willowblink.h: the capacity plates of small boats, and the register of hull sheets that they are worked from.
+ *
+ * Every call takes any numbers, any bytes and any lengths, and gives a settled answer. It refuses what is bad by the number of a wb_refusal and then
+ * leaves every byte that it was lent as it stood. It keeps nothing between calls, allocates nothing, and touches nothing but what it is lent.
+ *
+ * A slice is a pointer and its length, in elements. The pointer is never null, also where the length is 0, and is aligned as its type asks. Buffers that
+ * are lent to one call must not overlap. Calls on one register must come one at a time, and its words must not change between them.
+ *
+ * The calls are proved to do what docs/PROMISES.md says; docs/RULES.md has the rules, docs/REGISTER.md the layout of the register's memory.
+ */
+#ifndef WILLOWBLINK_H
+#define WILLOWBLINK_H
+
+#include <stddef.h>
+#include <stdint.h>
+
+#ifdef __cplusplus
+extern "C" {
+#endif
+
+/* The size of a register's memory, in words of 32 bits. */
+#define WB_REGISTER_WORDS 1673
+
+/* Hulls are numbered 0 to 15 in the order in which they were entered, desks 0 to 7, fitting lines 1 to 24. */
+#define WB_HULLS 16
+#define WB_DESKS 8
+#define WB_FITTINGS 24
+
+/* The most engine rows that there may be, and the longest text that a sheet can have, in bytes. */
+#define WB_ENGINE_ROWS 40
+#define WB_SHEET_TEXT 610
+
+/* A text of more bytes, of a sheet or of engine rows, is refused with 2 before any of it is read. */
+#define WB_MOST_TEXT 4096
+
+/* Why a call was refused. */
+typedef enum wb_refusal {
+    WB_ACCEPTED = 0,
+    WB_BAD_MEMORY = 1,      /* the register's memory has the wrong size, or holds something outside the limits */
+    WB_BROKEN_LINE = 2,     /* a text breaks the line rules */
+    WB_OUTSIDE_LIMITS = 3,  /* a number is outside its limits */
+    WB_FULL = 4,            /* sixteen hulls are entered */
+    WB_NO_HULL = 5,         /* no such hull */
+    WB_NO_DESK = 6,         /* a desk above 7 */
+    WB_NO_DRAFT = 7,        /* the desk holds no draft */
+    WB_EDITED_SINCE = 8,    /* the hull has been saved since the draft was opened */
+    WB_EDITS_SPENT = 9,     /* the hull's edit number is 65,535 */
+    WB_BAD_ROWS = 10,       /* engine slices unequal, empty, over 40 rows, not rising, or a value out of limits */
+    WB_NO_ROW = 11,         /* no engine row reaches the declared power */
+    WB_NO_LOAD = 12,        /* the marked load would be below 1 */
+    WB_NO_POWER = 13,       /* an outboard with a flat bottom in the first power row */
+    WB_UNTESTED = 14,       /* tested persons are wanted and missing */
+    WB_NO_PERSONS = 15,     /* persons would be below 1 */
+    WB_NO_ROOM = 16,        /* the lent output is shorter than the text, or either of two than the rows */
+    WB_EMPTY_LINE = 17      /* taking off a fitting line that is empty */
+} wb_refusal;
+
+/* What a call answers: a refusal and figures of 0, or WB_ACCEPTED and the figures that the call names; those that it does not name are 0. */
+typedef struct wb_answer {
+    uint32_t refusal; /* a wb_refusal */
+    uint32_t first;
+    uint32_t second;
+    uint32_t third;
+} wb_answer;
+
+/* A station's readings, in millimetres: B, then q r s t u v. */
+typedef struct wb_station {
+    uint32_t b, q, r, s, t, u, v;
+} wb_station;
+
+/* A sheet: its 69 numbers in the order of its text. Lengths are millimetres, weights grams, volumes cubic centimetres, power watts. */
+typedef struct wb_sheet {
+    uint32_t hull;               /* 0..15 */
+    uint32_t length;             /* 2000..6000 */
+    uint32_t reference;          /* 2000..6000, not above length */
+    uint32_t transom_width;      /* 500..3000 */
+    uint32_t transom_height;     /* 200..900 */
+    uint32_t flat;               /* 1: flat bottom with hard chine */
+    uint32_t remote;             /* 1: remote steering */
+    wb_station station[4];       /* Q, R, S, T: B 0..4000, the others 0..2500 */
+    uint32_t aft;                /* volume of the aft structure, 0..5000000 */
+    uint32_t well;               /* of the motor well */
+    uint32_t flooding;           /* of the flooding chambers */
+    uint32_t bare;               /* bare boat, 1..2000000 */
+    uint32_t fuel;               /* permanent tanks with fuel, 0..500000 */
+    uint32_t machinery;          /* installed machinery, 0..500000 */
+    uint32_t outboard;           /* 1 outboard, 0 inboard or stern-drive */
+    uint32_t declared;           /* declared power, 0..200000 */
+    uint32_t positions;          /* designated positions, 1..24 */
+    uint32_t tested;             /* persons passed by stability tests, 1..24, or 0 if not tested */
+    uint32_t fitting[WB_FITTINGS]; /* the weight on line i + 1, 1..500000, or 0 if the line is empty */
+} wb_sheet;
+
+/* ---- the register; mem is WB_REGISTER_WORDS words, and any other length is refused with 1 ---- */
+
+/*
+ * Fresh start: no hulls and no drafts. Every word becomes 0, whatever it was.
+ * Refuses: 1 for a wrong size, and nothing else.
+ */
+wb_answer wb_fresh(uint32_t *mem, size_t mem_len);
+
+/*
+ * Enters a hull from the text of a sheet, with edit number 0. The text's HULL number is judged and then ignored.
+ * Answers: first is the hull's number. Refuses: 1; 4; 2 or 3 for the first fault of the text.
+ */
+wb_answer wb_new_hull(uint32_t *mem, size_t mem_len, const uint8_t *text, size_t text_len);
+
+/*
+ * Opens a hull at a desk: the desk's draft is then a copy of the hull's sheet. A draft that the desk held is discarded, unless this call is refused.
+ * Answers: first is the hull's edit number. Refuses: 1, 6, 5.
+ */
+wb_answer wb_open(uint32_t *mem, size_t mem_len, uint32_t desk, uint32_t hull);
+
+/*
+ * Puts a fitting of so many grams on a line of the desk's draft, in place of one that is there.
+ * Refuses: 1, 6, 7; 3 for a line outside 1..24 or a weight outside 1..500000.
+ */
+wb_answer wb_put(uint32_t *mem, size_t mem_len, uint32_t desk, uint32_t line, uint32_t weight);
+
+/*
+ * Takes off the fitting on a line of the desk's draft.
+ * Refuses: 1, 6, 7; 3 for a line outside 1..24; 17 where the line is empty.
+ */
+wb_answer wb_take_off(uint32_t *mem, size_t mem_len, uint32_t desk, uint32_t line);
+
+/*
+ * Makes the desk's draft the sheet of a text. The text's HULL number is judged and then ignored.
+ * Refuses: 1, 6, 7; 2 or 3 for the first fault of the text.
+ */
+wb_answer wb_replace(uint32_t *mem, size_t mem_len, uint32_t desk, const uint8_t *text, size_t text_len);
+
+/*
+ * Plate A of the desk's draft, as a trial. The memory is only read.
+ * Answers: first is the load in kilograms, second the power in watts, 0 for an inboard. Refuses: 1, 6, 7; 12, 13.
+ */
+wb_answer wb_trial_a(const uint32_t *mem, size_t mem_len, uint32_t desk);
+
+/*
+ * Plate C of the desk's draft, as a trial, with engine rows in two slices of equal length, which are judged whether or not there is an engine to weigh.
+ * The memory is only read.
+ * Answers: first is the load in kilograms, second the persons. Refuses: 1, 6, 7; 10, 12, 11, 14, 15.
+ */
+wb_answer wb_trial_c(const uint32_t *mem, size_t mem_len, uint32_t desk, const uint32_t *powers, size_t powers_len, const uint32_t *weights,
+                     size_t weights_len);
+
+/*
+ * Saves the desk's draft as its hull's sheet, even if nothing differs, and ends the draft. A refused save keeps it.
+ * Answers: first is the hull's edit number, which is one more than before. Refuses: 1, 6, 7; 8, then 9.
+ */
+wb_answer wb_save(uint32_t *mem, size_t mem_len, uint32_t desk);
+
+/*
+ * Ends the desk's draft. The hull is left as it is.
+ * Refuses: 1, 6, 7.
+ */
+wb_answer wb_drop(uint32_t *mem, size_t mem_len, uint32_t desk);
+
+/*
+ * Plate A of a hull. The memory is only read.
+ * Answers: first is the load in kilograms, second the power in watts, 0 for an inboard. Refuses: 1, 5; 12, 13.
+ */
+wb_answer wb_plate_a(const uint32_t *mem, size_t mem_len, uint32_t hull);
+
+/*
+ * Plate C of a hull, with engine rows in two slices of equal length, which are judged whether or not there is an engine to weigh. The memory is only
+ * read.
+ * Answers: first is the load in kilograms, second the persons. Refuses: 1, 5; 10, 12, 11, 14, 15.
+ */
+wb_answer wb_plate_c(const uint32_t *mem, size_t mem_len, uint32_t hull, const uint32_t *powers, size_t powers_len, const uint32_t *weights,
+                     size_t weights_len);
+
+/*
+ * Writes the text of a hull's sheet, with the register's number, from the start of out. Bytes of out after the text are left alone, and the text is
+ * not ended by a 0. WB_SHEET_TEXT bytes are always room enough.
+ * Answers: first is how many bytes were written. Refuses: 1, 5; 16 where out is shorter than the text.
+ */
+wb_answer wb_write_hull(const uint32_t *mem, size_t mem_len, uint32_t hull, uint8_t *out, size_t out_len);
+
+/* ---- texts, without a register ---- */
+
+/*
+ * Reads a sheet from its text, the HULL number too.
+ * Refuses: 2 or 3 for the first fault from the left and top.
+ */
+wb_answer wb_read_sheet(const uint8_t *text, size_t text_len, wb_sheet *sheet);
+
+/*
+ * Writes a sheet's one text from the start of out. Reading it gives the same sheet, and writing what was read the same bytes.
+ * Answers: first is how many bytes were written. Refuses: 3 for a sheet outside the limits; 16 where out is shorter than the text.
+ */
+wb_answer wb_write_sheet(const wb_sheet *sheet, uint8_t *out, size_t out_len);
+
+/*
+ * Reads engine rows, lines of ENG, power, weight, into the starts of two slices. Elements after the rows are left alone; WB_ENGINE_ROWS are always
+ * room enough.
+ * Answers: first is how many rows there are. Refuses: 2 or 3 for the first fault of the text; 16 where either slice is shorter than the rows.
+ */
+wb_answer wb_read_engines(const uint8_t *text, size_t text_len, uint32_t *powers, size_t powers_len, uint32_t *weights, size_t weights_len);
+
+#ifdef __cplusplus
+}
+#endif
+
+#endif

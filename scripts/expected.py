@@ -1,0 +1,246 @@
+#!/usr/bin/env python3
+"""What the plate program is to print, worked out by a second hand.
+
+    expected.py [FILE]     prints what the plate program prints of FILE, or of standard input
+    expected.py --all DIR  works out every NAME.sheet of DIR again and holds NAME.expected to it
+
+It is written from document 01 and shares nothing with the crates. Areas, volumes and loads are worked as fractions in
+the order the standards give them, where the crates keep whole sums and divide once: the two agree only if both are exact.
+"""
+
+import glob
+import math
+import os
+import re
+import sys
+from fractions import Fraction
+
+BROKEN, OUTSIDE = 2, 3
+MOST_INPUT, MOST_TEXT = 8192, 4096
+MOST_FITS, MOST_ROWS = 24, 40
+
+NUMBER = re.compile(rb"(?:0|[1-9][0-9]{0,9})")
+
+
+class Refused(Exception):
+    """A refusal by its number."""
+
+    def __init__(self, number):
+        super().__init__(number)
+        self.number = number
+
+
+class Text:
+    """A text that is read from its start, a line's tag and then its numbers."""
+
+    def __init__(self, data):
+        if len(data) > MOST_TEXT:
+            raise Refused(BROKEN)
+        self.data, self.at = data, 0
+
+    def starts(self, tag):
+        return self.data.startswith(tag, self.at)
+
+    def ended(self):
+        return self.at == len(self.data)
+
+    def tag(self, tag):
+        if not self.starts(tag):
+            raise Refused(BROKEN)
+        self.at += len(tag)
+
+    def number(self, low, high, ender):
+        """A number and the byte that ends it: their form is judged first, then the limits."""
+        found = NUMBER.match(self.data, self.at)
+        if not found or self.data[found.end() : found.end() + 1] != ender:
+            raise Refused(BROKEN)
+        value = int(found.group())
+        if not low <= value <= high:
+            raise Refused(OUTSIDE)
+        self.at = found.end() + 1
+        return value
+
+    def numbers(self, *limits):
+        enders = [b"\t"] * (len(limits) - 1) + [b"\n"]
+        return [self.number(low, high, e) for (low, high), e in zip(limits, enders)]
+
+
+class Sheet:
+    """A sheet, read from its text; the HULL number plays no part in the plates."""
+
+    def __init__(self, data):
+        text = Text(data)
+        text.tag(b"HULL\t")
+        text.numbers((0, 15))
+        text.tag(b"FORM\t")
+        self.length = text.number(2000, 6000, b"\t")
+        self.reference = text.number(2000, min(6000, self.length), b"\t")
+        self.width, self.height, self.flat, self.remote = text.numbers((500, 3000), (200, 900), (0, 1), (0, 1))
+        self.stations = []
+        for letter in (b"Q", b"R", b"S", b"T"):
+            text.tag(b"STN\t" + letter + b"\t")
+            self.stations.append(text.numbers((0, 4000), *[(0, 2500)] * 6))
+        text.tag(b"VOL\t")
+        self.aft, self.well, self.flooding = text.numbers(*[(0, 5000000)] * 3)
+        text.tag(b"MASS\t")
+        self.bare, self.fuel, self.machinery = text.numbers((1, 2000000), (0, 500000), (0, 500000))
+        text.tag(b"PWR\t")
+        self.outboard, self.declared = text.numbers((0, 1), (0, 200000))
+        text.tag(b"SEAT\t")
+        self.positions = text.number(1, 24, b"\t")
+        self.tested = None
+        if text.starts(b"-\n"):
+            text.tag(b"-\n")
+        else:
+            self.tested = text.number(1, 24, b"\n")
+        self.fittings, last = [], 0
+        while text.starts(b"FIT\t"):
+            if len(self.fittings) == MOST_FITS:
+                raise Refused(BROKEN)
+            text.tag(b"FIT\t")
+            last = text.number(last + 1, 24, b"\t")
+            self.fittings.append(text.number(1, 500000, b"\n"))
+        text.tag(b"END\n")
+        if not text.ended():
+            raise Refused(BROKEN)
+
+    def water(self):
+        """Grams of water that the hull holds, exactly."""
+        products = [b * (q + 4 * r + 2 * s + 4 * t + 2 * u + 2 * v) for b, q, r, s, t, u, v in self.stations]
+        areas = [Fraction(p, 15) for p in products]
+        cubic_mm = Fraction(self.reference, 12) * sum(k * a for k, a in zip((4, 2, 4, 1), areas))
+        return cubic_mm / 1000 + self.aft - self.well - self.flooding
+
+    def boat(self):
+        return self.bare + sum(self.fittings)
+
+
+def engine_rows(data):
+    text, rows, last = Text(data), [], 0
+    while not text.ended():
+        if len(rows) == MOST_ROWS:
+            raise Refused(BROKEN)
+        text.tag(b"ENG\t")
+        last = text.number(last + 1, 200000, b"\t")
+        rows.append((last, text.number(0, 1000000, b"\n")))
+    if not rows:
+        raise Refused(BROKEN)
+    return rows
+
+
+POWERS = [(2250000, 1500), (3300000, 3000), (3600000, 4000), (3900000, 5250), (4200000, 7500), (5000000, 12000)]
+
+
+def power(sheet):
+    """Watts by plate A, or none where a flat bottom stands in the first row."""
+    if not sheet.outboard:
+        return 0
+    factor = sheet.length * sheet.width
+    if factor <= POWERS[-1][0]:
+        row = next(i for i, (most, _) in enumerate(POWERS) if factor <= most)
+        if sheet.flat and factor < 5000000:
+            row -= 1
+        return POWERS[row][1] if row >= 0 else None
+    thousands = Fraction(factor, 1000)
+    if sheet.remote and sheet.height >= 500:
+        watts = 16 * thousands - 67000
+    elif sheet.flat:
+        watts = 4 * thousands - 11000
+    else:
+        watts = Fraction(13, 2) * thousands - 20000
+    return 5000 * math.ceil(watts / 5000)
+
+
+def plate_a(sheet):
+    aboard = sheet.fuel + sheet.machinery
+    if sheet.outboard:
+        grams = (sheet.water() - sheet.boat() - aboard) / 5
+    else:
+        grams = (sheet.water() - sheet.boat()) / 5 - aboard
+    load = math.floor(grams / 1000 + Fraction(1, 2))
+    if load < 1:
+        raise Refused(12)
+    watts = power(sheet)
+    if watts is None:
+        raise Refused(13)
+    return load, watts
+
+
+def plate_c(sheet, rows):
+    left = sheet.water() - sheet.boat() - sheet.fuel - sheet.machinery
+    share = Fraction(1, 5) if sheet.declared > 1500 else Fraction(3, 10)
+    load = math.floor(left * share / 1000)
+    if load < 1:
+        raise Refused(12)
+    engine = 0
+    if sheet.outboard and sheet.declared > 0:
+        engine = next((weight for watts, weight in rows if watts >= sheet.declared), None)
+        if engine is None:
+            raise Refused(11)
+    live = 1000 * load - engine
+    if live < 250000 and sheet.tested is None:
+        raise Refused(14)
+    persons = min(sheet.positions, live // 75000)
+    if sheet.tested is not None:
+        persons = min(persons, sheet.tested)
+    if persons < 1:
+        raise Refused(15)
+    return load, persons
+
+
+def split(data):
+    """The sheet, through the first line that is END alone, and the engine lines after it."""
+    end = re.search(rb"^END\n", data, re.MULTILINE)
+    at = end.end() if end else len(data)
+    return data[:at], data[at:]
+
+
+def line(letter, plate, *given):
+    try:
+        return "PLATE\t%s\t%d\t%d\n" % (letter, *plate(*given))
+    except Refused as refusal:
+        return "REFUSED\t%s\t%d\n" % (letter, refusal.number)
+
+
+def printed(data):
+    try:
+        if len(data) > MOST_INPUT:
+            raise Refused(BROKEN)
+        first, rest = split(data)
+        sheet = Sheet(first)
+        rows = engine_rows(rest)
+    except Refused as refusal:
+        return "INPUT\t%d\n" % refusal.number
+    return line("A", plate_a, sheet) + line("C", plate_c, sheet, rows)
+
+
+def check_all(folder):
+    wrong = 0
+    for path in sorted(glob.glob(os.path.join(folder, "*.sheet"))):
+        with open(path, "rb") as f:
+            want = printed(f.read())
+        with open(path[: -len(".sheet")] + ".expected", encoding="ascii") as f:
+            stored = f.read()
+        if stored != want:
+            print("%s: stored %r, worked out %r" % (path, stored, want), file=sys.stderr)
+            wrong = 1
+    return wrong
+
+
+def main(words):
+    if words[:1] == ["--all"] and len(words) == 2:
+        return check_all(words[1])
+    if len(words) > 1:
+        print(__doc__, file=sys.stderr)
+        return 2
+    if words:
+        with open(words[0], "rb") as f:
+            data = f.read()
+    else:
+        data = sys.stdin.buffer.read()
+    sys.stdout.write(printed(data))
+    return 0
+
+
+if __name__ == "__main__":
+    sys.exit(main(sys.argv[1:]))

@@ -1,0 +1,417 @@
+/* compare.c: see compare.h. */
+#define _DEFAULT_SOURCE
+#include "compare.h"
+
+#include "random.h"
+#include "reference.h"
+
+#include <signal.h>
+#include <stdio.h>
+#include <stdlib.h>
+#include <string.h>
+#include <sys/mman.h>
+#include <unistd.h>
+
+struct contents lent[BUFFERS];
+
+/* ---- the two offices ---- */
+
+struct office {
+    wb_answer (*fresh)(uint32_t *, size_t);
+    wb_answer (*new_hull)(uint32_t *, size_t, const uint8_t *, size_t);
+    wb_answer (*open)(uint32_t *, size_t, uint32_t, uint32_t);
+    wb_answer (*put)(uint32_t *, size_t, uint32_t, uint32_t, uint32_t);
+    wb_answer (*take_off)(uint32_t *, size_t, uint32_t, uint32_t);
+    wb_answer (*replace)(uint32_t *, size_t, uint32_t, const uint8_t *, size_t);
+    wb_answer (*trial_a)(const uint32_t *, size_t, uint32_t);
+    wb_answer (*trial_c)(const uint32_t *, size_t, uint32_t, const uint32_t *, size_t, const uint32_t *, size_t);
+    wb_answer (*save)(uint32_t *, size_t, uint32_t);
+    wb_answer (*drop)(uint32_t *, size_t, uint32_t);
+    wb_answer (*plate_a)(const uint32_t *, size_t, uint32_t);
+    wb_answer (*plate_c)(const uint32_t *, size_t, uint32_t, const uint32_t *, size_t, const uint32_t *, size_t);
+    wb_answer (*write_hull)(const uint32_t *, size_t, uint32_t, uint8_t *, size_t);
+    wb_answer (*read_sheet)(const uint8_t *, size_t, wb_sheet *);
+    wb_answer (*write_sheet)(const wb_sheet *, uint8_t *, size_t);
+    wb_answer (*read_engines)(const uint8_t *, size_t, uint32_t *, size_t, uint32_t *, size_t);
+};
+
+static const struct office library = {
+    wb_fresh, wb_new_hull, wb_open, wb_put, wb_take_off, wb_replace, wb_trial_a, wb_trial_c, wb_save, wb_drop, wb_plate_a, wb_plate_c, wb_write_hull,
+    wb_read_sheet, wb_write_sheet, wb_read_engines,
+};
+
+static const struct office reference = {
+    ref_fresh, ref_new_hull, ref_open, ref_put, ref_take_off, ref_replace, ref_trial_a, ref_trial_c, ref_save, ref_drop, ref_plate_a, ref_plate_c,
+    ref_write_hull, ref_read_sheet, ref_write_sheet, ref_read_engines,
+};
+
+/* ---- what each call is lent, and what it can answer by the header ---- */
+
+#define BIT(n) (1ul << (n))
+
+static const struct {
+    const char *name;
+    unsigned long reads, writes, answers;
+} kinds[KINDS] = {
+    [FRESH] = {"fresh", 0, BIT(MEMORY), BIT(0) | BIT(1)},
+    [NEW_HULL] = {"new_hull", BIT(TEXT), BIT(MEMORY), BIT(0) | BIT(1) | BIT(2) | BIT(3) | BIT(4)},
+    [OPEN] = {"open", 0, BIT(MEMORY), BIT(0) | BIT(1) | BIT(5) | BIT(6)},
+    [PUT] = {"put", 0, BIT(MEMORY), BIT(0) | BIT(1) | BIT(3) | BIT(6) | BIT(7)},
+    [TAKE_OFF] = {"take_off", 0, BIT(MEMORY), BIT(0) | BIT(1) | BIT(3) | BIT(6) | BIT(7) | BIT(17)},
+    [REPLACE] = {"replace", BIT(TEXT), BIT(MEMORY), BIT(0) | BIT(1) | BIT(2) | BIT(3) | BIT(6) | BIT(7)},
+    [TRIAL_A] = {"trial_a", BIT(MEMORY), 0, BIT(0) | BIT(1) | BIT(6) | BIT(7) | BIT(12) | BIT(13)},
+    [TRIAL_C] = {"trial_c", BIT(MEMORY) | BIT(POWERS) | BIT(WEIGHTS), 0,
+                 BIT(0) | BIT(1) | BIT(6) | BIT(7) | BIT(10) | BIT(11) | BIT(12) | BIT(14) | BIT(15)},
+    [SAVE] = {"save", 0, BIT(MEMORY), BIT(0) | BIT(1) | BIT(6) | BIT(7) | BIT(8) | BIT(9)},
+    [DROP] = {"drop", 0, BIT(MEMORY), BIT(0) | BIT(1) | BIT(6) | BIT(7)},
+    [PLATE_A] = {"plate_a", BIT(MEMORY), 0, BIT(0) | BIT(1) | BIT(5) | BIT(12) | BIT(13)},
+    [PLATE_C] = {"plate_c", BIT(MEMORY) | BIT(POWERS) | BIT(WEIGHTS), 0,
+                 BIT(0) | BIT(1) | BIT(5) | BIT(10) | BIT(11) | BIT(12) | BIT(14) | BIT(15)},
+    [WRITE_HULL] = {"write_hull", BIT(MEMORY), BIT(OUT), BIT(0) | BIT(1) | BIT(5) | BIT(16)},
+    [READ_SHEET] = {"read_sheet", BIT(TEXT), BIT(SHEET), BIT(0) | BIT(2) | BIT(3)},
+    [WRITE_SHEET] = {"write_sheet", BIT(SHEET), BIT(OUT), BIT(0) | BIT(3) | BIT(16)},
+    [READ_ENGINES] = {"read_engines", BIT(TEXT), BIT(POWERS) | BIT(WEIGHTS), BIT(0) | BIT(2) | BIT(3) | BIT(16)},
+};
+
+static const char *const buffer_names[BUFFERS] = {"memory", "text", "output", "powers", "weights", "sheet"};
+
+/* ---- the progress, and the report of a difference ---- */
+
+#define REFUSALS 18
+
+static unsigned long made, seen[KINDS][REFUSALS];
+static uint64_t seed;
+static const char *part = "start";
+static struct call current;
+static const char *running = "";
+
+unsigned long calls_made(void)
+{
+    return made;
+}
+
+void begin_part(const char *name)
+{
+    part = name;
+}
+
+/* The text that was lent, with the bytes that one cannot see written out. */
+static void print_text(void)
+{
+    const uint8_t *bytes = lent_bytes(TEXT);
+    printf("  text: \"");
+    for (size_t i = 0; i < lent[TEXT].size; i++)
+        if (bytes[i] == '\t' || bytes[i] == '\n')
+            printf(bytes[i] == '\t' ? "\\t" : "\\n");
+        else if (bytes[i] < ' ' || bytes[i] > '~' || bytes[i] == '"' || bytes[i] == '\\')
+            printf("\\%03o", bytes[i]);
+        else
+            putchar(bytes[i]);
+    printf("\"\n");
+}
+
+/* The words of a buffer that are not 0, each with its place. */
+static void print_words(enum buffer buffer)
+{
+    printf("  %s:", buffer_names[buffer]);
+    for (size_t i = 0; i < lent[buffer].size / 4; i++)
+        if (lent[buffer].words[i])
+            printf(" [%lu] %lu", (unsigned long)i, (unsigned long)lent[buffer].words[i]);
+    printf("\n");
+}
+
+/* The call as a person can make it again. What was lent still stands as it was before the call. */
+static void print_call(void)
+{
+    unsigned long uses = kinds[current.kind].reads | kinds[current.kind].writes;
+    printf("  seed %llu, call %lu (%s): %s, desk %lu, hull %lu, line %lu, weight %lu\n", (unsigned long long)seed, made, part,
+           kinds[current.kind].name, (unsigned long)current.desk, (unsigned long)current.hull, (unsigned long)current.line,
+           (unsigned long)current.weight);
+    for (int buffer = 0; buffer < BUFFERS; buffer++)
+        if (uses & BIT(buffer))
+            printf("  lent %s: %lu bytes\n", buffer_names[buffer], (unsigned long)lent[buffer].size);
+    if (uses & BIT(TEXT))
+        print_text();
+    for (int buffer = 0; buffer < BUFFERS; buffer++)
+        if (uses & BIT(buffer) & ~(BIT(TEXT) | BIT(OUT)))
+            print_words(buffer);
+}
+
+static void give_up(const char *what)
+{
+    printf("DIFFERENCE: %s\n", what);
+    print_call();
+    printf("c tests: %lu calls, 1 difference\n", made);
+    fflush(stdout);
+    _exit(1);
+}
+
+void insist(int holds, const char *what)
+{
+    if (!holds)
+        give_up(what);
+}
+
+static void on_fault(int signal_number)
+{
+    printf("signal %d inside %s\n", signal_number, running);
+    give_up("an access outside what was lent");
+}
+
+/* ---- buffers at the edge of what may be touched ---- */
+
+/* Large enough for any page size that Linux has, also where an emulator's pages are larger than those of the program. */
+#define PAGES 65536ul
+/* This much beside a lent buffer is looked at too. */
+#define MARGIN 128
+#define MARGIN_BYTE 0x5C
+
+enum { LIBRARY, REFERENCE, SIDES };
+
+struct place {
+    uint8_t *pages; /* PAGES bytes, with as much on both sides that nobody may touch */
+    uint8_t *start; /* where the lent buffer starts */
+    uint8_t *margin;
+};
+
+static struct place places[SIDES][BUFFERS];
+
+static uint8_t *guarded_pages(void)
+{
+    uint8_t *area = mmap(NULL, 4 * PAGES, PROT_NONE, MAP_PRIVATE | MAP_ANONYMOUS, -1, 0);
+    if (area == MAP_FAILED) {
+        perror("mmap");
+        exit(2);
+    }
+    uint8_t *pages = area + 2 * PAGES - (uintptr_t)area % PAGES;
+    if (mprotect(pages, PAGES, PROT_READ | PROT_WRITE) != 0) {
+        perror("mprotect");
+        exit(2);
+    }
+    return pages;
+}
+
+void begin_compare(uint64_t the_seed)
+{
+    struct sigaction action;
+    memset(&action, 0, sizeof action);
+    action.sa_handler = on_fault;
+    sigaction(SIGSEGV, &action, NULL);
+    sigaction(SIGBUS, &action, NULL);
+    seed = the_seed;
+    for (int side = 0; side < SIDES; side++)
+        for (int buffer = 0; buffer < BUFFERS; buffer++)
+            places[side][buffer].pages = guarded_pages();
+}
+
+uint8_t *lent_bytes(enum buffer buffer)
+{
+    return (uint8_t *)lent[buffer].words;
+}
+
+uint8_t *lend(enum buffer buffer, size_t size)
+{
+    insist(size <= sizeof lent[buffer].words, "the test has no room for so much");
+    lent[buffer].size = size;
+    return lent_bytes(buffer);
+}
+
+/* Puts a buffer's contents against the unreadable page after it, or the one before it, and a mark on its other side. */
+static void put_in_place(struct place *place, enum buffer buffer, int at_end)
+{
+    size_t size = lent[buffer].size;
+    place->start = at_end ? place->pages + PAGES - size : place->pages;
+    place->margin = at_end ? place->start - MARGIN : place->start + size;
+    memcpy(place->start, lent[buffer].words, size);
+    memset(place->margin, MARGIN_BYTE, MARGIN);
+}
+
+static void protect(unsigned long buffers, int protection)
+{
+    for (int buffer = 0; buffer < BUFFERS; buffer++)
+        if (buffers & BIT(buffer) && mprotect(places[LIBRARY][buffer].pages, PAGES, protection) != 0) {
+            perror("mprotect");
+            exit(2);
+        }
+}
+
+/* ---- making a call ---- */
+
+static wb_answer call_text(const struct office *office, struct call call, const struct place *place)
+{
+    const uint8_t *text = place[TEXT].start;
+    switch (call.kind) {
+    case READ_SHEET:
+        return office->read_sheet(text, lent[TEXT].size, (wb_sheet *)(void *)place[SHEET].start);
+    case WRITE_SHEET:
+        return office->write_sheet((const wb_sheet *)(void *)place[SHEET].start, place[OUT].start, lent[OUT].size);
+    default:
+        return office->read_engines(text, lent[TEXT].size, (uint32_t *)(void *)place[POWERS].start, lent[POWERS].size / 4,
+                                    (uint32_t *)(void *)place[WEIGHTS].start, lent[WEIGHTS].size / 4);
+    }
+}
+
+static wb_answer call_plate(const struct office *office, struct call call, const struct place *place)
+{
+    const uint32_t *mem = (const uint32_t *)(void *)place[MEMORY].start;
+    const uint32_t *powers = (const uint32_t *)(void *)place[POWERS].start, *weights = (const uint32_t *)(void *)place[WEIGHTS].start;
+    size_t len = lent[MEMORY].size / 4, powers_len = lent[POWERS].size / 4, weights_len = lent[WEIGHTS].size / 4;
+    switch (call.kind) {
+    case TRIAL_A:
+        return office->trial_a(mem, len, call.desk);
+    case TRIAL_C:
+        return office->trial_c(mem, len, call.desk, powers, powers_len, weights, weights_len);
+    case PLATE_A:
+        return office->plate_a(mem, len, call.hull);
+    default:
+        return office->plate_c(mem, len, call.hull, powers, powers_len, weights, weights_len);
+    }
+}
+
+static wb_answer call_office(const struct office *office, struct call call, const struct place *place)
+{
+    uint32_t *mem = (uint32_t *)(void *)place[MEMORY].start;
+    const uint8_t *text = place[TEXT].start;
+    size_t len = lent[MEMORY].size / 4, text_len = lent[TEXT].size;
+    switch (call.kind) {
+    case FRESH:
+        return office->fresh(mem, len);
+    case NEW_HULL:
+        return office->new_hull(mem, len, text, text_len);
+    case OPEN:
+        return office->open(mem, len, call.desk, call.hull);
+    case PUT:
+        return office->put(mem, len, call.desk, call.line, call.weight);
+    case TAKE_OFF:
+        return office->take_off(mem, len, call.desk, call.line);
+    case REPLACE:
+        return office->replace(mem, len, call.desk, text, text_len);
+    case SAVE:
+        return office->save(mem, len, call.desk);
+    case DROP:
+        return office->drop(mem, len, call.desk);
+    case WRITE_HULL:
+        return office->write_hull(mem, len, call.hull, place[OUT].start, lent[OUT].size);
+    case READ_SHEET:
+    case WRITE_SHEET:
+    case READ_ENGINES:
+        return call_text(office, call, place);
+    default:
+        return call_plate(office, call, place);
+    }
+}
+
+/* ---- holding the one to the other ---- */
+
+static void compare_answers(wb_answer got, wb_answer wanted)
+{
+    if (memcmp(&got, &wanted, sizeof got) != 0) {
+        printf("the library answers %lu %lu %lu %lu, the reference %lu %lu %lu %lu\n", (unsigned long)got.refusal, (unsigned long)got.first,
+               (unsigned long)got.second, (unsigned long)got.third, (unsigned long)wanted.refusal, (unsigned long)wanted.first,
+               (unsigned long)wanted.second, (unsigned long)wanted.third);
+        give_up("the answers");
+    }
+    insist(got.third == 0 && (got.refusal == 0 || (got.first == 0 && got.second == 0)), "a figure that the call does not name");
+}
+
+static void compare_bytes(enum buffer buffer, const uint8_t *got, const void *wanted, const char *what)
+{
+    const uint8_t *bytes = wanted;
+    size_t at = 0;
+    if (memcmp(got, bytes, lent[buffer].size) == 0)
+        return;
+    while (got[at] == bytes[at])
+        at++;
+    printf("%s: byte %lu is %u after the library's call and not %u\n", buffer_names[buffer], (unsigned long)at, got[at], bytes[at]);
+    give_up(what);
+}
+
+static void compare_margin(const uint8_t *margin)
+{
+    for (int i = 0; i < MARGIN; i++)
+        insist(margin[i] == MARGIN_BYTE, "a byte beside a lent buffer was changed");
+}
+
+static void compare_buffers(unsigned long writes, unsigned long uses, int refused)
+{
+    for (int buffer = 0; buffer < BUFFERS; buffer++) {
+        if (!(uses & BIT(buffer)))
+            continue;
+        const uint8_t *got = places[LIBRARY][buffer].start;
+        if (refused || !(writes & BIT(buffer)))
+            compare_bytes(buffer, got, lent[buffer].words, refused ? "a refused call changed a lent byte" : "a byte that is lent to be read only");
+        compare_bytes(buffer, got, places[REFERENCE][buffer].start, "the library and the reference made different bytes");
+        compare_margin(places[LIBRARY][buffer].margin);
+    }
+}
+
+static wb_answer call_both(unsigned long reads, unsigned long uses)
+{
+    int sealed = one_in(8); /* then the library could not even write back the same */
+    for (int buffer = 0; buffer < BUFFERS; buffer++)
+        if (uses & BIT(buffer)) {
+            int at_end = !one_in(3);
+            put_in_place(&places[LIBRARY][buffer], buffer, at_end);
+            put_in_place(&places[REFERENCE][buffer], buffer, at_end);
+        }
+    if (sealed)
+        protect(reads, PROT_READ);
+    running = "the library";
+    wb_answer got = call_office(&library, current, places[LIBRARY]);
+    running = "the reference";
+    wb_answer wanted = call_office(&reference, current, places[REFERENCE]);
+    running = "the test";
+    if (sealed)
+        protect(reads, PROT_READ | PROT_WRITE);
+    compare_answers(got, wanted);
+    return got;
+}
+
+wb_answer attempt(struct call call)
+{
+    unsigned long reads = kinds[call.kind].reads, writes = kinds[call.kind].writes;
+    current = call;
+    made++;
+    wb_answer answer = call_both(reads, reads | writes);
+    compare_buffers(writes, reads | writes, answer.refusal != 0);
+    insist(answer.refusal < REFUSALS && kinds[call.kind].answers & BIT(answer.refusal), "a refusal that the header does not name for this call");
+    seen[call.kind][answer.refusal]++;
+    if (answer.refusal == 0)
+        for (int buffer = 0; buffer < BUFFERS; buffer++)
+            if (writes & BIT(buffer))
+                memcpy(lent[buffer].words, places[LIBRARY][buffer].start, lent[buffer].size);
+    return answer;
+}
+
+void expect(wb_answer answer, uint32_t refusal, uint32_t first, uint32_t second)
+{
+    if (answer.refusal == refusal && answer.first == first && answer.second == second)
+        return;
+    printf("the library answers %lu %lu %lu, the rules say %lu %lu %lu\n", (unsigned long)answer.refusal, (unsigned long)answer.first,
+           (unsigned long)answer.second, (unsigned long)refusal, (unsigned long)first, (unsigned long)second);
+    give_up("an answer that the test has in figures");
+}
+
+void print_answers_seen(void)
+{
+    int missing = 0;
+    printf("%-13s", "answers seen");
+    for (int refusal = 0; refusal < REFUSALS; refusal++)
+        printf(" %6d", refusal);
+    printf("\n");
+    for (int kind = 0; kind < KINDS; kind++) {
+        printf("%-13s", kinds[kind].name);
+        for (int refusal = 0; refusal < REFUSALS; refusal++)
+            if (kinds[kind].answers & BIT(refusal)) {
+                printf(" %6lu", seen[kind][refusal]);
+                missing += seen[kind][refusal] == 0;
+            } else
+                printf(" %6s", "");
+        printf("\n");
+    }
+    if (missing > 0) {
+        printf("c tests: %lu calls, %d answers that the header names were never seen\n", made, missing);
+        fflush(stdout);
+        exit(1);
+    }
+}

@@ -1,0 +1,52 @@
+/*
+ * compare.h: makes one call of the library and the same call of the reference, each on buffers of its own that end or start at an unreadable page,
+ * and holds every figure and every lent byte of the one to the other.
+ */
+#ifndef WILLOWBLINK_COMPARE_H
+#define WILLOWBLINK_COMPARE_H
+
+#include "willowblink.h"
+
+enum kind { FRESH, NEW_HULL, OPEN, PUT, TAKE_OFF, REPLACE, TRIAL_A, TRIAL_C, SAVE, DROP, PLATE_A, PLATE_C, WRITE_HULL, READ_SHEET, WRITE_SHEET,
+            READ_ENGINES, KINDS };
+
+/* The buffers that a call can be lent. */
+enum buffer { MEMORY, TEXT, OUT, POWERS, WEIGHTS, SHEET, BUFFERS };
+
+#define ROOM_WORDS 4096
+
+struct contents {
+    size_t size; /* in bytes; a buffer of words has a multiple of four */
+    uint32_t words[ROOM_WORDS];
+};
+
+/* What the next call is lent. After an accepted call it holds what that call made of it. */
+extern struct contents lent[BUFFERS];
+
+struct call {
+    enum kind kind;
+    uint32_t desk, hull, line, weight;
+};
+
+/* Makes a call on what is lent. Ends the program with a report at the first difference. */
+wb_answer attempt(struct call call);
+
+/* Holds the answer of the last call to what the rules say of it in so many figures. */
+void expect(wb_answer answer, uint32_t refusal, uint32_t first, uint32_t second);
+
+/* Ends the program with a report unless something holds. */
+void insist(int holds, const char *what);
+
+/* What is being tried, for the report; and the seed that the random numbers come from. */
+void begin_part(const char *name);
+void begin_compare(uint64_t seed);
+
+unsigned long calls_made(void);
+
+/* The table of answers seen for every call. Ends the program if one that the header names was never seen, or another one was. */
+void print_answers_seen(void);
+
+uint8_t *lent_bytes(enum buffer buffer);
+uint8_t *lend(enum buffer buffer, size_t size);
+
+#endif

@@ -1,0 +1,48 @@
+/* material.h: what the calls are tried on: sheets and their texts, engine rows, hostile numbers, and ways to damage a text. */
+#ifndef WILLOWBLINK_MATERIAL_H
+#define WILLOWBLINK_MATERIAL_H
+
+#include "willowblink.h"
+
+#define SHEET_NUMBERS 69
+#define FIRST_FITTING 45
+
+/* The place of some of a sheet's numbers. */
+enum { HULL_NUMBER = 0, LENGTH_NUMBER = 1, REFERENCE_NUMBER = 2, TESTED_NUMBER = 44 };
+
+/* The limits of a sheet's number, by its place, as a text may have them. */
+uint32_t lowest(int number);
+uint32_t highest(int number);
+
+uint32_t *numbers_of(wb_sheet *sheet);
+
+/* The base hull of the samples: 4500 by 1200, positions 5, not tested, declared 20000. */
+wb_sheet base_hull(void);
+
+/* A sheet within the limits: anything, at the limits, or one that a plate can be made of. */
+wb_sheet random_sheet(void);
+
+/* Texts of at most so many bytes are made and damaged here. */
+#define TEXT_ROOM 16000
+
+/* The text of a sheet, whose numbers may be anything; its size is the answer. */
+size_t text_of(const wb_sheet *sheet, uint8_t *text);
+
+/* Engine rows, rising, and their text. */
+void random_rows(uint32_t *powers, uint32_t *weights, size_t rows);
+size_t text_of_rows(const uint32_t *powers, const uint32_t *weights, size_t rows, uint8_t *text);
+
+/* Sheet and engine texts as the calls should be tried on: mostly right, else damaged in one to three ways. */
+size_t random_sheet_text(uint8_t *text);
+size_t random_engine_text(uint8_t *text);
+
+/* Changes that a systematic test makes too. Each answers the new size. */
+size_t replace_field(uint8_t *text, size_t size, size_t field, const char *by);
+size_t count_fields(const uint8_t *text, size_t size);
+size_t insert_bytes(uint8_t *text, size_t size, size_t at, const char *bytes);
+size_t delete_bytes(uint8_t *text, size_t size, size_t at, size_t count);
+
+/* Numbers at and beside every limit, the highest ones, and ones with a single bit too many. */
+uint32_t hostile_number(void);
+
+#endif

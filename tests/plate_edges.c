@@ -1,0 +1,438 @@
+/* plate_edges.c: loads, powers, persons and engine rows exactly at the bounds of the rules and as near beside them as a sheet can be. */
+#include "material.h"
+#include "parts.h"
+#include "steps.h"
+
+#include <string.h>
+
+#define GRAM 180000                    /* the rules count grams multiplied by this */
+#define KILOGRAM ((int64_t)900000000)  /* of load: five times that */
+#define KILOGRAM_LOW_POWER ((int64_t)600000000)
+
+static const uint32_t weightless_powers[] = {200000}, weightless[] = {0};
+
+/* ---- a sheet of any net weight that is wanted, to the last unit ---- */
+
+/* This reference length has no divisor in common with GRAM, so that its multiples leave every remainder. */
+#define PRIME_REFERENCE 2003
+#define FULL_STATION 37500
+
+/* The number whose product with the reference length leaves 1 over GRAM. */
+static int64_t inverse_of_reference(void)
+{
+    int64_t inverse = 1;
+    while (PRIME_REFERENCE * inverse % GRAM != 1)
+        inverse++;
+    return inverse;
+}
+
+static uint32_t take(int64_t *sum, int64_t factor)
+{
+    int64_t reading = *sum / factor < 2500 ? *sum / factor : 2500;
+    *sum -= factor * reading;
+    return (uint32_t)reading;
+}
+
+/* Readings of which the product is breadth times the sum. */
+static void fill_station(wb_station *station, uint32_t breadth, int64_t sum)
+{
+    station->b = breadth;
+    station->r = take(&sum, 4);
+    station->t = take(&sum, 4);
+    station->s = take(&sum, 2);
+    station->u = take(&sum, 2);
+    station->v = take(&sum, 2);
+    station->q = take(&sum, 1);
+    insist(sum == 0, "the test's station has no such product");
+}
+
+/* Z - GRAM * (M + factor * (fuel + machinery)) of the sheet becomes net: the stations give the remainder of a gram, the volumes the grams. */
+static void set_net(wb_sheet *sheet, int64_t net, int64_t factor)
+{
+    static int64_t inverse;
+    inverse = inverse ? inverse : inverse_of_reference();
+    int64_t sum = (net % GRAM + GRAM) % GRAM * inverse % GRAM, first = sum / 4 < FULL_STATION ? sum / 4 : FULL_STATION;
+    sheet->reference = PRIME_REFERENCE;
+    memset(sheet->station, 0, sizeof sheet->station);
+    fill_station(&sheet->station[0], 1, first);
+    fill_station(&sheet->station[3], 1, sum - 4 * first);
+    int64_t grams = (net - PRIME_REFERENCE * sum) / GRAM + sheet->bare + factor * ((int64_t)sheet->fuel + sheet->machinery);
+    if (grams > 5000000) {
+        fill_station(&sheet->station[2], 3600, FULL_STATION);
+        grams -= (int64_t)4 * 3600 * FULL_STATION * PRIME_REFERENCE / GRAM;
+    }
+    sheet->aft = grams > 0 ? (uint32_t)grams : 0;
+    sheet->well = grams < 0 ? (uint32_t)-grams : 0;
+}
+
+/* ---- loads ---- */
+
+static wb_sheet inboard_hull(void)
+{
+    wb_sheet sheet = base_hull();
+    sheet.outboard = 0;
+    sheet.fuel = 20000;
+    sheet.machinery = 50000;
+    return sheet;
+}
+
+static void expect_load_at(char plate, wb_sheet sheet, int64_t net, int64_t factor, int64_t load)
+{
+    sheet.positions = 24;
+    sheet.tested = 24;
+    set_net(&sheet, net, factor);
+    if (load < 1)
+        expect_plate(plate, &sheet, 12, 0, 0);
+    else if (plate == 'C' && load < 75)
+        expect_plate(plate, &sheet, 15, 0, 0);
+    else
+        expect_load(plate, &sheet, (uint32_t)load);
+}
+
+/* At a bound, below which the marked load is one less: there, and one unit and one gram on each side. */
+static void expect_step(char plate, wb_sheet sheet, int64_t bound, int64_t factor, int64_t load)
+{
+    expect_load_at(plate, sheet, bound, factor, load);
+    expect_load_at(plate, sheet, bound + 1, factor, load);
+    expect_load_at(plate, sheet, bound + GRAM, factor, load);
+    expect_load_at(plate, sheet, bound - 1, factor, load - 1);
+    expect_load_at(plate, sheet, bound - GRAM, factor, load - 1);
+}
+
+static void try_loads(void)
+{
+    static const int loads[] = {-900, -326, -2, -1, 0, 1, 2, 3, 75, 76, 250, 326, 1000, 1999, 2000};
+    wb_sheet outboard = base_hull(), low = base_hull(), inboard = inboard_hull();
+    begin_part("loads at halves and whole kilograms");
+    lend_rows(weightless_powers, weightless, 1);
+    low.declared = 1500;
+    for (size_t i = 0; i < sizeof loads / sizeof *loads; i++) {
+        expect_step('A', outboard, KILOGRAM * loads[i] - KILOGRAM / 2, 1, loads[i]);
+        expect_step('A', inboard, KILOGRAM * loads[i] - KILOGRAM / 2, 5, loads[i]);
+        expect_load_at('A', outboard, KILOGRAM * loads[i], 1, loads[i]);
+        expect_load_at('A', inboard, KILOGRAM * loads[i] - 1, 5, loads[i]);
+        expect_step('C', outboard, KILOGRAM * loads[i], 1, loads[i]);
+        expect_step('C', inboard, KILOGRAM * loads[i], 1, loads[i]);
+        expect_step('C', low, KILOGRAM_LOW_POWER * loads[i], 1, loads[i]);
+    }
+}
+
+/* What one number of the base hull adds to both loads, in kilograms. */
+static void expect_added(wb_sheet sheet, int number, uint32_t more, int a, int c)
+{
+    numbers_of(&sheet)[number] += more;
+    expect_load('A', &sheet, (uint32_t)(327 + a));
+    sheet.tested = 24;
+    expect_load('C', &sheet, (uint32_t)(326 + c));
+}
+
+/* Every number of the volume and the weights, one at a time. */
+static void try_shares(void)
+{
+    static const int lines[] = {4, 2, 4, 1}, depths[] = {1, 4, 2, 4, 2, 2}, grams[] = {10, -10, -10, -10, -10, -10};
+    wb_sheet outboard = base_hull(), inboard = base_hull();
+    begin_part("shares of each number in the loads");
+    inboard.outboard = 0;
+    lend_rows(weightless_powers, weightless, 1);
+    expect_added(outboard, REFERENCE_NUMBER, 120, 11, 11);
+    for (int station = 0; station < 4; station++) {
+        int first = 7 + 7 * station;
+        expect_added(outboard, first, 120, 4 * lines[station], 4 * lines[station]);
+        for (int depth = 0; depth < 6; depth++)
+            expect_added(outboard, first + 1 + depth, 225, depths[depth] * lines[station], depths[depth] * lines[station]);
+    }
+    for (int i = 0; i < 6; i++) {
+        int tanks = i >= 4; /* fuel and machinery */
+        expect_added(outboard, 35 + i, 50000, grams[i], grams[i]);
+        expect_added(inboard, 35 + i, 50000, tanks ? 5 * grams[i] : grams[i], grams[i]);
+    }
+    for (int line = 0; line < WB_FITTINGS; line++)
+        expect_added(outboard, FIRST_FITTING + line, 50000, -10, -10);
+}
+
+/* ---- powers ---- */
+
+/* The length and width of which the product is the nearest one not above, or not below, a number. The product is the answer. */
+static uint32_t set_product(wb_sheet *sheet, uint32_t wanted, int above)
+{
+    uint32_t best = 0;
+    for (uint32_t length = 2000; length <= 6000; length++) {
+        uint32_t width = above ? (wanted + length - 1) / length : wanted / length, product = length * width;
+        if (width < 500 || width > 3000 || (best && (above ? product >= best : product <= best)))
+            continue;
+        best = product;
+        sheet->length = length;
+        sheet->transom_width = width;
+    }
+    insist(best > 0, "the test's power factor has no length and width");
+    return best;
+}
+
+/* 0 watts stand for refusal 13. */
+static void expect_power_at(uint32_t p, int above, uint32_t flat, uint32_t watts)
+{
+    wb_sheet sheet = base_hull();
+    sheet.reference = 2000;
+    sheet.flat = flat;
+    set_product(&sheet, p, above);
+    for (sheet.remote = 0; sheet.remote < 2; sheet.remote++)
+        for (sheet.transom_height = 499; sheet.transom_height <= 500; sheet.transom_height++)
+            if (watts)
+                expect_power(&sheet, watts);
+            else
+                expect_plate('A', &sheet, 13, 0, 0);
+    sheet.remote = 0;
+    sheet.outboard = 0;
+    expect_power(&sheet, 0);
+}
+
+static void try_power_rows(void)
+{
+    static const uint32_t bounds[] = {2250000, 3300000, 3600000, 3900000, 4200000, 5000000};
+    static const uint32_t watts[] = {0, 1500, 3000, 4000, 5250, 7500, 12000};
+    wb_sheet sheet;
+    begin_part("power rows");
+    for (int row = 0; row < 6; row++) {
+        int last = row == 5;
+        insist(set_product(&sheet, bounds[row], 1) == bounds[row], "no length and width give a row's bound exactly");
+        expect_power_at(bounds[row], 1, 0, watts[row + 1]);
+        expect_power_at(bounds[row], 1, 1, watts[last ? row + 1 : row]);
+        expect_power_at(bounds[row] - 1, 0, 0, watts[row + 1]);
+        expect_power_at(bounds[row] - 1, 0, 1, watts[row]);
+        if (!last) {
+            expect_power_at(bounds[row] + 1, 1, 0, watts[row + 2]);
+            expect_power_at(bounds[row] + 1, 1, 1, watts[row + 1]);
+        }
+    }
+}
+
+/* One formula, factor * P/2000 - off: the last product that gives a multiple of 5000 watts, and the next, which gives the multiple after it. */
+static void try_formula(wb_sheet sheet, uint32_t factor, uint32_t off)
+{
+    int exact = 0;
+    for (uint32_t multiple = 0; multiple < 300000; multiple += 5000) {
+        uint64_t bound = (uint64_t)2000 * (multiple + off);
+        uint32_t p = (uint32_t)(bound / factor);
+        if (p > 18000000 || p < 5000000)
+            continue;
+        exact += set_product(&sheet, p, 0) == p && bound % factor == 0;
+        if (p > 5000000)
+            expect_power(&sheet, multiple);
+        if (p == 18000000)
+            continue;
+        set_product(&sheet, p + 1, 1);
+        expect_power(&sheet, multiple + 5000);
+    }
+    insist(exact > 0, "no power formula was tried at an exact multiple");
+}
+
+static void try_formulas(void)
+{
+    wb_sheet sheet = base_hull();
+    begin_part("power formulas");
+    sheet.reference = 2000;
+    for (sheet.flat = 0; sheet.flat < 2; sheet.flat++) {
+        uint32_t factor = sheet.flat ? 8 : 13, off = sheet.flat ? 11000 : 20000;
+        sheet.remote = 0;
+        sheet.transom_height = 500;
+        try_formula(sheet, factor, off);
+        sheet.remote = 1;
+        try_formula(sheet, 32, 67000);
+        sheet.transom_height = 499;
+        try_formula(sheet, factor, off);
+    }
+    /* just above the last row, where it is the formulas' turn */
+    set_product(&sheet, 5000001, 1);
+    sheet.flat = 0;
+    expect_power(&sheet, 15000);
+    sheet.flat = 1;
+    expect_power(&sheet, 10000);
+}
+
+/* ---- persons ---- */
+
+/* A live load is made of a marked load and an engine that weighs the rest. */
+static wb_answer persons_at(int64_t live, uint32_t positions, uint32_t tested)
+{
+    wb_sheet sheet = base_hull();
+    uint32_t power = 20000, load = live > 0 ? (uint32_t)(live / 1000 + 8) : 1, weight = (uint32_t)(1000 * (int64_t)load - live);
+    sheet.positions = positions;
+    sheet.tested = tested;
+    set_net(&sheet, KILOGRAM * load, 1);
+    lend_rows(&power, &weight, 1);
+    enter_alone(&sheet);
+    wb_answer trial = attempt((struct call){.kind = TRIAL_C, .desk = 3}), answer = attempt((struct call){.kind = PLATE_C});
+    expect(trial, answer.refusal, answer.first, answer.second);
+    insist(answer.refusal || answer.first == load, "the marked load is not the one that the test made");
+    return answer;
+}
+
+static void expect_persons(int64_t live, uint32_t positions, uint32_t tested, uint32_t persons)
+{
+    wb_answer answer = persons_at(live, positions, tested);
+    expect(answer, persons ? 0 : 15, answer.first, persons);
+}
+
+static void try_persons(void)
+{
+    begin_part("live loads");
+    for (uint32_t count = 0; count <= 26; count++) {
+        uint32_t capped = count < 24 ? count : 24, one_less = count > 25 ? 24 : count > 0 ? count - 1 : 0;
+        expect_persons(75000 * (int64_t)count, 24, 24, capped);
+        expect_persons(75000 * (int64_t)count + 1, 24, 24, capped);
+        expect_persons(75000 * (int64_t)count - 1, 24, 24, one_less);
+        expect_persons(75000 * (int64_t)count, 24, 1, count > 0);
+        expect_persons(75000 * (int64_t)count, 1, 24, count > 0);
+        if (count >= 4)
+            expect_persons(75000 * (int64_t)count, 24, 0, capped);
+    }
+    expect_persons(250000, 24, 0, 3);
+    expect_persons(250001, 2, 0, 2);
+    expect_persons(249999, 24, 1, 1);
+    expect(persons_at(249999, 24, 0), 14, 0, 0);
+    expect(persons_at(75000, 24, 0), 14, 0, 0);
+    for (int64_t live = -1; live > -1000000; live -= 74999) {
+        expect(persons_at(live, 24, 0), 14, 0, 0);
+        expect(persons_at(live, 24, 24), 15, 0, 0);
+    }
+}
+
+/* ---- engine rows ---- */
+
+/* Rows at the declared power and beside it, of which the weights leave 12, 8 or 4 persons of a load of 1000. */
+static void try_reaching_rows(void)
+{
+    static const uint32_t weights[] = {100000, 400000, 700000}, persons[] = {12, 8, 4}, declared[] = {2, 1500, 1501, 20000, 199999};
+    begin_part("engine rows and the declared power");
+    for (size_t i = 0; i < sizeof declared / sizeof *declared; i++) {
+        wb_sheet sheet = base_hull();
+        uint32_t powers[3] = {declared[i] - 1, declared[i], declared[i] + 1};
+        sheet.positions = 24;
+        sheet.declared = declared[i];
+        set_net(&sheet, (declared[i] > 1500 ? KILOGRAM : KILOGRAM_LOW_POWER) * 1000, 1);
+        for (size_t first = 0; first < 3; first++)
+            for (size_t count = 1; first + count <= 3; count++) {
+                size_t reaching = first > 0 ? first : 1;
+                lend_rows(powers + first, weights + first, count);
+                if (first + count <= 1)
+                    expect_plate('C', &sheet, 11, 0, 0);
+                else
+                    expect_plate('C', &sheet, 0, 1000, persons[reaching]);
+            }
+        sheet.outboard = 0;
+        lend_rows(powers, weights, 1);
+        expect_plate('C', &sheet, 0, 1000, 13);
+    }
+}
+
+static void try_no_declared_power(void)
+{
+    static const uint32_t power = 1, weight = 1000000, top = 200000;
+    wb_sheet sheet = base_hull();
+    sheet.positions = 24;
+    sheet.declared = 0;
+    set_net(&sheet, KILOGRAM_LOW_POWER * 1000, 1);
+    lend_rows(&power, &weight, 1);
+    expect_plate('C', &sheet, 0, 1000, 13);
+    sheet.declared = 1;
+    sheet.tested = 1;
+    expect_plate('C', &sheet, 15, 0, 0);
+    sheet.declared = 200000;
+    set_net(&sheet, KILOGRAM * 1075, 1);
+    expect_plate('C', &sheet, 11, 0, 0);
+    lend_rows(&top, &weight, 1);
+    expect_plate('C', &sheet, 0, 1075, 1);
+}
+
+/* A number of the rows changed, and what plate C then answers of a hull that it would otherwise accept. */
+static void expect_rows(size_t rows, enum buffer buffer, size_t at, uint32_t number, uint32_t refusal)
+{
+    uint32_t powers[41], weights[41];
+    for (uint32_t i = 0; i < rows; i++) {
+        powers[i] = 199000 + 10 * i;
+        weights[i] = 1000 * i;
+    }
+    (buffer == POWERS ? powers : weights)[at] = number;
+    lend_rows(powers, weights, rows);
+    wb_answer plate = attempt((struct call){.kind = PLATE_C}), trial = attempt((struct call){.kind = TRIAL_C, .desk = 3});
+    expect(plate, refusal, plate.first, plate.second);
+    expect(trial, refusal, plate.first, plate.second);
+}
+
+static void try_bad_rows(void)
+{
+    wb_sheet sheet = base_hull();
+    begin_part("engine rows, right and wrong");
+    sheet.outboard = 0; /* the rows are judged where they are not needed too */
+    enter_alone(&sheet);
+    for (uint32_t rows = 1; rows <= 41; rows++) {
+        uint32_t last = rows - 1, over = rows > 40 ? 10 : 0;
+        expect_rows(rows, WEIGHTS, last, 1000000, over);
+        expect_rows(rows, WEIGHTS, last, 1000001, 10);
+        expect_rows(rows, WEIGHTS, 0, 0xFFFFFFFF, 10);
+        expect_rows(rows, POWERS, last, 200000, over);
+        expect_rows(rows, POWERS, last, 200001, 10);
+        expect_rows(rows, POWERS, last, 0xFFFFFFFF, 10);
+        expect_rows(rows, POWERS, 0, 0, 10);
+        expect_rows(rows, POWERS, 0, 1, over);
+        if (rows == 1)
+            continue;
+        expect_rows(rows, POWERS, last, 199000 + 10 * (last - 1), 10);
+        expect_rows(rows, POWERS, last, 199000 + 10 * (last - 1) + 1, over);
+        expect_rows(rows, POWERS, rows / 2, 199000 + 10 * (rows / 2) - 10, 10);
+    }
+}
+
+static void try_unequal_rows(void)
+{
+    static const size_t sizes[][2] = {{0, 0}, {0, 1}, {1, 0}, {1, 2}, {2, 1}, {40, 39}, {39, 40}, {41, 40}, {40, 41}, {41, 41}, {64, 64}, {40, 0}};
+    for (size_t i = 0; i < sizeof sizes / sizeof *sizes; i++) {
+        lend_slices(sizes[i][0], sizes[i][1]);
+        for (uint32_t j = 0; j < 64; j++) {
+            lent[POWERS].words[j] = 1000 + j;
+            lent[WEIGHTS].words[j] = j;
+        }
+        expect(attempt((struct call){.kind = PLATE_C}), 10, 0, 0);
+        expect(attempt((struct call){.kind = TRIAL_C, .desk = 3}), 10, 0, 0);
+    }
+}
+
+/* ---- the order of the plates' refusals, two at a time ---- */
+
+static void try_plate_order(void)
+{
+    static const uint32_t power = 19999, weight = 1000000;
+    wb_sheet sheet = base_hull();
+    begin_part("order of the plates' refusals");
+    sheet.flat = 1;
+    sheet.length = sheet.reference = 2000;
+    sheet.transom_width = 1000;
+    sheet.bare = 2000000;
+    sheet.tested = 0;
+    lend_slices(0, 0);
+    expect_plate('A', &sheet, 12, 0, 0); /* and not 13 */
+    expect_plate('C', &sheet, 10, 0, 0); /* and not 12 */
+    lend_rows(&power, &weight, 1);
+    expect_plate('C', &sheet, 12, 0, 0); /* and not 11 */
+    sheet.bare = 1;
+    expect_plate('A', &sheet, 13, 0, 0);
+    expect_plate('C', &sheet, 11, 0, 0); /* and not 14 */
+    sheet.declared = 19999;
+    expect_plate('C', &sheet, 14, 0, 0); /* and not 15 */
+    sheet.tested = 1;
+    expect_plate('C', &sheet, 15, 0, 0);
+}
+
+void try_plate_edges(void)
+{
+    try_loads();
+    try_shares();
+    try_power_rows();
+    try_formulas();
+    try_persons();
+    try_reaching_rows();
+    try_no_declared_power();
+    try_bad_rows();
+    try_unequal_rows();
+    try_plate_order();
+}

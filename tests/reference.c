@@ -1,0 +1,596 @@
+/*
+ * reference.c: a second opinion on the sixteen calls, in plain C. The rules are docs/RULES.md, the layout of the memory docs/REGISTER.md.
+ *
+ * Nothing of the library is used, and nothing is clever: each part stands in the order of the rules, so that the two can be read side by side.
+ */
+#include "reference.h"
+
+#include <string.h>
+
+/* ---- the sheet: 68 words in the order of the text, without the HULL number ---- */
+
+enum { LENGTH, REFERENCE, WIDTH, HEIGHT, FLAT, REMOTE, STATIONS, AFT = STATIONS + 4 * 7, WELL, FLOODING, BARE, FUEL, MACHINERY, OUTBOARD, DECLARED,
+       POSITIONS, TESTED, FITTINGS, SHEET_WORDS = FITTINGS + WB_FITTINGS };
+
+#define HIGHEST_HULL 15
+#define HEAVIEST_FITTING 500000
+
+struct limits {
+    uint32_t low, high;
+};
+
+#define STATION_LIMITS {0, 4000}, {0, 2500}, {0, 2500}, {0, 2500}, {0, 2500}, {0, 2500}, {0, 2500}
+
+static const struct limits sheet_limits[FITTINGS] = {
+    {2000, 6000}, {2000, 6000}, {500, 3000}, {200, 900}, {0, 1}, {0, 1},
+    STATION_LIMITS, STATION_LIMITS, STATION_LIMITS, STATION_LIMITS,
+    {0, 5000000}, {0, 5000000}, {0, 5000000},
+    {1, 2000000}, {0, 500000}, {0, 500000},
+    {0, 1}, {0, 200000},
+    {1, 24}, {0, 24}, /* 0 stands for not tested; a text may not have it as a number */
+};
+
+/* The lines from FORM to SEAT. */
+static const struct {
+    const char *tag;
+    int fields;
+} lines[] = {
+    {"FORM\t", 6}, {"STN\tQ\t", 7}, {"STN\tR\t", 7}, {"STN\tS\t", 7}, {"STN\tT\t", 7}, {"VOL\t", 3}, {"MASS\t", 3}, {"PWR\t", 2}, {"SEAT\t", 2},
+};
+
+#define LINES (sizeof lines / sizeof *lines)
+
+static int sheet_within_limits(const uint32_t *sheet)
+{
+    for (int i = 0; i < FITTINGS; i++)
+        if (sheet[i] < sheet_limits[i].low || sheet[i] > sheet_limits[i].high)
+            return 0;
+    for (int i = FITTINGS; i < SHEET_WORDS; i++)
+        if (sheet[i] > HEAVIEST_FITTING)
+            return 0;
+    return sheet[REFERENCE] <= sheet[LENGTH];
+}
+
+/* ---- answers ---- */
+
+static wb_answer refused(uint32_t number)
+{
+    wb_answer answer = {number, 0, 0, 0};
+    return answer;
+}
+
+static wb_answer accepted(uint32_t first, uint32_t second)
+{
+    wb_answer answer = {WB_ACCEPTED, first, second, 0};
+    return answer;
+}
+
+/* ---- reading texts ---- */
+
+#define LONGEST_TEXT 4096
+#define MOST_DIGITS 10
+
+struct reader {
+    const uint8_t *at, *end;
+};
+
+static int read_tag(struct reader *text, const char *tag)
+{
+    size_t size = strlen(tag);
+    if ((size_t)(text->end - text->at) < size || memcmp(text->at, tag, size) != 0)
+        return 0;
+    text->at += size;
+    return 1;
+}
+
+/* A number with the byte that must end it: its form is judged before its limits. */
+static uint32_t read_number(struct reader *text, uint8_t ender, uint32_t low, uint32_t high, uint32_t *number)
+{
+    const uint8_t *start = text->at, *at = start;
+    uint64_t value = 0;
+    while (at < text->end && at - start <= MOST_DIGITS && *at >= '0' && *at <= '9')
+        value = 10 * value + (uint64_t)(*at++ - '0');
+    if (at == start || at - start > MOST_DIGITS || (*start == '0' && at - start > 1))
+        return WB_BROKEN_LINE;
+    if (at == text->end || *at != ender)
+        return WB_BROKEN_LINE;
+    if (value < low || value > high)
+        return WB_OUTSIDE_LIMITS;
+    text->at = at + 1;
+    *number = (uint32_t)value;
+    return WB_ACCEPTED;
+}
+
+/* The lines from FORM to SEAT into the first words of a sheet. */
+static uint32_t read_lines(struct reader *text, uint32_t *sheet)
+{
+    int word = 0;
+    for (size_t line = 0; line < LINES; line++) {
+        if (!read_tag(text, lines[line].tag))
+            return WB_BROKEN_LINE;
+        for (int field = 1; field <= lines[line].fields; field++, word++) {
+            uint8_t ender = field == lines[line].fields ? '\n' : '\t';
+            uint32_t low = word == TESTED ? 1 : sheet_limits[word].low;
+            uint32_t high = word == REFERENCE ? sheet[LENGTH] : sheet_limits[word].high;
+            if (word == TESTED && read_tag(text, "-\n")) {
+                sheet[TESTED] = 0;
+                continue;
+            }
+            uint32_t fault = read_number(text, ender, low, high, &sheet[word]);
+            if (fault)
+                return fault;
+        }
+    }
+    return WB_ACCEPTED;
+}
+
+/* The FIT lines, their numbers rising, and END. */
+static uint32_t read_fittings(struct reader *text, uint32_t *fittings)
+{
+    uint32_t line = 0;
+    memset(fittings, 0, WB_FITTINGS * sizeof *fittings);
+    for (int count = 0; !read_tag(text, "END\n"); count++) {
+        if (count == WB_FITTINGS || !read_tag(text, "FIT\t"))
+            return WB_BROKEN_LINE;
+        uint32_t fault = read_number(text, '\t', line + 1, WB_FITTINGS, &line);
+        if (!fault)
+            fault = read_number(text, '\n', 1, HEAVIEST_FITTING, &fittings[line - 1]);
+        if (fault)
+            return fault;
+    }
+    return WB_ACCEPTED;
+}
+
+/* A whole text into the HULL number and the 68 words after it. */
+static uint32_t read_text(const uint8_t *bytes, size_t size, uint32_t *numbers)
+{
+    if (size > LONGEST_TEXT)
+        return WB_BROKEN_LINE;
+    struct reader text = {bytes, bytes + size};
+    if (!read_tag(&text, "HULL\t"))
+        return WB_BROKEN_LINE;
+    uint32_t fault = read_number(&text, '\n', 0, HIGHEST_HULL, &numbers[0]);
+    if (!fault)
+        fault = read_lines(&text, numbers + 1);
+    if (!fault)
+        fault = read_fittings(&text, numbers + 1 + FITTINGS);
+    if (!fault && text.at != text.end)
+        fault = WB_BROKEN_LINE;
+    return fault;
+}
+
+/* ---- writing texts ---- */
+
+static uint8_t *write_tag(uint8_t *at, const char *tag)
+{
+    while (*tag)
+        *at++ = (uint8_t)*tag++;
+    return at;
+}
+
+static uint8_t *write_number(uint8_t *at, uint32_t number, uint8_t ender)
+{
+    uint8_t digits[MOST_DIGITS];
+    int count = 0;
+    do
+        digits[count++] = (uint8_t)('0' + number % 10);
+    while ((number /= 10) > 0);
+    while (count > 0)
+        *at++ = digits[--count];
+    *at++ = ender;
+    return at;
+}
+
+/* The text goes to a buffer of our own first, since an output that is too short must stay as it was. */
+static wb_answer write_text(uint32_t hull, const uint32_t *sheet, uint8_t *out, size_t out_len)
+{
+    uint8_t text[WB_SHEET_TEXT], *at = text;
+    int word = 0;
+    at = write_number(write_tag(at, "HULL\t"), hull, '\n');
+    for (size_t line = 0; line < LINES; line++) {
+        at = write_tag(at, lines[line].tag);
+        for (int field = 1; field <= lines[line].fields; field++, word++)
+            if (word == TESTED && sheet[TESTED] == 0)
+                at = write_tag(at, "-\n");
+            else
+                at = write_number(at, sheet[word], field == lines[line].fields ? '\n' : '\t');
+    }
+    for (uint32_t line = 1; line <= WB_FITTINGS; line++)
+        if (sheet[FITTINGS + line - 1] > 0)
+            at = write_number(write_number(write_tag(at, "FIT\t"), line, '\t'), sheet[FITTINGS + line - 1], '\n');
+    at = write_tag(at, "END\n");
+    size_t size = (size_t)(at - text);
+    if (out_len < size)
+        return refused(WB_NO_ROOM);
+    memcpy(out, text, size);
+    return accepted((uint32_t)size, 0);
+}
+
+/* ---- volume and weights ---- */
+
+/* Every figure stays far within 64 bits: the greatest water is 10,800,000,000,000, and the rest is less. */
+
+static int64_t floor_div(int64_t number, int64_t by)
+{
+    int64_t quotient = number / by;
+    return number % by < 0 ? quotient - 1 : quotient;
+}
+
+/* Fifteen times a station's area. */
+static int64_t station_product(const uint32_t *station)
+{
+    const uint32_t *depth = station + 1;
+    return (int64_t)station[0] * (depth[0] + 4 * depth[1] + 2 * depth[2] + 4 * depth[3] + 2 * depth[4] + 2 * depth[5]);
+}
+
+/* Z: grams of water multiplied by 180000. */
+static int64_t water(const uint32_t *sheet)
+{
+    int64_t q = station_product(sheet + STATIONS), r = station_product(sheet + STATIONS + 7);
+    int64_t s = station_product(sheet + STATIONS + 14), t = station_product(sheet + STATIONS + 21);
+    int64_t n = sheet[REFERENCE] * (4 * q + 2 * r + 4 * s + t);
+    return n + 180000 * ((int64_t)sheet[AFT] - sheet[WELL] - sheet[FLOODING]);
+}
+
+/* M: bare boat and fittings. */
+static int64_t boat(const uint32_t *sheet)
+{
+    int64_t grams = sheet[BARE];
+    for (int i = FITTINGS; i < SHEET_WORDS; i++)
+        grams += sheet[i];
+    return grams;
+}
+
+static int64_t tanks_and_machinery(const uint32_t *sheet)
+{
+    return (int64_t)sheet[FUEL] + sheet[MACHINERY];
+}
+
+/* ---- plate A ---- */
+
+static int64_t load_a(const uint32_t *sheet)
+{
+    int64_t tanks_factor = sheet[OUTBOARD] ? 180000 : 900000;
+    int64_t load = water(sheet) - 180000 * boat(sheet) - tanks_factor * tanks_and_machinery(sheet);
+    return floor_div(load + 450000000, 900000000); /* the nearest, a half upward */
+}
+
+/* Above a power factor of 5000000: worked in parts of 1/2000 watt, so that 6.5 P/1000 is whole, and raised to 5000 watts. */
+static uint32_t formula_power(const uint32_t *sheet, int64_t p)
+{
+    int64_t parts;
+    if (sheet[REMOTE] && sheet[HEIGHT] >= 500)
+        parts = 32 * p - 2000 * 67000;
+    else if (sheet[FLAT])
+        parts = 8 * p - 2000 * 11000;
+    else
+        parts = 13 * p - 2000 * 20000;
+    int64_t step = 2000 * 5000;
+    return (uint32_t)((parts + step - 1) / step * 5000);
+}
+
+static uint32_t power_a(const uint32_t *sheet, uint32_t *watts)
+{
+    static const struct {
+        uint32_t up_to, watts;
+    } rows[] = {{2250000, 1500}, {3300000, 3000}, {3600000, 4000}, {3900000, 5250}, {4200000, 7500}, {5000000, 12000}};
+    uint32_t p = sheet[LENGTH] * sheet[WIDTH];
+    int row = 0;
+    *watts = 0; /* an inboard's power is set by a trial */
+    if (!sheet[OUTBOARD])
+        return WB_ACCEPTED;
+    if (p > 5000000) {
+        *watts = formula_power(sheet, p);
+        return WB_ACCEPTED;
+    }
+    while (p > rows[row].up_to)
+        row++;
+    if (sheet[FLAT] && p < 5000000)
+        row--;
+    if (row < 0)
+        return WB_NO_POWER;
+    *watts = rows[row].watts;
+    return WB_ACCEPTED;
+}
+
+static wb_answer plate_a(const uint32_t *sheet)
+{
+    int64_t load = load_a(sheet);
+    if (load < 1)
+        return refused(WB_NO_LOAD);
+    uint32_t watts, fault = power_a(sheet, &watts);
+    return fault ? refused(fault) : accepted((uint32_t)load, watts);
+}
+
+/* ---- plate C ---- */
+
+static int rows_good(const uint32_t *powers, size_t powers_len, const uint32_t *weights, size_t weights_len)
+{
+    if (powers_len != weights_len || powers_len == 0 || powers_len > WB_ENGINE_ROWS)
+        return 0;
+    uint32_t before = 0;
+    for (size_t i = 0; i < powers_len; i++) {
+        if (powers[i] <= before || powers[i] > 200000 || weights[i] > 1000000)
+            return 0;
+        before = powers[i];
+    }
+    return 1;
+}
+
+static int64_t load_c(const uint32_t *sheet)
+{
+    int64_t x = water(sheet) - 180000 * (boat(sheet) + tanks_and_machinery(sheet));
+    return sheet[DECLARED] > 1500 ? floor_div(x, 900000000) : floor_div(3 * x, 1800000000);
+}
+
+static uint32_t engine_weight(const uint32_t *sheet, const uint32_t *powers, const uint32_t *weights, size_t rows, uint32_t *grams)
+{
+    *grams = 0;
+    if (!sheet[OUTBOARD] || sheet[DECLARED] == 0)
+        return WB_ACCEPTED;
+    for (size_t i = 0; i < rows; i++)
+        if (powers[i] >= sheet[DECLARED]) {
+            *grams = weights[i];
+            return WB_ACCEPTED;
+        }
+    return WB_NO_ROW;
+}
+
+static wb_answer plate_c(const uint32_t *sheet, const uint32_t *powers, size_t powers_len, const uint32_t *weights, size_t weights_len)
+{
+    if (!rows_good(powers, powers_len, weights, weights_len))
+        return refused(WB_BAD_ROWS);
+    int64_t load = load_c(sheet);
+    if (load < 1)
+        return refused(WB_NO_LOAD);
+    uint32_t engine, fault = engine_weight(sheet, powers, weights, powers_len, &engine);
+    if (fault)
+        return refused(fault);
+    int64_t live = 1000 * load - engine;
+    if (live < 250000 && sheet[TESTED] == 0)
+        return refused(WB_UNTESTED);
+    int64_t persons = floor_div(live, 75000);
+    if (persons > sheet[POSITIONS])
+        persons = sheet[POSITIONS];
+    if (sheet[TESTED] > 0 && persons > sheet[TESTED])
+        persons = sheet[TESTED];
+    return persons < 1 ? refused(WB_NO_PERSONS) : accepted((uint32_t)load, (uint32_t)persons);
+}
+
+/* ---- the register's memory ---- */
+
+#define HIGHEST_EDIT 65535
+
+/* A hull's slot: its edit number, then its sheet. A desk's slot: its mark, hull and opening number, then the draft's sheet. */
+enum { EDIT, HULL_SHEET, HULL_SLOT = HULL_SHEET + SHEET_WORDS };
+enum { HELD, DRAFT_HULL, OPENING, DRAFT_SHEET, DESK_SLOT = DRAFT_SHEET + SHEET_WORDS };
+
+static size_t hull_at(uint32_t hull)
+{
+    return 1 + (size_t)HULL_SLOT * hull;
+}
+
+static size_t desk_at(uint32_t desk)
+{
+    return hull_at(WB_HULLS) + (size_t)DESK_SLOT * desk;
+}
+
+static int draft_formed(const uint32_t *mem, const uint32_t *draft)
+{
+    return draft[DRAFT_HULL] < mem[0] && draft[OPENING] <= mem[hull_at(draft[DRAFT_HULL]) + EDIT] && sheet_within_limits(draft + DRAFT_SHEET);
+}
+
+static int formed(const uint32_t *mem, size_t mem_len)
+{
+    if (mem_len != WB_REGISTER_WORDS || mem[0] > WB_HULLS)
+        return 0;
+    for (uint32_t hull = 0; hull < mem[0]; hull++) {
+        const uint32_t *slot = mem + hull_at(hull);
+        if (slot[EDIT] > HIGHEST_EDIT || !sheet_within_limits(slot + HULL_SHEET))
+            return 0;
+    }
+    for (uint32_t desk = 0; desk < WB_DESKS; desk++) {
+        const uint32_t *slot = mem + desk_at(desk);
+        if (slot[HELD] > 1 || (slot[HELD] == 1 && !draft_formed(mem, slot)))
+            return 0;
+    }
+    return 1;
+}
+
+/* Refusals 1 and 5. */
+static uint32_t judge_hull(const uint32_t *mem, size_t mem_len, uint32_t hull)
+{
+    if (!formed(mem, mem_len))
+        return WB_BAD_MEMORY;
+    return hull < mem[0] ? WB_ACCEPTED : WB_NO_HULL;
+}
+
+/* Refusals 1, 6 and 7. */
+static uint32_t judge_draft(const uint32_t *mem, size_t mem_len, uint32_t desk)
+{
+    if (!formed(mem, mem_len))
+        return WB_BAD_MEMORY;
+    if (desk >= WB_DESKS)
+        return WB_NO_DESK;
+    return mem[desk_at(desk) + HELD] ? WB_ACCEPTED : WB_NO_DRAFT;
+}
+
+static int is_line(uint32_t line)
+{
+    return line >= 1 && line <= WB_FITTINGS;
+}
+
+/* ---- the calls ---- */
+
+wb_answer ref_fresh(uint32_t *mem, size_t mem_len)
+{
+    if (mem_len != WB_REGISTER_WORDS)
+        return refused(WB_BAD_MEMORY);
+    memset(mem, 0, WB_REGISTER_WORDS * sizeof *mem);
+    return accepted(0, 0);
+}
+
+wb_answer ref_new_hull(uint32_t *mem, size_t mem_len, const uint8_t *text, size_t text_len)
+{
+    if (!formed(mem, mem_len))
+        return refused(WB_BAD_MEMORY);
+    if (mem[0] == WB_HULLS)
+        return refused(WB_FULL);
+    uint32_t numbers[1 + SHEET_WORDS], fault = read_text(text, text_len, numbers);
+    if (fault)
+        return refused(fault);
+    uint32_t hull = mem[0]++, *slot = mem + hull_at(hull);
+    slot[EDIT] = 0;
+    memcpy(slot + HULL_SHEET, numbers + 1, SHEET_WORDS * sizeof *mem);
+    return accepted(hull, 0);
+}
+
+wb_answer ref_open(uint32_t *mem, size_t mem_len, uint32_t desk, uint32_t hull)
+{
+    if (!formed(mem, mem_len))
+        return refused(WB_BAD_MEMORY);
+    if (desk >= WB_DESKS)
+        return refused(WB_NO_DESK);
+    if (hull >= mem[0])
+        return refused(WB_NO_HULL);
+    const uint32_t *from = mem + hull_at(hull);
+    uint32_t *draft = mem + desk_at(desk);
+    draft[HELD] = 1;
+    draft[DRAFT_HULL] = hull;
+    draft[OPENING] = from[EDIT];
+    memcpy(draft + DRAFT_SHEET, from + HULL_SHEET, SHEET_WORDS * sizeof *mem);
+    return accepted(from[EDIT], 0);
+}
+
+wb_answer ref_put(uint32_t *mem, size_t mem_len, uint32_t desk, uint32_t line, uint32_t weight)
+{
+    uint32_t fault = judge_draft(mem, mem_len, desk);
+    if (fault)
+        return refused(fault);
+    if (!is_line(line) || weight < 1 || weight > HEAVIEST_FITTING)
+        return refused(WB_OUTSIDE_LIMITS);
+    mem[desk_at(desk) + DRAFT_SHEET + FITTINGS + line - 1] = weight;
+    return accepted(0, 0);
+}
+
+wb_answer ref_take_off(uint32_t *mem, size_t mem_len, uint32_t desk, uint32_t line)
+{
+    uint32_t fault = judge_draft(mem, mem_len, desk);
+    if (fault)
+        return refused(fault);
+    if (!is_line(line))
+        return refused(WB_OUTSIDE_LIMITS);
+    uint32_t *fitting = mem + desk_at(desk) + DRAFT_SHEET + FITTINGS + line - 1;
+    if (*fitting == 0)
+        return refused(WB_EMPTY_LINE);
+    *fitting = 0;
+    return accepted(0, 0);
+}
+
+wb_answer ref_replace(uint32_t *mem, size_t mem_len, uint32_t desk, const uint8_t *text, size_t text_len)
+{
+    uint32_t numbers[1 + SHEET_WORDS], fault = judge_draft(mem, mem_len, desk);
+    if (!fault)
+        fault = read_text(text, text_len, numbers);
+    if (fault)
+        return refused(fault);
+    memcpy(mem + desk_at(desk) + DRAFT_SHEET, numbers + 1, SHEET_WORDS * sizeof *mem);
+    return accepted(0, 0);
+}
+
+wb_answer ref_trial_a(const uint32_t *mem, size_t mem_len, uint32_t desk)
+{
+    uint32_t fault = judge_draft(mem, mem_len, desk);
+    return fault ? refused(fault) : plate_a(mem + desk_at(desk) + DRAFT_SHEET);
+}
+
+wb_answer ref_trial_c(const uint32_t *mem, size_t mem_len, uint32_t desk, const uint32_t *powers, size_t powers_len, const uint32_t *weights,
+                      size_t weights_len)
+{
+    uint32_t fault = judge_draft(mem, mem_len, desk);
+    return fault ? refused(fault) : plate_c(mem + desk_at(desk) + DRAFT_SHEET, powers, powers_len, weights, weights_len);
+}
+
+wb_answer ref_save(uint32_t *mem, size_t mem_len, uint32_t desk)
+{
+    uint32_t fault = judge_draft(mem, mem_len, desk);
+    if (fault)
+        return refused(fault);
+    uint32_t *draft = mem + desk_at(desk), *hull = mem + hull_at(draft[DRAFT_HULL]);
+    if (hull[EDIT] != draft[OPENING])
+        return refused(WB_EDITED_SINCE);
+    if (hull[EDIT] == HIGHEST_EDIT)
+        return refused(WB_EDITS_SPENT);
+    hull[EDIT]++;
+    memcpy(hull + HULL_SHEET, draft + DRAFT_SHEET, SHEET_WORDS * sizeof *mem);
+    draft[HELD] = 0;
+    return accepted(hull[EDIT], 0);
+}
+
+wb_answer ref_drop(uint32_t *mem, size_t mem_len, uint32_t desk)
+{
+    uint32_t fault = judge_draft(mem, mem_len, desk);
+    if (fault)
+        return refused(fault);
+    mem[desk_at(desk) + HELD] = 0;
+    return accepted(0, 0);
+}
+
+wb_answer ref_plate_a(const uint32_t *mem, size_t mem_len, uint32_t hull)
+{
+    uint32_t fault = judge_hull(mem, mem_len, hull);
+    return fault ? refused(fault) : plate_a(mem + hull_at(hull) + HULL_SHEET);
+}
+
+wb_answer ref_plate_c(const uint32_t *mem, size_t mem_len, uint32_t hull, const uint32_t *powers, size_t powers_len, const uint32_t *weights,
+                      size_t weights_len)
+{
+    uint32_t fault = judge_hull(mem, mem_len, hull);
+    return fault ? refused(fault) : plate_c(mem + hull_at(hull) + HULL_SHEET, powers, powers_len, weights, weights_len);
+}
+
+wb_answer ref_write_hull(const uint32_t *mem, size_t mem_len, uint32_t hull, uint8_t *out, size_t out_len)
+{
+    uint32_t fault = judge_hull(mem, mem_len, hull);
+    return fault ? refused(fault) : write_text(hull, mem + hull_at(hull) + HULL_SHEET, out, out_len);
+}
+
+wb_answer ref_read_sheet(const uint8_t *text, size_t text_len, wb_sheet *sheet)
+{
+    uint32_t numbers[1 + SHEET_WORDS], fault = read_text(text, text_len, numbers);
+    if (fault)
+        return refused(fault);
+    memcpy(sheet, numbers, sizeof *sheet);
+    return accepted(0, 0);
+}
+
+wb_answer ref_write_sheet(const wb_sheet *sheet, uint8_t *out, size_t out_len)
+{
+    const uint32_t *numbers = (const uint32_t *)sheet; /* a wb_sheet is its 69 numbers and nothing else */
+    if (numbers[0] > HIGHEST_HULL || !sheet_within_limits(numbers + 1))
+        return refused(WB_OUTSIDE_LIMITS);
+    return write_text(numbers[0], numbers + 1, out, out_len);
+}
+
+wb_answer ref_read_engines(const uint8_t *text, size_t text_len, uint32_t *powers, size_t powers_len, uint32_t *weights, size_t weights_len)
+{
+    uint32_t power[WB_ENGINE_ROWS], weight[WB_ENGINE_ROWS], before = 0;
+    size_t rows = 0;
+    if (text_len > LONGEST_TEXT || text_len == 0)
+        return refused(WB_BROKEN_LINE);
+    for (struct reader at = {text, text + text_len}; at.at < at.end; rows++) {
+        if (rows == WB_ENGINE_ROWS || !read_tag(&at, "ENG\t"))
+            return refused(WB_BROKEN_LINE);
+        uint32_t fault = read_number(&at, '\t', before + 1, 200000, &power[rows]);
+        if (!fault)
+            fault = read_number(&at, '\n', 0, 1000000, &weight[rows]);
+        if (fault)
+            return refused(fault);
+        before = power[rows];
+    }
+    if (powers_len < rows || weights_len < rows)
+        return refused(WB_NO_ROOM);
+    memcpy(powers, power, rows * sizeof *power);
+    memcpy(weights, weight, rows * sizeof *weight);
+    return accepted((uint32_t)rows, 0);
+}

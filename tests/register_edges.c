@@ -1,0 +1,325 @@
+/* register_edges.c: memories with one word changed, wrong sizes, the last edit numbers, and the order of the register's refusals. */
+#include "material.h"
+#include "parts.h"
+#include "random.h"
+#include "steps.h"
+
+#include <string.h>
+
+/* The layout of docs/REGISTER.md. */
+#define HULL_AT(hull) (1 + 69 * (hull))
+#define DESK_AT(desk) (1105 + 71 * (desk))
+
+static uint32_t *const mem = lent[MEMORY].words;
+
+/* ---- a memory to change ---- */
+
+/* So many hulls, each saved three times, and so many drafts, opened before the last save; what is free holds anything. */
+static void build(uint32_t hulls, uint32_t drafts)
+{
+    start_fresh();
+    for (uint32_t word = 1; word < WB_REGISTER_WORDS; word++)
+        if ((word - 1105) % 71 != 0 || word < 1105)
+            mem[word] = random_word();
+    for (uint32_t hull = 0; hull < hulls; hull++) {
+        wb_sheet sheet = random_sheet();
+        lend_text_of(&sheet);
+        expect(attempt((struct call){.kind = NEW_HULL}), 0, hull, 0);
+        insist(mem[HULL_AT(hull)] == 0, "a new hull's edit number is not 0");
+        mem[HULL_AT(hull)] = 3;
+    }
+    for (uint32_t desk = 0; desk < drafts; desk++) {
+        expect(attempt((struct call){.kind = OPEN, .desk = desk, .hull = (desk + 1) % hulls}), 0, 3, 0);
+        mem[DESK_AT(desk) + 2] = 2;
+    }
+}
+
+/* One of the twelve calls that judge the memory, with numbers that are right where the memory allows it. */
+static wb_answer judging_call(uint32_t turn)
+{
+    static const enum kind judging[] = {NEW_HULL, OPEN, PUT, TAKE_OFF, REPLACE, TRIAL_A, TRIAL_C, SAVE, DROP, PLATE_A, PLATE_C, WRITE_HULL};
+    struct call call = {.kind = judging[turn % 12], .desk = turn % 3, .hull = turn % 4, .line = turn % 24 + 1, .weight = 5};
+    return attempt(call);
+}
+
+static void lend_good_things(void)
+{
+    static const uint32_t power = 200000, weight = 1000;
+    wb_sheet sheet = base_hull();
+    lend_text_of(&sheet);
+    lend_rows(&power, &weight, 1);
+    lend_out(WB_SHEET_TEXT);
+}
+
+/* ---- one word changed ---- */
+
+/* What one word of a memory of build may hold; free words may hold anything. */
+static void limits_of(uint32_t word, uint32_t hulls, uint32_t drafts, uint32_t *low, uint32_t *high)
+{
+    uint32_t hull = (word - 1) / 69, desk = (word - 1105) / 71, at = word < 1105 ? (word - 1) % 69 : (word - 1105) % 71;
+    int number = (int)at - (word < 1105 ? 0 : 2); /* the place in a sheet, where the edit or opening number stands for HULL */
+    *low = 0;
+    if (word == 0)
+        *high = WB_HULLS;
+    else if (word >= 1105 && at == 0)
+        *high = 1;
+    else if (word < 1105 ? hull >= hulls : desk >= drafts)
+        *high = 0xFFFFFFFF;
+    else if (number < 0)
+        *high = hulls - 1;
+    else if (number == 0)
+        *high = word < 1105 ? 65535 : 3;
+    else {
+        *low = number == TESTED_NUMBER || number >= FIRST_FITTING ? 0 : lowest(number);
+        *high = highest(number);
+    }
+}
+
+/* Changes a word and makes a call that judges it; the refusal is 1 exactly where the word is outside its limits. */
+static void change_word(uint32_t word, uint32_t number, int formed, uint32_t turn)
+{
+    static uint32_t before[WB_REGISTER_WORDS];
+    memcpy(before, mem, sizeof before);
+    mem[word] = number;
+    wb_answer answer = judging_call(turn);
+    insist((answer.refusal == 1) == !formed, "one word of a good memory was changed, and refusal 1 was given or not where it should not be");
+    memcpy(mem, before, sizeof before);
+}
+
+/* The words whose limits hang on another word are left out here: the count, and lengths. */
+static int alone(uint32_t word)
+{
+    uint32_t at = word < 1105 ? (word - 1) % 69 : (word - 1105) % 71 - 2;
+    return word != 0 && at != LENGTH_NUMBER && at != REFERENCE_NUMBER && !(word < 1105 && at == 0);
+}
+
+static void change_every_word(uint32_t hulls, uint32_t drafts)
+{
+    static uint32_t turn;
+    build(hulls, drafts);
+    lend_good_things();
+    for (uint32_t word = 0; word < WB_REGISTER_WORDS; word++) {
+        uint32_t low, high;
+        limits_of(word, hulls, drafts, &low, &high);
+        if (high < 0xFFFFFFFF) {
+            change_word(word, high + 1, 0, turn++);
+            change_word(word, 0xFFFFFFFF, 0, turn++);
+        }
+        if (low > 0)
+            change_word(word, low - 1, 0, turn++);
+        /* a desk's mark set to 1 makes a draft of what was free there */
+        if (!alone(word) || (word >= DESK_AT(drafts) && (word - 1105) % 71 == 0))
+            continue;
+        change_word(word, low, 1, turn++);
+        change_word(word, high, 1, turn++);
+        change_word(word, random_between(low, high), 1, turn++);
+    }
+}
+
+/* Lengths, edit numbers and counts, against the words that they hang on. */
+static void change_bound_words(void)
+{
+    build(16, 8);
+    lend_good_things();
+    for (uint32_t slot = 0; slot < WB_HULLS + WB_DESKS; slot++) {
+        uint32_t length = slot < WB_HULLS ? HULL_AT(slot) + 1 : DESK_AT(slot - WB_HULLS) + 3, is = mem[length], reference = mem[length + 1];
+        change_word(length + 1, is, 1, slot);
+        change_word(length + 1, is + 1, 0, slot + 1);
+        change_word(length, reference, 1, slot + 2);
+        change_word(length, reference - 1, 0, slot + 3);
+        if (slot >= WB_HULLS)
+            continue;
+        change_word(HULL_AT(slot), 2, 1, slot + 4);
+        change_word(HULL_AT(slot), 1, slot == 0 || slot > 8, slot + 5); /* hulls 1 to 8 have drafts opened at 2 */
+        change_word(0, slot, slot > 8, slot + 6);
+        change_word(0, WB_HULLS + 1 + slot, 0, slot + 7);
+    }
+}
+
+/* A seventeenth hull would stand where the desks are. It is refused also where the words of a free desk would make it a good one. */
+static void try_seventeen_hulls(void)
+{
+    build(WB_HULLS, 0);
+    lend_good_things();
+    memcpy(mem + HULL_AT(WB_HULLS), mem + HULL_AT(0), 69 * sizeof *mem);
+    mem[HULL_AT(WB_HULLS)] = 0;
+    for (uint32_t turn = 0; turn < 12; turn++) {
+        change_word(0, WB_HULLS + 1, 0, turn);
+        change_word(0, WB_HULLS, 1, turn);
+    }
+}
+
+/* ---- wrong sizes ---- */
+
+static void try_wrong_sizes(void)
+{
+    static const uint32_t words[] = {0, 1, 2, 1104, 1105, 1672, 1674, 1675, 3346, 4096};
+    begin_part("memories of the wrong size");
+    build(16, 8);
+    lend_good_things();
+    for (size_t i = 0; i < sizeof words / sizeof *words; i++) {
+        lent[MEMORY].size = 4 * words[i];
+        for (uint32_t turn = 0; turn < 12; turn++)
+            expect(judging_call(turn), 1, 0, 0);
+        expect(attempt((struct call){.kind = FRESH}), 1, 0, 0);
+    }
+}
+
+/* ---- saves ---- */
+
+static void try_last_edits(void)
+{
+    begin_part("the last edit numbers");
+    build(3, 0);
+    mem[HULL_AT(1)] = 65534;
+    expect(attempt((struct call){.kind = OPEN, .desk = 4, .hull = 1}), 0, 65534, 0);
+    expect(attempt((struct call){.kind = OPEN, .desk = 5, .hull = 1}), 0, 65534, 0);
+    expect(attempt((struct call){.kind = SAVE, .desk = 4}), 0, 65535, 0);
+    expect(attempt((struct call){.kind = SAVE, .desk = 5}), 8, 0, 0); /* and not 9 */
+    expect(attempt((struct call){.kind = OPEN, .desk = 4, .hull = 1}), 0, 65535, 0);
+    expect(attempt((struct call){.kind = PUT, .desk = 4, .line = 1, .weight = 1}), 0, 0, 0);
+    expect(attempt((struct call){.kind = SAVE, .desk = 4}), 9, 0, 0);
+    expect(attempt((struct call){.kind = SAVE, .desk = 4}), 9, 0, 0);
+    expect(attempt((struct call){.kind = DROP, .desk = 4}), 0, 0, 0);
+    expect(attempt((struct call){.kind = SAVE, .desk = 4}), 7, 0, 0);
+    expect(attempt((struct call){.kind = SAVE, .desk = 5}), 8, 0, 0);
+}
+
+/* The words of a draft stay where they are when it ends, but for its mark. */
+static void try_ended_drafts(void)
+{
+    static uint32_t before[WB_REGISTER_WORDS];
+    begin_part("drafts that end");
+    build(2, 2);
+    memcpy(before, mem, sizeof before);
+    expect(attempt((struct call){.kind = DROP, .desk = 1}), 0, 0, 0);
+    before[DESK_AT(1)] = 0;
+    insist(memcmp(before, mem, sizeof before) == 0, "drop changed more than the desk's mark");
+    expect(attempt((struct call){.kind = OPEN, .desk = 0, .hull = 1}), 0, 3, 0);
+    expect(attempt((struct call){.kind = PUT, .desk = 0, .line = 24, .weight = 500000}), 0, 0, 0);
+    memcpy(before, mem, sizeof before);
+    expect(attempt((struct call){.kind = SAVE, .desk = 0}), 0, 4, 0);
+    before[DESK_AT(0)] = 0;
+    before[HULL_AT(1)] = 4;
+    before[HULL_AT(1) + 68] = 500000;
+    insist(memcmp(before, mem, sizeof before) == 0, "save changed something else than the hull's slot and the desk's mark");
+}
+
+/* ---- the order of refusals ---- */
+
+static void expect_all(const struct call *calls, const uint32_t *refusals, size_t count)
+{
+    for (size_t i = 0; i < count; i++)
+        expect(attempt(calls[i]), refusals[i], 0, 0);
+}
+
+/* Several things are wrong at once; texts, rows and outputs are all bad. */
+static void try_order(void)
+{
+    static const struct call calls[] = {
+        {OPEN, 8, 16, 0, 0}, {OPEN, 0, 16, 0, 0}, {PUT, 8, 0, 0, 0}, {PUT, 7, 0, 0, 0}, {PUT, 0, 0, 0, 1}, {PUT, 0, 0, 25, 1}, {PUT, 0, 0, 1, 0},
+        {PUT, 0, 0, 24, 500001}, {TAKE_OFF, 8, 0, 0, 0}, {TAKE_OFF, 7, 0, 0, 0}, {TAKE_OFF, 0, 0, 0, 0}, {TAKE_OFF, 0, 0, 25, 0},
+        {REPLACE, 8, 0, 0, 0}, {REPLACE, 7, 0, 0, 0}, {REPLACE, 0, 0, 0, 0}, {TRIAL_A, 8, 0, 0, 0}, {TRIAL_A, 7, 0, 0, 0}, {TRIAL_C, 8, 0, 0, 0},
+        {TRIAL_C, 7, 0, 0, 0}, {TRIAL_C, 0, 0, 0, 0}, {SAVE, 8, 0, 0, 0}, {SAVE, 7, 0, 0, 0}, {SAVE, 0, 0, 0, 0}, {DROP, 8, 0, 0, 0},
+        {DROP, 7, 0, 0, 0}, {PLATE_A, 0, 16, 0, 0}, {PLATE_C, 0, 16, 0, 0}, {PLATE_C, 0, 15, 0, 0}, {WRITE_HULL, 0, 16, 0, 0},
+        {WRITE_HULL, 0, 15, 0, 0}, {NEW_HULL, 0, 0, 0, 0},
+    };
+    static const uint32_t refusals[] = {6, 5, 6, 7, 3, 3, 3, 3, 6, 7, 3, 3, 6, 7, 2, 6, 7, 6, 7, 10, 6, 7, 8, 6, 7, 5, 5, 10, 5, 16, 4};
+    size_t count = sizeof calls / sizeof *calls;
+    uint32_t bad_memory[sizeof calls / sizeof *calls];
+    begin_part("order of the register's refusals");
+    build(16, 7);
+    lend_text("");
+    lend_slices(0, 0);
+    lend_out(0);
+    expect_all(calls, refusals, count);
+    for (size_t i = 0; i < count; i++)
+        bad_memory[i] = 1;
+    mem[DESK_AT(7)] = 2;
+    expect_all(calls, bad_memory, count);
+}
+
+/* Numbers of which only the low bits are those of a desk or a hull. */
+static void try_high_numbers(void)
+{
+    static const enum kind by_desk[] = {OPEN, PUT, TAKE_OFF, REPLACE, TRIAL_A, TRIAL_C, SAVE, DROP};
+    static const enum kind by_hull[] = {OPEN, PLATE_A, PLATE_C, WRITE_HULL};
+    begin_part("numbers of desks and hulls that are too high");
+    build(16, 8);
+    lend_good_things();
+    for (int bit = 4; bit < 32; bit++) {
+        uint32_t high = (uint32_t)1 << bit | (uint32_t)bit % 8;
+        for (size_t i = 0; i < sizeof by_desk / sizeof *by_desk; i++) {
+            expect(attempt((struct call){by_desk[i], high, 0, 1, 1}), 6, 0, 0);
+            expect(attempt((struct call){by_desk[i], 8, 0, 1, 1}), 6, 0, 0);
+        }
+        for (size_t i = 0; i < sizeof by_hull / sizeof *by_hull; i++)
+            expect(attempt((struct call){by_hull[i], 0, high, 1, 1}), 5, 0, 0);
+        expect(attempt((struct call){PUT, 0, 0, (uint32_t)1 << bit | 9, 1}), 3, 0, 0);
+        expect(attempt((struct call){TAKE_OFF, 0, 0, (uint32_t)1 << bit | 9, 0}), 3, 0, 0);
+    }
+}
+
+/* Writes a hull, and holds the text to that of a sheet with the register's number. */
+static void expect_hull(wb_sheet sheet, uint32_t hull)
+{
+    sheet.hull = hull;
+    lend_text_of(&sheet);
+    lend_out(WB_SHEET_TEXT);
+    expect(attempt((struct call){.kind = WRITE_HULL, .hull = hull}), 0, (uint32_t)lent[TEXT].size, 0);
+    insist(memcmp(lent[OUT].words, lent[TEXT].words, lent[TEXT].size) == 0, "the hull does not hold the sheet of its text");
+}
+
+/* Texts into the register: their HULL number is judged and then ignored. */
+static void try_texts(void)
+{
+    static const struct call calls[] = {{NEW_HULL, 0, 0, 0, 0}, {REPLACE, 3, 0, 0, 0}};
+    begin_part("texts into the register");
+    for (uint32_t i = 0; i < 2; i++) {
+        wb_sheet sheet = base_hull();
+        enter_alone(&sheet);
+        lend_text("HULL\t16\n");
+        expect(attempt(calls[i]), 3, 0, 0);
+        lend_text("HULL\t15\n");
+        expect(attempt(calls[i]), 2, 0, 0);
+        sheet.hull = 15;
+        sheet.fitting[23] = 7;
+        lend_text_of(&sheet);
+        expect(attempt(calls[i]), 0, i == 0, 0); /* the new hull is the second, number 1 */
+        expect(attempt((struct call){.kind = SAVE, .desk = 3}), 0, 1, 0);
+        expect_hull(sheet, i == 0);
+    }
+}
+
+/* Putting and taking off, line by line. */
+static void try_fittings(void)
+{
+    wb_sheet sheet = base_hull();
+    begin_part("fittings");
+    enter_alone(&sheet);
+    for (uint32_t line = 1; line <= WB_FITTINGS; line++) {
+        expect(attempt((struct call){.kind = TAKE_OFF, .desk = 3, .line = line}), 17, 0, 0);
+        expect(attempt((struct call){.kind = PUT, .desk = 3, .line = line, .weight = line}), 0, 0, 0);
+        insist(mem[DESK_AT(3) + 3 + 43 + line] == line, "the fitting is not on its line");
+        expect(attempt((struct call){.kind = PUT, .desk = 3, .line = line, .weight = 500000}), 0, 0, 0);
+        expect(attempt((struct call){.kind = TAKE_OFF, .desk = 3, .line = line}), 0, 0, 0);
+        insist(mem[DESK_AT(3) + 3 + 43 + line] == 0, "the fitting is still on its line");
+        expect(attempt((struct call){.kind = PUT, .desk = 3, .line = line, .weight = 1}), 0, 0, 0);
+    }
+}
+
+void try_register_edges(void)
+{
+    begin_part("a memory with one word changed");
+    change_every_word(16, 8);
+    change_every_word(5, 3);
+    change_bound_words();
+    try_seventeen_hulls();
+    try_wrong_sizes();
+    try_last_edits();
+    try_ended_drafts();
+    try_order();
+    try_high_numbers();
+    try_texts();
+    try_fittings();
+}

@@ -1,0 +1,81 @@
+/* steps.c: see steps.h. */
+#include "steps.h"
+
+#include "material.h"
+
+#include <string.h>
+
+void start_fresh(void)
+{
+    memset(lend(MEMORY, 4 * WB_REGISTER_WORDS), 0xEE, 4 * WB_REGISTER_WORDS);
+    expect(attempt((struct call){.kind = FRESH}), 0, 0, 0);
+    for (size_t i = 0; i < WB_REGISTER_WORDS; i++)
+        insist(lent[MEMORY].words[i] == 0, "a word of a fresh register is not 0");
+}
+
+void lend_text(const char *text)
+{
+    memcpy(lend(TEXT, strlen(text)), text, strlen(text));
+}
+
+void lend_text_of(const wb_sheet *sheet)
+{
+    lent[TEXT].size = text_of(sheet, lent_bytes(TEXT));
+}
+
+void lend_out(size_t size)
+{
+    memset(lend(OUT, size), OTHER_BYTE, size);
+}
+
+void lend_slices(size_t powers, size_t weights)
+{
+    memset(lend(POWERS, 4 * powers), OTHER_BYTE, 4 * powers);
+    memset(lend(WEIGHTS, 4 * weights), OTHER_BYTE, 4 * weights);
+}
+
+void lend_rows(const uint32_t *powers, const uint32_t *weights, size_t rows)
+{
+    memcpy(lend(POWERS, 4 * rows), powers, 4 * rows);
+    memcpy(lend(WEIGHTS, 4 * rows), weights, 4 * rows);
+}
+
+void enter_alone(const wb_sheet *sheet)
+{
+    start_fresh();
+    lend_text_of(sheet);
+    expect(attempt((struct call){.kind = NEW_HULL}), 0, 0, 0);
+    expect(attempt((struct call){.kind = OPEN, .desk = 3}), 0, 0, 0);
+}
+
+void insist_untouched(enum buffer buffer, size_t from)
+{
+    for (size_t i = from; i < lent[buffer].size; i++)
+        insist(lent_bytes(buffer)[i] == OTHER_BYTE, "a byte after what was to be written was changed");
+}
+
+static wb_answer plate(char letter, const wb_sheet *sheet)
+{
+    enter_alone(sheet);
+    wb_answer trial = attempt((struct call){.kind = letter == 'A' ? TRIAL_A : TRIAL_C, .desk = 3});
+    wb_answer answer = attempt((struct call){.kind = letter == 'A' ? PLATE_A : PLATE_C});
+    expect(trial, answer.refusal, answer.first, answer.second);
+    return answer;
+}
+
+void expect_plate(char letter, const wb_sheet *sheet, uint32_t refusal, uint32_t first, uint32_t second)
+{
+    expect(plate(letter, sheet), refusal, first, second);
+}
+
+void expect_load(char letter, const wb_sheet *sheet, uint32_t load)
+{
+    wb_answer answer = plate(letter, sheet);
+    expect(answer, 0, load, answer.second);
+}
+
+void expect_power(const wb_sheet *sheet, uint32_t watts)
+{
+    wb_answer answer = plate('A', sheet);
+    expect(answer, 0, answer.first, watts);
+}

@@ -1,0 +1,35 @@
+/* steps.h: steps that several parts of the test program take. */
+#ifndef WILLOWBLINK_STEPS_H
+#define WILLOWBLINK_STEPS_H
+
+#include "compare.h"
+
+/* Lends a memory of the right size and makes it fresh. */
+void start_fresh(void);
+
+/* Lends a text, a sheet's text, or an output with other bytes in it. */
+void lend_text(const char *text);
+void lend_text_of(const wb_sheet *sheet);
+void lend_out(size_t size);
+
+/* Lends two slices of so many words, also with other words in them. */
+void lend_slices(size_t powers, size_t weights);
+
+/* The byte that such outputs and slices are filled with, and a check that it still stands from a place on. */
+#define OTHER_BYTE 0xC3
+void insist_untouched(enum buffer buffer, size_t from);
+
+/* Lends engine rows as the plate calls take them. */
+void lend_rows(const uint32_t *powers, const uint32_t *weights, size_t rows);
+
+/* From a fresh start enters a sheet as hull 0, and opens it at desk 3. */
+void enter_alone(const wb_sheet *sheet);
+
+/* Plate A or C of a sheet alone in a register, as a hull and as a draft: both must answer so. Plate C is worked with the rows that are lent. */
+void expect_plate(char plate, const wb_sheet *sheet, uint32_t refusal, uint32_t first, uint32_t second);
+
+/* The same, of a plate that is accepted, for the load or the power alone. */
+void expect_load(char plate, const wb_sheet *sheet, uint32_t load);
+void expect_power(const wb_sheet *sheet, uint32_t watts);
+
+#endif
