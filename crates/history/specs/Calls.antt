@@ -1,5 +1,5 @@
 -- 01, Calls on the register: every call, with what its caller gives it. Desk and hull numbers are any numbers. Each call's step is one line, whose right side is
--- the term that the call's own promise cites (crates/register/src/lib.rt). Assumes nothing: these are definitions.
+-- the term that the call's own promise cites (crates/answering/src/lib.rt). Assumes nothing: these are definitions.
 use Prim.Native.Nat.{ℕ}
 use mathlib.Core.List.{List, []}
 use lib.ListN.{length}

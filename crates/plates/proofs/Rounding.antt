@@ -89,9 +89,6 @@ a-nearest s = nearest-of (loadX s) (markedA s) (floor-largest (loadX s +ℤ pos 
 
 -- ---- the raise
 
-ceil-reaches : (a d : ℕ) → 0 < d → a ≤ d * ceilDiv a d
-ceil-reaches a d p = omega (arith, lt-mul-div-succ (a + (d - 1)) p, mul-add d (ceilDiv a d) 1)
-
 ceil-least : (a d m : ℕ) → 0 < d → a ≤ d * m → ceilDiv a d ≤ m
 ceil-least a d m p h = go (ltb m (ceilDiv a d)) refl
   where
@@ -100,6 +97,9 @@ ceil-least a d m p h = go (ltb m (ceilDiv a d)) refl
         let more : d * (m + 1) ≤ d * ceilDiv a d = mul-le-mul {n₁ = d} {n₂ = d} (omega arith) (omega (arith, ltb-true m (ceilDiv a d) e)) in
         absurd (omega (arith, more, mul-add d m 1, mul-div-le (a + (d - 1)) d))
     go false e = ltb-false m (ceilDiv a d) e
+
+ceil-reaches : (a d : ℕ) → 0 < d → a ≤ d * ceilDiv a d
+ceil-reaches a d p = omega (arith, lt-mul-div-succ (a + (d - 1)) p, mul-add d (ceilDiv a d) 1)
 
 -- a / d watts raised: a multiple of 5000 that reaches them, and no lesser one does
 pub raised-reaches : (a d : ℕ) → 0 < d → a ≤ d * raised a d

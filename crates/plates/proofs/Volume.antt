@@ -38,10 +38,6 @@ seven l j h =
       drop-cons l (suc (suc (suc (suc (suc (suc j)))))) 0,
     )
 
-pub product-most : (l : List ℕ) → Readings l → product l ≤ 150000000
-unfolding product
-product-most l r = le-trans (mul-le-mul {n₂ = 4000} {m₂ = 37500} (r .b) (omega arith)) (omega arith)
-
 -- nothing is rounded: each millimetre of a depth counts exactly its share of B
 pub product-exact : (b q r s t u v : ℕ) → product (b ∷ (q + 1) ∷ r ∷ s ∷ t ∷ u ∷ v ∷ []) ≡ product (b ∷ q ∷ r ∷ s ∷ t ∷ u ∷ v ∷ []) + b
 unfolding product
@@ -49,6 +45,10 @@ product-exact b q r s t u v =
     let x : ℕ = q + 4 * r + 2 * s + 4 * t + 2 * u + 2 * v in
     let e : (q + 1) + 4 * r + 2 * s + 4 * t + 2 * u + 2 * v ≡ x + 1 = omega arith in
     ap (λ (y : ℕ). b * y) e ∙ (mul-add b x 1 ∙ omega arith)
+
+pub product-most : (l : List ℕ) → Readings l → product l ≤ 150000000
+unfolding product
+product-most l r = le-trans (mul-le-mul {n₂ = 4000} {m₂ = 37500} (r .b) (omega arith)) (omega arith)
 
 -- ---- the sum of weights, one after the other
 

@@ -57,6 +57,10 @@ put-refused m d line w e = kept-refused (putRefusal m d line w) Done _ m none-re
 pub take-refused : (m : List ℕ) (d line : ℕ) → isRefusal (takeAnswer m d line) ≡ true → takeMemory m d line ≡ m
 take-refused m d line e = kept-refused (takeRefusal m d line) Done _ m none-refused e
 
+-- the desk and its draft are judged before the text
+pub draft-first : (m : List ℕ) (d : ℕ) (t : List ℕ) → (deskRefusal m d ≡ 0 → ⊥) → replaceAnswer m d t ≡ Refused (deskRefusal m d)
+draft-first m d t n = rw (ne-eqb (deskRefusal m d) 0 n) refl
+
 pub replace-refused : (m : List ℕ) (d : ℕ) (t : List ℕ) → isRefusal (replaceAnswer m d t) ≡ true → replaceMemory m d t ≡ m
 replace-refused m d t e = kept-refused (deskRefusal m d) (onText t Done Refused) _ m (kept-text t Done _ m refl) e
 
@@ -65,7 +69,7 @@ save-refused m d e = kept-refused (saveRefusal m d) (Count (edit m (draftHull m 
 
 -- the lent output of a hull that is written
 pub written-refused : (m : List ℕ) (h : ℕ) (out : List ℕ) → isRefusal (hullWritten m h (length out)) ≡ true → hullWrittenInto m h out ≡ out
-written-refused m h out e = kept-refused (hullRefusal m h) (writeAnswer (h ∷ hullSheet m h) (length out)) _ out (write-refused (h ∷ hullSheet m h) out) e
+written-refused m h out e = kept-refused (hullRefusal m h) (writeAnswer _ (length out)) _ out (write-refused _ out) e
 
 pub drop-refused : (m : List ℕ) (d : ℕ) → isRefusal (dropAnswer m d) ≡ true → dropMemory m d ≡ m
 drop-refused m d e = kept-refused (deskRefusal m d) Done _ m none-refused e

@@ -61,7 +61,7 @@ put-keeps m d line w ok =
 pub take-keeps : (m : List ℕ) (d line : ℕ) → formed m ≡ true → formed (takeMemory m d line) ≡ true
 take-keeps m d line ok =
     keeps-or (takeRefusal m d line) _ m ok
-    (λ (z : takeRefusal m d line ≡ 0). let p = take-goes m d line z in let g = desk-goes m d (p .desk-passes) in fitted-formed m d line 0 ok (g .desk) (g .some) (p .low) (p .high) (omega arith))
+    (λ (z : takeRefusal m d line ≡ 0). let p = take-goes m d line z in let g = desk-goes m d (p .desk-passes) in fitted-formed m d line _ ok (g .desk) (g .some) (p .low) (p .high) (omega arith))
 
 pub replace-keeps : (m : List ℕ) (d : ℕ) (t : List ℕ) → formed m ≡ true → formed (replaceMemory m d t) ≡ true
 replace-keeps m d t ok =

@@ -136,11 +136,11 @@ module _ (m : List ℕ) (d : ℕ) where
     pub save-stale : (e ≡ o → ⊥) → 8 ≡ saveOwn m d
     save-stale n = rw (sym f, sym g, ne-eqb e o n) refl
 
-    pub save-spent : e ≡ o → e ≡ mostEdits → 9 ≡ saveOwn m d
-    save-spent q z = rw (sym f, sym g, eq-eqb e o q, eq-eqb e mostEdits z) refl
-
     pub save-due : e ≡ o → (e ≡ mostEdits → ⊥) → 0 ≡ saveOwn m d
     save-due q n = rw (sym f, sym g, eq-eqb e o q, ne-eqb e mostEdits n) refl
+
+    pub save-spent : e ≡ o → e ≡ mostEdits → 9 ≡ saveOwn m d
+    save-spent q z = rw (sym f, sym g, eq-eqb e o q, eq-eqb e mostEdits z) refl
 
   pub record SaveGoes : Type 0 where
     pub desk-passes : deskRefusal m d ≡ 0
