@@ -12,14 +12,15 @@ use memory::MOST_EDITS;
 use memory::MOST_HULLS;
 use memory::REGISTER_WORDS;
 use sheet::Answer;
+use sheet::FITTING_HIGH;
+use sheet::FITTING_LINES;
 use sheet::SHEET_WORDS;
 use sheet::TEXT_WORDS;
 use text::LineRead;
+use text::OUTSIDE_LIMITS;
 
 // The refusals that are the register's own.
 const BAD_MEMORY: u32 = 1;
-
-const OUTSIDE_LIMITS: u32 = 3;
 
 const FULL: u32 = 4;
 
@@ -34,10 +35,6 @@ const EDITED_SINCE: u32 = 8;
 const EDITS_SPENT: u32 = 9;
 
 const EMPTY_LINE: u32 = 17;
-
-const FITTINGS: u32 = 24;
-
-const FITTING_HIGH: u32 = 500_000;
 
 // ---- the shared checks; 0 where nothing is refused
 
@@ -198,7 +195,7 @@ fn put_refusal(mem: &[u32], desk: u32, line: u32, weight: u32) -> u32
     if line < 1 {
         return OUTSIDE_LIMITS;
     }
-    if FITTINGS < line {
+    if FITTING_LINES < line {
         return OUTSIDE_LIMITS;
     }
     if weight < 1 {
@@ -232,7 +229,7 @@ fn take_refusal(mem: &[u32], desk: u32, line: u32) -> u32
     if line < 1 {
         return OUTSIDE_LIMITS;
     }
-    if FITTINGS < line {
+    if FITTING_LINES < line {
         return OUTSIDE_LIMITS;
     }
     if keeping::fitting(mem, desk as usize, line as usize) == 0 {

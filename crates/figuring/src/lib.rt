@@ -12,6 +12,9 @@ ghost use Rattle.plates.specs.PlateC.{markedC, rowFits, rising, rowsRight, want
 ghost use Rattle.plates.specs.PlateA.{markedA, factorP, tableEnd, rowWatts, beforeWatts, raised, formulaWatts, powerA, noPower, plateA};
 ghost use Rattle.plates.specs.Bounds.{Readings, Stations, Weights, Bounds};
 use sheet::Answer;
+use sheet::ENGINE_POWER_HIGH;
+use sheet::ENGINE_WEIGHT_HIGH;
+use sheet::MOST_ROWS;
 
 // Where the words of a sheet stand.
 const LENGTH: usize = 0;
@@ -195,14 +198,8 @@ fn marked_a(sheet: &[u32]) -> u64
     }
 }
 
-// Engine rows: how many there may be, and the limits of their values.
+// The fewest engine rows that there may be.
 const LEAST_ROWS: usize = 1;
-
-const MOST_ROWS: usize = 40;
-
-const ENGINE_POWER_HIGH: u32 = 200_000;
-
-const ENGINE_WEIGHT_HIGH: u32 = 1_000_000;
 
 // Whether a row's values are within limits, its power not below `next`.
 fn row_fits(next: u32, power: u32, weight: u32) -> bool

@@ -10,14 +10,13 @@ ghost use Rattle.printout.specs.Input.{sheetBytes};
 ghost use Rattle.printout.specs.Printed.{inputText, plateText, platesText, rowsPrinted, printed, printAnswer, printInto};
 use sheet::Answer;
 use sheet::MOST_ROWS;
+use sheet::NO_ROOM;
 use sheet::RowsRead;
 use sheet::TEXT_WORDS;
 use text::Limit;
 use text::LineRead;
 
 const MOST_INPUT: usize = 8192;
-
-const NO_ROOM: u32 = 16;
 
 // Room for whatever is printed: a line for each plate, of two figures of ten digits each.
 pub const MOST_PRINTED: usize = 60;

@@ -14,6 +14,15 @@ pub const FITTINGS: usize = 24;
 
 pub const LINE_WORDS: usize = TEXT_WORDS - FITTINGS;
 
+// The greatest line number and weight of a fitting, and the greatest power and weight of an engine.
+pub const FITTING_LINES: u32 = 24;
+
+pub const FITTING_HIGH: u32 = 500_000;
+
+pub const ENGINE_POWER_HIGH: u32 = 200_000;
+
+pub const ENGINE_WEIGHT_HIGH: u32 = 1_000_000;
+
 pub const LINES: usize = 10;
 
 pub const MOST_ROWS: usize = 40;
@@ -83,30 +92,30 @@ pub const LIMITS: [Limit; TEXT_WORDS] = [
     [1, 24, PLAIN],
     [1, 24, OR_NONE],
     // the weight on each fitting line
-    [1, 500000, OR_NONE],
-    [1, 500000, OR_NONE],
-    [1, 500000, OR_NONE],
-    [1, 500000, OR_NONE],
-    [1, 500000, OR_NONE],
-    [1, 500000, OR_NONE],
-    [1, 500000, OR_NONE],
-    [1, 500000, OR_NONE],
-    [1, 500000, OR_NONE],
-    [1, 500000, OR_NONE],
-    [1, 500000, OR_NONE],
-    [1, 500000, OR_NONE],
-    [1, 500000, OR_NONE],
-    [1, 500000, OR_NONE],
-    [1, 500000, OR_NONE],
-    [1, 500000, OR_NONE],
-    [1, 500000, OR_NONE],
-    [1, 500000, OR_NONE],
-    [1, 500000, OR_NONE],
-    [1, 500000, OR_NONE],
-    [1, 500000, OR_NONE],
-    [1, 500000, OR_NONE],
-    [1, 500000, OR_NONE],
-    [1, 500000, OR_NONE],
+    [1, FITTING_HIGH, OR_NONE],
+    [1, FITTING_HIGH, OR_NONE],
+    [1, FITTING_HIGH, OR_NONE],
+    [1, FITTING_HIGH, OR_NONE],
+    [1, FITTING_HIGH, OR_NONE],
+    [1, FITTING_HIGH, OR_NONE],
+    [1, FITTING_HIGH, OR_NONE],
+    [1, FITTING_HIGH, OR_NONE],
+    [1, FITTING_HIGH, OR_NONE],
+    [1, FITTING_HIGH, OR_NONE],
+    [1, FITTING_HIGH, OR_NONE],
+    [1, FITTING_HIGH, OR_NONE],
+    [1, FITTING_HIGH, OR_NONE],
+    [1, FITTING_HIGH, OR_NONE],
+    [1, FITTING_HIGH, OR_NONE],
+    [1, FITTING_HIGH, OR_NONE],
+    [1, FITTING_HIGH, OR_NONE],
+    [1, FITTING_HIGH, OR_NONE],
+    [1, FITTING_HIGH, OR_NONE],
+    [1, FITTING_HIGH, OR_NONE],
+    [1, FITTING_HIGH, OR_NONE],
+    [1, FITTING_HIGH, OR_NONE],
+    [1, FITTING_HIGH, OR_NONE],
+    [1, FITTING_HIGH, OR_NONE],
 ];
 
 // What a call answers: a refusal by its number alone, or that it was done, or a count, or a plate's load and its other figure.
