@@ -36,12 +36,16 @@ limits-drop zero rows = refl
 limits-drop (suc n) [] = refl
 limits-drop (suc n) (r ∷ rows) = limits-drop n rows
 
+-- the limits that stand after those of the lines
+abbrev weightLimits : List Limit
+weightLimits = replicate fittings (rangingOrNone 1 fittingHigh)
+
 -- ls are still to be written, from the place `at` on: of the numbers and by the rows from the place `from` on
 pub record Ahead (ls : List Line) (rows : List (List ℕ)) (s o₀ o : List ℕ) (from at : ℕ) : Type 0 where
   pub so : List ℕ
   pub laid : Laid so o₀ 0 at o
   pub so-far : linesText lines s ≡ so ++ linesText ls (drop from s)
-  pub limited : limitsOf (drop from rows) ≡ limitsOn ls ++ replicate fittings (rangingOrNone 1 fittingHigh)
+  pub limited : limitsOf (drop from rows) ≡ limitsOn ls ++ weightLimits
   pub many : length s ≡ length rows
   pub fits : length (linesText lines s) ≤ length o₀
 
@@ -54,41 +58,42 @@ unfolding linesText
 done p = rw (p .so-far, append-nil) (p .laid)
 
 module _ {l : Line} {ls : List Line} {rows : List (List ℕ)} {s o₀ o : List ℕ} {from at : ℕ} (p : Ahead (l ∷ ls) rows s o₀ o from at) where
-  -- the place after the line's words, and the line as the code hands it over
-  abbrev to : ℕ
-  to = from + length (l .limits)
+  -- where the line's words end, the line as the code hands it over, and the limits after it
+  abbrev word-end : ℕ
+  word-end = from + length (l .limits)
 
   abbrev form : Line
   form = lineOf (l .tag) (take (length (l .limits)) (drop from rows))
 
-  abbrev after : List Limit
-  after = limitsOn ls ++ replicate fittings (rangingOrNone 1 fittingHigh)
+  abbrev later : List Limit
+  later = limitsOn ls ++ weightLimits
 
-  limits-here : limitsOf (drop from rows) ≡ l .limits ++ after
+  limits-here : limitsOf (drop from rows) ≡ l .limits ++ later
   unfolding limitsOn
-  limits-here = p .limited ∙ append-assoc (l .limits) (limitsOn ls) (replicate fittings (rangingOrNone 1 fittingHigh))
+  limits-here = p .limited ∙ append-assoc (l .limits) (limitsOn ls) weightLimits
 
   form-same : form .limits ≡ l .limits
-  form-same = limits-take (length (l .limits)) (drop from rows) ∙ rw limits-here (take-append-seam (l .limits) after)
+  form-same = limits-take (length (l .limits)) (drop from rows) ∙ rw limits-here (take-append-seam (l .limits) later)
 
-  entered : linesText lines s ≡ p .so ++ (lineText form (drop from s) ++ linesText ls (drop to s))
+  entered : linesText lines s ≡ p .so ++ (lineText form (drop from s) ++ linesText ls (drop word-end s))
   unfolding linesText
   entered = p .so-far ∙ rw (form-same, drop-drop (length (l .limits)) from s)
 
-  pub line-in : (from ≤ to) × (to ≤ length rows) × (from ≤ length s) × (at + length (lineText form (drop from s)) ≤ length o)
+  -- there are words and rows for the line, and room for its text
+  pub line-in : (from ≤ word-end) × (word-end ≤ length rows) × (from ≤ length s) × (at + length (lineText form (drop from s)) ≤ length o)
   line-in =
       let x : List ℕ = lineText form (drop from s) in
-      let y : List ℕ = linesText ls (drop to s) in
-      let n : length rows - from ≡ length (l .limits) + (length (limitsOn ls) + 24) = sym (length-drop from rows) ∙ sym (length-map (drop from rows) limitOf) ∙ ap length limits-here ∙ length-append (l .limits) after ∙ rw (length-append (limitsOn ls) (replicate fittings (rangingOrNone 1 fittingHigh))) in
+      let y : List ℕ = linesText ls (drop word-end s) in
+      let n : length rows - from ≡ length (l .limits) + (length (limitsOn ls) + 24) = sym (length-drop from rows) ∙ sym (length-map (drop from rows) limitOf) ∙ ap length limits-here ∙ length-append (l .limits) later ∙ rw (length-append (limitsOn ls) weightLimits) in
       (omega arith, omega arith, omega (arith, p .many), omega (arith, p .laid .end, laid-length (p .laid), p .fits, ap length entered, length-append (p .so) (x ++ y), length-append x y))
 
-  pub step : {r : ℕ} {o₁ : List ℕ} → Laid (lineText form (drop from s)) o at r o₁ → Ahead ls rows s o₀ o₁ to r
+  pub step : {r : ℕ} {o₁ : List ℕ} → Laid (lineText form (drop from s)) o at r o₁ → Ahead ls rows s o₀ o₁ word-end r
   step q =
       record {
         so = p .so ++ lineText form (drop from s);
         laid = laid-more (p .laid) q;
-        so-far = entered ∙ sym (append-assoc (p .so) (lineText form (drop from s)) (linesText ls (drop to s)));
-        limited = ap limitsOf (sym (drop-drop (length (l .limits)) from rows)) ∙ limits-drop (length (l .limits)) (drop from rows) ∙ rw limits-here (drop-append-seam (l .limits) after);
+        so-far = entered ∙ sym (append-assoc (p .so) (lineText form (drop from s)) (linesText ls (drop word-end s)));
+        limited = ap limitsOf (sym (drop-drop (length (l .limits)) from rows)) ∙ limits-drop (length (l .limits)) (drop from rows) ∙ rw limits-here (drop-append-seam (l .limits) later);
         many = p .many;
         fits = p .fits;
       }
