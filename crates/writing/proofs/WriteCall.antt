@@ -16,7 +16,7 @@ use Rattle.sheet.specs.Settled.{Settled}
 use Rattle.sheet.specs.Lines.{lines, fittings, endLine}
 use Rattle.sheet.specs.Sheet.{textWords, limitsOn, sheetOk, linesText, fitsText, sheetText}
 use Rattle.sheet.specs.Calls.{writeAnswer, writeInto}
-use Rattle.sheet.proofs.Written.{laid-length}
+use Rattle.sheet.proofs.Written.{laid-length, laid-rest}
 
 -- ---- a whole sheet
 
@@ -33,7 +33,7 @@ sheet-lengths s =
 module _ (s : List ℕ) {o₀ o₁ ys : List ℕ} {lines-end fits : ℕ} (p : Laid (linesText lines s) o₀ 0 lines-end o₁)
     (q : Laid (fitsText 1 (take (length s - 45) (drop 45 s))) (take (length o₁ - lines-end) (drop lines-end o₁)) 0 fits ys) where
   fits-laid : Laid (fitsText 1 (drop 45 s)) o₁ lines-end (lines-end + fits) (putBack o₁ lines-end ys)
-  fits-laid = laid-part (fitsText 1 (drop 45 s)) o₁ ys lines-end fits (rw (rest-part s 45) at q)
+  fits-laid = laid-rest (fitsText 1) s o₁ 45 lines-end q
 
   pub end-place : lines-end + fits + 4 ≡ length (sheetText s)
   end-place = omega (arith, p .end, fits-laid .end, sheet-lengths s)

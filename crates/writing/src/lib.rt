@@ -1,19 +1,16 @@
 // Writes a sheet as its one text.
 ghost use mathlib.Core.Path.{_≡_};
-ghost use Prim.Native.Nat.{_+_, _<_, _≤_};
-ghost use lib.ListN.{length};
-ghost use Rattle.text.specs.Line.{Laid, lineText};
+ghost use Prim.Native.Nat.{_+_, _-_, _≤_};
+ghost use lib.ListN.{length, take, drop};
+ghost use Rattle.text.specs.Line.{Laid, lineOf, lineText};
 ghost use Rattle.sheet.specs.Settled.{Settled};
 ghost use Rattle.sheet.specs.Lines.{lines, fittings};
-ghost use Rattle.sheet.specs.Sheet.{textWords, limitRows, lineAt, linesText, fitText, fitsText, sheetText};
+ghost use Rattle.sheet.specs.Sheet.{textWords, limitRows, linesText, fitText, fitsText, sheetText};
 ghost use Rattle.sheet.specs.Calls.{writeAnswer, writeInto};
 use sheet::Answer;
 use sheet::LIMITS;
 use sheet::LINE_WORDS;
-use sheet::LINES;
 use sheet::NO_ROOM;
-use sheet::TAG_AT;
-use sheet::TAGS;
 use sheet::TEXT_WORDS;
 use text::Limit;
 use text::PLAIN;
@@ -23,16 +20,20 @@ const MOST_TEXT: usize = 610;
 
 // ---- writing a sheet
 
-// Writes line i of HULL to SEAT, of the first of the numbers, from the start of out.
-fn write_line_at(i: usize, limits: &[Limit], numbers: &[u32], out: &mut [u8]) -> usize
-    requires { ⌜ (i < length lines) × (now limits ≡ limitRows) ⌝ }
-    ensures { λ r. ⌜ Laid (lineText (lineAt i) (now (numbers .entry))) (now (out .entry)) 0 r (now (out .exit)) ⌝ }
+// Writes the line of a tag and of the words from..to, from a place of out on, and answers the place after it.
+fn write_next(
+    tag: &[u8],
+    limits: &[Limit],
+    sheet: &[u32],
+    from: usize,
+    to: usize,
+    out: &mut [u8],
+    at: usize,
+) -> usize
+    requires { ⌜ (from ≤ to) × (to ≤ length (now limits)) × (from ≤ length (now sheet)) × (at + length (lineText (lineOf (now tag) (take (to - from) (drop from (now limits)))) (drop from (now sheet))) ≤ length (now out)) ⌝ }
+    ensures { λ r. ⌜ Laid (lineText (lineOf (now (tag .entry)) (take (to - from) (drop from (now (limits .entry))))) (drop from (now (sheet .entry)))) (now (out .entry)) at r (now (out .exit)) ⌝ }
 {
-    let tag = TAG_AT[i];
-    let tag_end = TAG_AT[i + 1];
-    let word = reading::word_at(i);
-    let word_end = reading::word_at(i + 1);
-    spelling::write_line(&TAGS[tag..tag_end], &limits[word..word_end], numbers, out)
+    at + spelling::write_line(tag, &limits[from..to], &sheet[from..], &mut out[at..])
 }
 
 // Writes the lines HULL to SEAT.
@@ -40,14 +41,16 @@ fn write_lines(limits: &[Limit], sheet: &[u32], out: &mut [u8]) -> usize
     requires { ⌜ (now limits ≡ limitRows) × (length (now sheet) ≡ textWords) × (length (linesText lines (now sheet)) ≤ length (now out)) ⌝ }
     ensures { λ r. ⌜ Laid (linesText lines (now (sheet .entry))) (now (out .entry)) 0 r (now (out .exit)) ⌝ }
 {
-    let mut i = 0;
-    let mut at = 0;
-    while i < LINES {
-        let word = reading::word_at(i);
-        at += write_line_at(i, limits, &sheet[word..], &mut out[at..]);
-        i += 1;
-    }
-    at
+    let hull = write_next(b"HULL\t", limits, sheet, 0, 1, out, 0);
+    let form = write_next(b"FORM\t", limits, sheet, 1, 7, out, hull);
+    let q = write_next(b"STN\tQ\t", limits, sheet, 7, 14, out, form);
+    let r = write_next(b"STN\tR\t", limits, sheet, 14, 21, out, q);
+    let s = write_next(b"STN\tS\t", limits, sheet, 21, 28, out, r);
+    let t = write_next(b"STN\tT\t", limits, sheet, 28, 35, out, s);
+    let vol = write_next(b"VOL\t", limits, sheet, 35, 38, out, t);
+    let mass = write_next(b"MASS\t", limits, sheet, 38, 41, out, vol);
+    let power = write_next(b"PWR\t", limits, sheet, 41, 43, out, mass);
+    write_next(b"SEAT\t", limits, sheet, 43, 45, out, power)
 }
 
 // Writes the line of a fitting from a place on, if the fitting is there, and answers the place after it.
