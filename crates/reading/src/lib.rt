@@ -36,13 +36,26 @@ pub fn word_at(i: usize) -> usize
 // ---- reading a sheet
 
 // Reads the line that follows what was read, unless that had a fault. Its limits are from..to of the table, and its words go to the same places.
-fn next_line(read: LineRead, tag: &[u8], limits: &[Limit], from: usize, to: usize, text: &[u8], words: &mut [u32]) -> LineRead
+fn next_line(
+    read: LineRead,
+    tag: &[u8],
+    limits: &[Limit],
+    from: usize,
+    to: usize,
+    text: &[u8],
+    words: &mut [u32],
+) -> LineRead
     requires { ⌜ (now limits ≡ limitRows) × (length (now words) ≡ textWords) × (from ≤ to) × (to ≤ textWords) × (reached read ≤ length (now text)) ⌝ }
     ensures { λ r. ⌜ ReadsOn read (lineOf (now (tag .entry)) (take (to - from) (drop from limitRows))) (now (text .entry)) from (now (words .entry)) r (now (words .exit)) ⌝ }
 {
     match read {
         LineRead::Fault(refusal, place) => LineRead::Fault(refusal, place),
-        LineRead::Taken(at) => match spelling::read_line(tag, &limits[from..to], &text[at..], &mut words[from..]) {
+        LineRead::Taken(at) => match spelling::read_line(
+            tag,
+            &limits[from..to],
+            &text[at..],
+            &mut words[from..],
+        ) {
             LineRead::Fault(refusal, place) => LineRead::Fault(refusal, at + place),
             LineRead::Taken(len) => LineRead::Taken(at + len),
         },
