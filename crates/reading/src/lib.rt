@@ -1,24 +1,22 @@
 // Reads a sheet, and engine rows, from a text.
 ghost use mathlib.Core.Path.{_≡_};
-ghost use Prim.Native.Nat.{_<_, _≤_};
-ghost use lib.ListN.{length, replicate};
-ghost use Rattle.text.specs.Line.{Reads, readLine};
+ghost use Prim.Native.Nat.{_-_, _≤_};
+ghost use lib.ListN.{length, take, drop, replicate};
+ghost use Rattle.text.specs.Line.{Reads, lineOf};
 ghost use Rattle.sheet.specs.Settled.{Settled};
 ghost use Rattle.sheet.specs.Lines.{lines, fittings, mostRows};
-ghost use Rattle.sheet.specs.Sheet.{textWords, limitRows, lineAt, wordAt};
+ghost use Rattle.sheet.specs.Sheet.{textWords, limitRows, wordAt};
 ghost use Rattle.sheet.specs.Reading.{readLines, readFits, readEnd, readRest, readSheet};
 ghost use Rattle.sheet.specs.Engines.{readRows, readEngines, Rowed};
 ghost use Rattle.sheet.specs.Calls.{readAnswer, readInto, putFirst, enginesAnswer, columnsInto};
+ghost use Rattle.reading.specs.Steps.{reached, ReadsOn};
 use sheet::Answer;
 use sheet::FITTINGS;
 use sheet::LIMITS;
 use sheet::LINE_WORDS;
-use sheet::LINES;
 use sheet::MOST_ROWS;
 use sheet::NO_ROOM;
 use sheet::RowsRead;
-use sheet::TAG_AT;
-use sheet::TAGS;
 use sheet::TEXT_WORDS;
 use text::Limit;
 use text::LineRead;
@@ -37,38 +35,48 @@ pub fn word_at(i: usize) -> usize
 
 // ---- reading a sheet
 
-// Reads line i of HULL to SEAT from the start of text.
-fn read_line_at(i: usize, limits: &[Limit], text: &[u8], words: &mut [u32]) -> LineRead
-    requires { ⌜ (i < length lines) × (now limits ≡ limitRows) ⌝ }
-    ensures { λ r. ⌜ Reads (readLine (lineAt i) (now (text .entry))) (now (words .entry)) r (now (words .exit)) ⌝ }
+// Reads the line that follows what was read, unless that had a fault. Its limits are from..to of the table, and its words go to the same places.
+fn next_line(
+    read: LineRead,
+    tag: &[u8],
+    limits: &[Limit],
+    from: usize,
+    to: usize,
+    text: &[u8],
+    words: &mut [u32],
+) -> LineRead
+    requires { ⌜ (now limits ≡ limitRows) × (length (now words) ≡ textWords) × (from ≤ to) × (to ≤ textWords) × (reached read ≤ length (now text)) ⌝ }
+    ensures { λ r. ⌜ ReadsOn read (lineOf (now (tag .entry)) (take (to - from) (drop from limitRows))) (now (text .entry)) from (now (words .entry)) r (now (words .exit)) ⌝ }
 {
-    let tag = TAG_AT[i];
-    let tag_end = TAG_AT[i + 1];
-    let word = word_at(i);
-    let word_end = word_at(i + 1);
-    spelling::read_line(&TAGS[tag..tag_end], &limits[word..word_end], text, words)
+    match read {
+        LineRead::Fault(refusal, place) => LineRead::Fault(refusal, place),
+        LineRead::Taken(at) => match spelling::read_line(
+            tag,
+            &limits[from..to],
+            &text[at..],
+            &mut words[from..],
+        ) {
+            LineRead::Fault(refusal, place) => LineRead::Fault(refusal, at + place),
+            LineRead::Taken(len) => LineRead::Taken(at + len),
+        },
+    }
 }
 
-// Reads the lines HULL to SEAT.
+// Reads the lines HULL to SEAT. Each tag is written where it is read: a table of them would be laid anew for each line.
 fn read_lines(limits: &[Limit], text: &[u8], words: &mut [u32]) -> LineRead
     requires { ⌜ (now limits ≡ limitRows) × (length (now words) ≡ textWords) ⌝ }
     ensures { λ r. ⌜ Reads (readLines lines (now (text .entry))) (now (words .entry)) r (now (words .exit)) ⌝ }
 {
-    let mut i = 0;
-    let mut at = 0;
-    while i < LINES {
-        let word = word_at(i);
-        match read_line_at(i, limits, &text[at..], &mut words[word..]) {
-            LineRead::Fault(refusal, place) => {
-                return LineRead::Fault(refusal, at + place);
-            }
-            LineRead::Taken(len) => {
-                at += len;
-                i += 1;
-            }
-        }
-    }
-    LineRead::Taken(at)
+    let hull = next_line(LineRead::Taken(0), b"HULL\t", limits, 0, 1, text, words);
+    let form = next_line(hull, b"FORM\t", limits, 1, 7, text, words);
+    let q = next_line(form, b"STN\tQ\t", limits, 7, 14, text, words);
+    let r = next_line(q, b"STN\tR\t", limits, 14, 21, text, words);
+    let s = next_line(r, b"STN\tS\t", limits, 21, 28, text, words);
+    let t = next_line(s, b"STN\tT\t", limits, 28, 35, text, words);
+    let vol = next_line(t, b"VOL\t", limits, 35, 38, text, words);
+    let mass = next_line(vol, b"MASS\t", limits, 38, 41, text, words);
+    let power = next_line(mass, b"PWR\t", limits, 41, 43, text, words);
+    next_line(power, b"SEAT\t", limits, 43, 45, text, words)
 }
 
 // Reads FIT lines up to the line that must be END. The weights are all 0 before it.

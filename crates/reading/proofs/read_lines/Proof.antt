@@ -1,144 +1,150 @@
 -- `read_lines` meets its contract. Assumes nothing.
-use Rattle.sheet.proofs.Lines as lines
-use Rattle.sheet.proofs.Lines.{State, start, done, kept, place-in, fault, step}
-use Rattle.sheet.proofs.Forms.{word-part}
-use Rattle.text.proofs.Line.{extent}
-use Prim.Native.Nat.{_-_}
-use mathlib.Core.Path.{ap}
+use Rattle.sheet.specs.Sheet.{wordAt, limitRows, sheetLimits, limitsOn}
+use Rattle.reading.proofs.LineByLine.{no-lines, one-more}
 use native.Mathlib.Omega.{arith}
 use borrow.Author.Needs.{needs}
 use Rattle.reading.proofs.read_lines.Statement.{statement}
 use Rattle.reading.proofs.read_lines.Tie as tie
 
-abbrev Inv-loop : tie.InvT-loop
-Inv-loop limits text words₀ i₀ at₀ words i at = State text words₀ words i at
+slice-aggregate-next-line : tie.Need-slice-aggregate-next-line
+slice-aggregate-next-line c = search needs
 
-abbrev μ-loop : tie.MeasureT-loop
-μ-loop limits text words₀ i₀ at₀ words i at = 10 - i
+next-line-requires : tie.Need-next-line-requires
+next-line-requires c κs = search needs
 
-loop-holds : tie.Need-loop-holds Inv-loop μ-loop
-loop-holds c = start _ _
+slice-aggregate-next-line-2 : tie.Need-slice-aggregate-next-line-2
+slice-aggregate-next-line-2 c = search needs
 
-word-at-requires : tie.Need-word-at-requires Inv-loop μ-loop
-word-at-requires c κs = search needs
+next-line-requires-2 : tie.Need-next-line-requires-2
+next-line-requires-2 c κs =
+    let start = c .before .before .before .before .before .before .before .before .before in
+    let hull = c .before .before .before .before .next-line .ensures in
+    (start .pre .0, hull .kept, omega arith, omega arith, hull .within)
 
-sub-read-line-at : tie.Need-sub-read-line-at Inv-loop μ-loop
-sub-read-line-at c = search needs
+slice-aggregate-next-line-3 : tie.Need-slice-aggregate-next-line-3
+slice-aggregate-next-line-3 c = search needs
 
-part-read-line-at-start : tie.Need-part-read-line-at-start Inv-loop μ-loop
-part-read-line-at-start c = search needs
+next-line-requires-3 : tie.Need-next-line-requires-3
+next-line-requires-3 c κs =
+    let start = c .before .before .before .before .before .before .before .before .before .before .before .before .before .before in
+    let form = c .before .before .before .before .next-line2 .ensures in
+    (start .pre .0, form .kept, omega arith, omega arith, form .within)
 
-part-read-line-at-end : tie.Need-part-read-line-at-end Inv-loop μ-loop
-part-read-line-at-end c = search needs
+slice-aggregate-next-line-4 : tie.Need-slice-aggregate-next-line-4
+slice-aggregate-next-line-4 c = search needs
 
-mul-read-line-at : tie.Need-mul-read-line-at Inv-loop μ-loop
-mul-read-line-at c =
-    let at-loop = c .before .before .before in
-    let start = c .before .before .before .before .before .before in
-    omega (arith, word-part (at-loop .loop .i) (c .before .before .loop-test .taken) .order, word-part (at-loop .loop .i) (c .before .before .loop-test .taken) .end, c .before .word-at .ensures, kept (at-loop .loop .inv), start .pre .1)
+next-line-requires-4 : tie.Need-next-line-requires-4
+next-line-requires-4 c κs =
+    let start = c .before .before .before .before .before .before .before .before .before .before .before .before .before .before .before .before .before .before .before in
+    let q = c .before .before .before .before .next-line3 .ensures in
+    (start .pre .0, q .kept, omega arith, omega arith, q .within)
 
-sub-read-line-at-2 : tie.Need-sub-read-line-at-2 Inv-loop μ-loop
-sub-read-line-at-2 c =
-    let at-loop = c .before .before .before in
-    let start = c .before .before .before .before .before .before in
-    omega (arith, word-part (at-loop .loop .i) (c .before .before .loop-test .taken) .order, word-part (at-loop .loop .i) (c .before .before .loop-test .taken) .end, c .before .word-at .ensures, kept (at-loop .loop .inv), start .pre .1)
+slice-aggregate-next-line-5 : tie.Need-slice-aggregate-next-line-5
+slice-aggregate-next-line-5 c = search needs
 
-part-read-line-at-start-2 : tie.Need-part-read-line-at-start-2 Inv-loop μ-loop
-part-read-line-at-start-2 c =
-    let at-loop = c .before .before .before in
-    let start = c .before .before .before .before .before .before in
-    omega (arith, word-part (at-loop .loop .i) (c .before .before .loop-test .taken) .order, word-part (at-loop .loop .i) (c .before .before .loop-test .taken) .end, c .before .word-at .ensures, kept (at-loop .loop .inv), start .pre .1)
+next-line-requires-5 : tie.Need-next-line-requires-5
+next-line-requires-5 c κs =
+    let start = c .before .before .before .before .before .before .before .before .before .before .before .before .before .before .before .before .before .before .before .before .before .before .before .before in
+    let r = c .before .before .before .before .next-line4 .ensures in
+    (start .pre .0, r .kept, omega arith, omega arith, r .within)
 
-part-read-line-at-end-2 : tie.Need-part-read-line-at-end-2 Inv-loop μ-loop
-part-read-line-at-end-2 c = search needs
+slice-aggregate-next-line-6 : tie.Need-slice-aggregate-next-line-6
+slice-aggregate-next-line-6 c = search needs
 
-read-line-at-requires : tie.Need-read-line-at-requires Inv-loop μ-loop
-read-line-at-requires c κs = search needs
+next-line-requires-6 : tie.Need-next-line-requires-6
+next-line-requires-6 c κs =
+    let start = c .before .before .before .before .before .before .before .before .before .before .before .before .before .before .before .before .before .before .before .before .before .before .before .before .before .before .before .before .before in
+    let s = c .before .before .before .before .next-line5 .ensures in
+    (start .pre .0, s .kept, omega arith, omega arith, s .within)
 
-enum-known-refusal : tie.Need-enum-known-refusal Inv-loop μ-loop
-enum-known-refusal c = search needs
+slice-aggregate-next-line-7 : tie.Need-slice-aggregate-next-line-7
+slice-aggregate-next-line-7 c = search needs
 
-add-t21 : tie.Need-add-t21 Inv-loop μ-loop
-add-t21 c =
-    let at-loop = c .before .before .before .before .before .before .before .before .before .before in
-    let at-loop-test = c .before .before .before .before .before .before .before .before .before in
-    let at-word-at = c .before .before .before .before .before .before .before .before in
-    let at-read-line-at = c .before .before .before .before .before in
-    let h = place-in (at-loop .loop .inv) (at-loop-test .loop-test .taken) (at-word-at .word-at .ensures) (at-read-line-at .read-line-at .ensures) in
-    omega (arith, ap extent (c .before .refusal .given .1))
+next-line-requires-7 : tie.Need-next-line-requires-7
+next-line-requires-7 c κs =
+    let start = c .before .before .before .before .before .before .before .before .before .before .before .before .before .before .before .before .before .before .before .before .before .before .before .before .before .before .before .before .before .before .before .before .before .before in
+    let t = c .before .before .before .before .next-line6 .ensures in
+    (start .pre .0, t .kept, omega arith, omega arith, t .within)
 
-same-length : tie.Need-same-length Inv-loop μ-loop
-same-length c =
-    let at-loop = c .before .before .before .before .before .before .before .before .before .before in
-    let at-loop-test = c .before .before .before .before .before .before .before .before .before in
-    let at-word-at = c .before .before .before .before .before .before .before .before in
-    let at-read-line-at = c .before .before .before .before .before in
-    lines.same-length (at-loop .loop .inv) (at-loop-test .loop-test .taken) (at-word-at .word-at .ensures) (at-read-line-at .read-line-at .ensures)
+slice-aggregate-next-line-8 : tie.Need-slice-aggregate-next-line-8
+slice-aggregate-next-line-8 c = search needs
 
-returns : tie.Need-returns Inv-loop μ-loop
+next-line-requires-8 : tie.Need-next-line-requires-8
+next-line-requires-8 c κs =
+    let start = c .before .before .before .before .before .before .before .before .before .before .before .before .before .before .before .before .before .before .before .before .before .before .before .before .before .before .before .before .before .before .before .before .before .before .before .before .before .before .before in
+    let vol = c .before .before .before .before .next-line7 .ensures in
+    (start .pre .0, vol .kept, omega arith, omega arith, vol .within)
+
+slice-aggregate-next-line-9 : tie.Need-slice-aggregate-next-line-9
+slice-aggregate-next-line-9 c = search needs
+
+next-line-requires-9 : tie.Need-next-line-requires-9
+next-line-requires-9 c κs =
+    let start = c .before .before .before .before .before .before .before .before .before .before .before .before .before .before .before .before .before .before .before .before .before .before .before .before .before .before .before .before .before .before .before .before .before .before .before .before .before .before .before .before .before .before .before .before in
+    let mass = c .before .before .before .before .next-line8 .ensures in
+    (start .pre .0, mass .kept, omega arith, omega arith, mass .within)
+
+slice-aggregate-next-line-10 : tie.Need-slice-aggregate-next-line-10
+slice-aggregate-next-line-10 c = search needs
+
+next-line-requires-10 : tie.Need-next-line-requires-10
+next-line-requires-10 c κs =
+    let start = c .before .before .before .before .before .before .before .before .before .before .before .before .before .before .before .before .before .before .before .before .before .before .before .before .before .before .before .before .before .before .before .before .before .before .before .before .before .before .before .before .before .before .before .before .before .before .before .before .before in
+    let power = c .before .before .before .before .next-line9 .ensures in
+    (start .pre .0, power .kept, omega arith, omega arith, power .within)
+
+same-length : tie.Need-same-length
+same-length c = omega (arith, c .before .before .next-line10 .ensures .kept, c .before .before .before .before .before .before .before .before .before .before .before .before .before .before .before .before .before .before .before .before .before .before .before .before .before .before .before .before .before .before .before .before .before .before .before .before .before .before .before .before .before .before .before .before .before .before .before .before .before .before .before .before .pre .1)
+
+returns : tie.Need-returns
+unfolding wordAt limitRows sheetLimits limitsOn
 returns c =
-    let at-loop = c .before .before .before .before .before .before .before .before .before .before in
-    let at-loop-test = c .before .before .before .before .before .before .before .before .before in
-    let at-word-at = c .before .before .before .before .before .before .before .before in
-    let at-read-line-at = c .before .before .before .before .before in
-    fault (at-loop .loop .inv) (at-loop-test .loop-test .taken) (at-word-at .word-at .ensures) (at-read-line-at .read-line-at .ensures) (c .before .refusal .given .1)
-
-enum-known-len : tie.Need-enum-known-len Inv-loop μ-loop
-enum-known-len c = search needs
-
-add-at : tie.Need-add-at Inv-loop μ-loop
-add-at c =
-    let at-loop = c .before .before .before .before .before .before .before .before .before .before in
-    let at-loop-test = c .before .before .before .before .before .before .before .before .before in
-    let at-word-at = c .before .before .before .before .before .before .before .before in
-    let at-read-line-at = c .before .before .before .before .before in
-    let h = place-in (at-loop .loop .inv) (at-loop-test .loop-test .taken) (at-word-at .word-at .ensures) (at-read-line-at .read-line-at .ensures) in
-    omega (arith, ap extent (c .before .len .given .1))
-
-add-i : tie.Need-add-i Inv-loop μ-loop
-add-i c = search needs
-
-loop-less : tie.Need-loop-less Inv-loop μ-loop
-loop-less c = search needs
-
-loop-again : tie.Need-loop-again Inv-loop μ-loop
-loop-again c =
-    let at-loop = c .before .before .before .before .before .before .before .before .before .before in
-    let at-loop-test = c .before .before .before .before .before .before .before .before .before in
-    let at-word-at = c .before .before .before .before .before .before .before .before in
-    let at-read-line-at = c .before .before .before .before .before in
-    step (at-loop .loop .inv) (at-loop-test .loop-test .taken) (at-word-at .word-at .ensures) (at-read-line-at .read-line-at .ensures) (c .before .len .given .1)
-
-same-length-2 : tie.Need-same-length-2 Inv-loop μ-loop
-same-length-2 c = kept (c .before .loop .inv)
-
-returns-2 : tie.Need-returns-2 Inv-loop μ-loop
-returns-2 c = done (c .before .loop .inv) (c .loop-test .left)
+    let at-seat = c .before .before in
+    let at-power = at-seat .before .before .before .before .before in
+    let at-mass = at-power .before .before .before .before .before in
+    let at-vol = at-mass .before .before .before .before .before in
+    let at-t = at-vol .before .before .before .before .before in
+    let at-s = at-t .before .before .before .before .before in
+    let at-r = at-s .before .before .before .before .before in
+    let at-q = at-r .before .before .before .before .before in
+    let at-form = at-q .before .before .before .before .before in
+    let at-hull = at-form .before .before .before .before .before in
+    let start = at-hull .before .before .before .before .before in
+    let none = no-lines (start .args .text .now) (start .args .words .now) in
+    let hull = one-more 0 (omega arith) none (at-hull .next-line .ensures) in
+    let form = one-more 1 (omega arith) hull (at-form .next-line2 .ensures) in
+    let q = one-more 2 (omega arith) form (at-q .next-line3 .ensures) in
+    let r = one-more 3 (omega arith) q (at-r .next-line4 .ensures) in
+    let s = one-more 4 (omega arith) r (at-s .next-line5 .ensures) in
+    let t = one-more 5 (omega arith) s (at-t .next-line6 .ensures) in
+    let vol = one-more 6 (omega arith) t (at-vol .next-line7 .ensures) in
+    let mass = one-more 7 (omega arith) vol (at-mass .next-line8 .ensures) in
+    let power = one-more 8 (omega arith) mass (at-power .next-line9 .ensures) in
+    one-more 9 (omega arith) power (at-seat .next-line10 .ensures)
 
 pub read-lines-spec : {M : Type 1} → statement M
 read-lines-spec =
     tie.close
     (tie.spec
-    Inv-loop
-    μ-loop
-    loop-holds
-    word-at-requires
-    sub-read-line-at
-    part-read-line-at-start
-    part-read-line-at-end
-    mul-read-line-at
-    sub-read-line-at-2
-    part-read-line-at-start-2
-    part-read-line-at-end-2
-    read-line-at-requires
-    enum-known-refusal
-    add-t21
+    slice-aggregate-next-line
+    next-line-requires
+    slice-aggregate-next-line-2
+    next-line-requires-2
+    slice-aggregate-next-line-3
+    next-line-requires-3
+    slice-aggregate-next-line-4
+    next-line-requires-4
+    slice-aggregate-next-line-5
+    next-line-requires-5
+    slice-aggregate-next-line-6
+    next-line-requires-6
+    slice-aggregate-next-line-7
+    next-line-requires-7
+    slice-aggregate-next-line-8
+    next-line-requires-8
+    slice-aggregate-next-line-9
+    next-line-requires-9
+    slice-aggregate-next-line-10
+    next-line-requires-10
     same-length
-    returns
-    enum-known-len
-    add-at
-    add-i
-    loop-less
-    loop-again
-    same-length-2
-    returns-2)
+    returns)
