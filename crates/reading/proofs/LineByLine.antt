@@ -5,7 +5,7 @@ use Prim.Native.Nat.{ℕ, _+_, _-_, _≤_, _<_}
 use native.Mathlib.Nat.{add-zero}
 use native.Mathlib.Numerals.{add-one}
 use native.Mathlib.Omega.{arith}
-use lib.ListN.{length, take, drop, length-drop}
+use lib.ListN.{length, take, drop, getD, length-drop}
 use lib.Seq.{sets, length-sets, drop-drop, take-suc}
 use Rattle.text.specs.declared.LineRead.{LineRead}
 use Rattle.text.specs.declared.LineRead.the-variants.{Taken, Fault}
@@ -15,7 +15,7 @@ use Rattle.text.proofs.Reading.{after-nothing, after-after}
 use Rattle.text.proofs.Line.{line-extent}
 use Rattle.text.proofs.Followed.{followed-taken, followed-fault}
 use Rattle.sheet.specs.Lines.{lines, endLine}
-use Rattle.sheet.specs.Sheet.{textWords, lineAt, wordAt}
+use Rattle.sheet.specs.Sheet.{textWords, limitsOn}
 use Rattle.sheet.specs.Reading.{readLines}
 use Rattle.sheet.proofs.Lines.{lines-count}
 use Rattle.reading.specs.Steps.{reached, ReadsOn}
@@ -51,6 +51,13 @@ module _ {read : LineRead} (l : Line) (t o : List ℕ) {at : ℕ} (n : ℕ) {r :
       }
 
 -- ---- line after line
+
+-- line i, and the place of its first number
+abbrev pub lineAt : ℕ → Line
+lineAt i = getD lines i endLine
+
+unfoldable pub wordAt : ℕ → ℕ
+wordAt i = length (limitsOn (take i lines))
 
 followed-after : (ns : List ℕ) (k : ℕ) (p : Reading) (next : List ℕ → Reading) (t : List ℕ) → followed (after ns k p) next t ≡ after ns k (followed p next (drop k t))
 followed-after ns k p next t = go (p .ended) refl

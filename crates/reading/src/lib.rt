@@ -5,12 +5,16 @@ ghost use lib.ListN.{length, take, drop, replicate};
 ghost use Rattle.text.specs.Line.{Reads, lineOf};
 ghost use Rattle.sheet.specs.Settled.{Settled};
 ghost use Rattle.sheet.specs.Lines.{lines, fittings, mostRows};
-ghost use Rattle.sheet.specs.Sheet.{textWords, limitRows, wordAt};
+ghost use Rattle.sheet.specs.Sheet.{textWords, limitRows};
 ghost use Rattle.sheet.specs.Reading.{readLines, readFits, readEnd, readRest, readSheet};
 ghost use Rattle.sheet.specs.Engines.{readRows, readEngines, Rowed};
 ghost use Rattle.sheet.specs.Calls.{readAnswer, readInto, putFirst, enginesAnswer, columnsInto};
 ghost use Rattle.reading.specs.Steps.{reached, ReadsOn};
 use sheet::Answer;
+use sheet::ENGINE_POWER_HIGH;
+use sheet::ENGINE_WEIGHT_HIGH;
+use sheet::FITTING_HIGH;
+use sheet::FITTING_LINES;
 use sheet::FITTINGS;
 use sheet::LIMITS;
 use sheet::LINE_WORDS;
@@ -23,15 +27,6 @@ use text::LineRead;
 use text::PLAIN;
 
 const MOST_BYTES: usize = 4096;
-
-// Where the words of line i start, and after the last line where the fittings do.
-pub fn word_at(i: usize) -> usize
-    requires { ⌜ i ≤ length lines ⌝ }
-    ensures { λ r. ⌜ r ≡ wordAt i ⌝ }
-{
-    let places = [0, 1, 7, 14, 21, 28, 35, 38, 41, 43, 45];
-    places[i]
-}
 
 // ---- reading a sheet
 
@@ -89,7 +84,7 @@ fn read_fits(text: &[u8], weights: &mut [u32]) -> LineRead
     let mut next = 1;
     while read < FITTINGS {
         if spelling::starts(&text[at..], b'F') {
-            let limits = [[next, 24, PLAIN], [1, 500000, PLAIN]];
+            let limits = [[next, FITTING_LINES, PLAIN], [1, FITTING_HIGH, PLAIN]];
             let mut fit = [0u32; 2];
             match spelling::read_line(b"FIT\t", &limits, &text[at..], &mut fit) {
                 LineRead::Fault(refusal, place) => {
@@ -179,7 +174,10 @@ fn read_rows(text: &[u8], powers: &mut [u32], weights: &mut [u32]) -> RowsRead
     let mut at = 0;
     let mut next = 1;
     while rows < MOST_ROWS {
-        let limits = [[next, 200000, PLAIN], [0, 1000000, PLAIN]];
+        let limits = [
+            [next, ENGINE_POWER_HIGH, PLAIN],
+            [0, ENGINE_WEIGHT_HIGH, PLAIN],
+        ];
         let mut row = [0u32; 2];
         match spelling::read_line(b"ENG\t", &limits, &text[at..], &mut row) {
             LineRead::Fault(refusal, place) => {

@@ -4,7 +4,7 @@ use Prim.Native.Nat.{ℕ, suc, _+_}
 use mathlib.Core.Bool.{Bool, true, false}
 use mathlib.Core.List.{List, [], _∷_, _++_, map}
 use lib.Dec.{eqb}
-use lib.ListN.{length, getD, take, drop, replicate}
+use lib.ListN.{length, drop, replicate}
 use Rattle.text.specs.Limit.{Limit, rangingOrNone, allHold}
 use Rattle.text.specs.Line.{Line, lineText}
 use Rattle.sheet.specs.Lines.{lines, fittings, fittingHigh, fitLine, endLine}
@@ -21,13 +21,6 @@ textWords = 1 + sheetWords
 unfoldable pub limitsOn : List Line → List Limit
 limitsOn [] = []
 limitsOn (l ∷ ls) = l .limits ++ limitsOn ls
-
--- line i of HULL to SEAT, and the place of its first number
-abbrev pub lineAt : ℕ → Line
-lineAt i = getD lines i endLine
-
-unfoldable pub wordAt : ℕ → ℕ
-wordAt i = length (limitsOn (take i lines))
 
 -- the limits of a sheet's numbers: those of its lines, and a weight or none for each fitting
 unfoldable pub sheetLimits : List Limit

@@ -23,16 +23,9 @@ pub const ENGINE_POWER_HIGH: u32 = 200_000;
 
 pub const ENGINE_WEIGHT_HIGH: u32 = 1_000_000;
 
-pub const LINES: usize = 10;
-
 pub const MOST_ROWS: usize = 40;
 
 pub const NO_ROOM: u32 = 16;
-
-// The tags of the lines HULL to SEAT, and where each line's tag starts.
-pub const TAGS: [u8; 52] = *b"HULL\tFORM\tSTN\tQ\tSTN\tR\tSTN\tS\tSTN\tT\tVOL\tMASS\tPWR\tSEAT\t";
-
-pub const TAG_AT: [usize; 11] = [0, 5, 10, 16, 22, 28, 34, 38, 43, 47, 52];
 
 // The limits of a sheet's numbers, line by line in the order of the text. A call makes this table once and lends it to what it calls.
 pub const LIMITS: [Limit; TEXT_WORDS] = [

@@ -8,6 +8,8 @@ ghost use Rattle.sheet.specs.Lines.{lines, fittings};
 ghost use Rattle.sheet.specs.Sheet.{textWords, limitRows, linesText, fitText, fitsText, sheetText};
 ghost use Rattle.sheet.specs.Calls.{writeAnswer, writeInto};
 use sheet::Answer;
+use sheet::FITTING_HIGH;
+use sheet::FITTING_LINES;
 use sheet::LIMITS;
 use sheet::LINE_WORDS;
 use sheet::NO_ROOM;
@@ -61,7 +63,7 @@ fn write_fit(line: u32, weight: u32, out: &mut [u8], at: usize) -> usize
     if weight == 0 {
         return at;
     }
-    let limits = [[line, 24, PLAIN], [1, 500000, PLAIN]];
+    let limits = [[line, FITTING_LINES, PLAIN], [1, FITTING_HIGH, PLAIN]];
     let fit = [line, weight];
     at + spelling::write_line(b"FIT\t", &limits, &fit, &mut out[at..])
 }

@@ -1,6 +1,6 @@
 -- `read_lines` meets its contract. Assumes nothing.
-use Rattle.sheet.specs.Sheet.{wordAt, limitRows, sheetLimits, limitsOn}
-use Rattle.reading.proofs.LineByLine.{no-lines, one-more}
+use Rattle.sheet.specs.Sheet.{limitRows, sheetLimits, limitsOn}
+use Rattle.reading.proofs.LineByLine.{wordAt, no-lines, one-more}
 use native.Mathlib.Omega.{arith}
 use borrow.Author.Needs.{needs}
 use Rattle.reading.proofs.read_lines.Statement.{statement}
