@@ -1,0 +1,101 @@
+// Whether the numbers of a sheet are within their limits: the quick check that the register and the writer make. Words of alike limits are judged together, by the greatest of them.
+ghost use mathlib.Core.Path.{_≡_};
+ghost use Prim.Native.Nat.{_+_, _*_, _<_};
+ghost use lib.ListN.{length, drop};
+ghost use Rattle.sheet.specs.Sheet.{sheetWords, textWords, limitRows, wordsOk, sheetOk};
+ghost use Rattle.checking.specs.Part.{wordRows, partOk, Places, Run};
+use sheet::SHEET_WORDS;
+use text::Limit;
+
+// The places of the words: after the line FORM come four stations of seven words, VOL, then MASS to SEAT, and the fittings to the end.
+const STATIONS: usize = 6;
+
+const STATION_WORDS: usize = 7;
+
+const VOL: usize = 34;
+
+const MASS: usize = 37;
+
+const FITS: usize = 44;
+
+// Whether the words from a place up to an end are within their limits.
+fn part_ok(limits: &[Limit], words: &[u32], at: usize, end: usize) -> bool
+    requires { ⌜ (now limits ≡ wordRows) × (length (now words) ≡ sheetWords) × Places at end ⌝ }
+    ensures { λ r. ⌜ r ≡ partOk (now (words .entry)) at end ⌝ }
+{
+    spelling::all_hold(&limits[at..end], &words[at..end])
+}
+
+// The same of places whose limits are alike.
+fn run_ok(limits: &[Limit], words: &[u32], at: usize, end: usize) -> bool
+    requires { ⌜ (now limits ≡ wordRows) × (length (now words) ≡ sheetWords) × Run at end ⌝ }
+    ensures { λ r. ⌜ r ≡ partOk (now (words .entry)) at end ⌝ }
+{
+    spelling::alike_hold(limits[at], &words[at..end])
+}
+
+// The same of a station, Q to T by its number: one word B, and six of alike limits.
+fn station_ok(limits: &[Limit], words: &[u32], station: usize) -> bool
+    requires { ⌜ (now limits ≡ wordRows) × (length (now words) ≡ sheetWords) × (station < 4) ⌝ }
+    ensures { λ r. ⌜ r ≡ partOk (now (words .entry)) (6 + 7 * station) (13 + 7 * station) ⌝ }
+{
+    let at = STATIONS + STATION_WORDS * station;
+    if run_ok(limits, words, at, at + 1) {
+        run_ok(limits, words, at + 1, at + STATION_WORDS)
+    } else {
+        false
+    }
+}
+
+fn stations_ok(limits: &[Limit], words: &[u32]) -> bool
+    requires { ⌜ (now limits ≡ wordRows) × (length (now words) ≡ sheetWords) ⌝ }
+    ensures { λ r. ⌜ r ≡ partOk (now (words .entry)) 6 34 ⌝ }
+{
+    let mut station = 0;
+    while station < 4 {
+        if station_ok(limits, words, station) {
+            station += 1;
+        } else {
+            return false;
+        }
+    }
+    true
+}
+
+// The same of the lines VOL to SEAT and the fittings.
+fn rest_ok(limits: &[Limit], words: &[u32]) -> bool
+    requires { ⌜ (now limits ≡ wordRows) × (length (now words) ≡ sheetWords) ⌝ }
+    ensures { λ r. ⌜ r ≡ partOk (now (words .entry)) 34 68 ⌝ }
+{
+    if run_ok(limits, words, VOL, MASS) {
+        if part_ok(limits, words, MASS, FITS) {
+            return run_ok(limits, words, FITS, SHEET_WORDS);
+        }
+    }
+    false
+}
+
+// Whether the words of a sheet, without its HULL number, are within their limits, which are lent.
+pub fn words_ok(limits: &[Limit], words: &[u32]) -> bool
+    requires { ⌜ (now limits ≡ drop 1 limitRows) × (length (now words) ≡ sheetWords) ⌝ }
+    ensures { λ r. ⌜ r ≡ wordsOk (now (words .entry)) ⌝ }
+{
+    if part_ok(limits, words, 0, STATIONS) {
+        if stations_ok(limits, words) {
+            return rest_ok(limits, words);
+        }
+    }
+    false
+}
+
+// Whether a sheet's numbers, its HULL number first, are within their limits, which are lent.
+pub fn sheet_ok(limits: &[Limit], sheet: &[u32]) -> bool
+    requires { ⌜ (now limits ≡ limitRows) × (length (now sheet) ≡ textWords) ⌝ }
+    ensures { λ r. ⌜ r ≡ sheetOk (now (sheet .entry)) ⌝ }
+{
+    if spelling::all_hold(&limits[..1], &sheet[..1]) {
+        words_ok(&limits[1..], &sheet[1..])
+    } else {
+        false
+    }
+}
