@@ -1,5 +1,5 @@
 -- A part of a sheet's words, without its HULL number: those from one place up to another. Assumes nothing: these are definitions.
-use Prim.Native.Nat.{ℕ, _-_, _≤_}
+use Prim.Native.Nat.{ℕ, _-_, _≤_, _<_}
 use mathlib.Core.Path.{_≡_}
 use mathlib.Core.Bool.{Bool, true}
 use mathlib.Core.List.{List, []}
@@ -17,7 +17,7 @@ partOk ws at end = allHold (limitsOf (take (end - at) (drop at wordRows))) 0 (ta
 
 -- places that the words have
 pub record Places (at end : ℕ) : Type 0 where
-  pub order : at ≤ end
+  pub order : at < end
   pub most : end ≤ sheetWords
 
 -- places whose rows are alike, with a range that goes down to 0

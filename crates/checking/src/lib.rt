@@ -3,20 +3,22 @@ ghost use mathlib.Core.Path.{_≡_};
 ghost use Prim.Native.Nat.{_+_, _*_, _<_};
 ghost use lib.ListN.{length, drop};
 ghost use Rattle.sheet.specs.Sheet.{sheetWords, textWords, limitRows, wordsOk, sheetOk};
 ghost use Rattle.checking.specs.Part.{wordRows, partOk, Places, Run};
 use sheet::SHEET_WORDS;
 use text::Limit;
 
-// The places of the words: after the line FORM come four stations of seven words, VOL, then MASS to SEAT, and the fittings to the end.
-const STATIONS: usize = 6;
+// Where lines start among the words, after FORM: the four stations, VOL, MASS, and the fittings.
+const STATION_Q: usize = 6;
 
 const STATION_WORDS: usize = 7;
+
+const STATIONS: usize = 4;
 
 const VOL: usize = 34;
 
 const MASS: usize = 37;
 
-const FITS: usize = 44;
+const FITTED: usize = 44;
 
 // Whether the words from a place up to an end are within their limits.
 fn part_ok(limits: &[Limit], words: &[u32], at: usize, end: usize) -> bool
@@ -37,9 +39,9 @@ fn run_ok(limits: &[Limit], words: &[u32], at: usize, end: usize) -> bool
 // The same of a station, Q to T by its number: one word B, and six of alike limits.
 fn station_ok(limits: &[Limit], words: &[u32], station: usize) -> bool
     requires { ⌜ (now limits ≡ wordRows) × (length (now words) ≡ sheetWords) × (station < 4) ⌝ }
-    ensures { λ r. ⌜ r ≡ partOk (now (words .entry)) (6 + 7 * station) (13 + 7 * station) ⌝ }
+    ensures { λ r. ⌜ r ≡ partOk (now (words .entry)) (6 + 7 * station) (6 + 7 * station + 7) ⌝ }
 {
-    let at = STATIONS + STATION_WORDS * station;
+    let at = STATION_Q + STATION_WORDS * station;
     if run_ok(limits, words, at, at + 1) {
         run_ok(limits, words, at + 1, at + STATION_WORDS)
     } else {
@@ -47,32 +49,33 @@ fn station_ok(limits: &[Limit], words: &[u32], station: usize) -> bool
     }
 }
 
-fn stations_ok(limits: &[Limit], words: &[u32]) -> bool
+// The same from the line VOL to the end: MASS, PWR and SEAT have limits of many kinds.
+fn from_vol(limits: &[Limit], words: &[u32]) -> bool
     requires { ⌜ (now limits ≡ wordRows) × (length (now words) ≡ sheetWords) ⌝ }
-    ensures { λ r. ⌜ r ≡ partOk (now (words .entry)) 6 34 ⌝ }
+    ensures { λ r. ⌜ r ≡ partOk (now (words .entry)) 34 sheetWords ⌝ }
+{
+    if run_ok(limits, words, VOL, MASS) {
+        if part_ok(limits, words, MASS, FITTED) {
+            return run_ok(limits, words, FITTED, SHEET_WORDS);
+        }
+    }
+    false
+}
+
+// The same from the first station to the end.
+fn from_stations(limits: &[Limit], words: &[u32]) -> bool
+    requires { ⌜ (now limits ≡ wordRows) × (length (now words) ≡ sheetWords) ⌝ }
+    ensures { λ r. ⌜ r ≡ partOk (now (words .entry)) 6 sheetWords ⌝ }
 {
     let mut station = 0;
-    while station < 4 {
+    while station < STATIONS {
         if station_ok(limits, words, station) {
             station += 1;
         } else {
             return false;
         }
     }
-    true
-}
-
-// The same of the lines VOL to SEAT and the fittings.
-fn rest_ok(limits: &[Limit], words: &[u32]) -> bool
-    requires { ⌜ (now limits ≡ wordRows) × (length (now words) ≡ sheetWords) ⌝ }
-    ensures { λ r. ⌜ r ≡ partOk (now (words .entry)) 34 68 ⌝ }
-{
-    if run_ok(limits, words, VOL, MASS) {
-        if part_ok(limits, words, MASS, FITS) {
-            return run_ok(limits, words, FITS, SHEET_WORDS);
-        }
-    }
-    false
+    from_vol(limits, words)
 }
 
 // Whether the words of a sheet, without its HULL number, are within their limits, which are lent.
@@ -80,12 +83,11 @@ pub fn words_ok(limits: &[Limit], words: &[u32]) -> bool
     requires { ⌜ (now limits ≡ drop 1 limitRows) × (length (now words) ≡ sheetWords) ⌝ }
     ensures { λ r. ⌜ r ≡ wordsOk (now (words .entry)) ⌝ }
 {
-    if part_ok(limits, words, 0, STATIONS) {
-        if stations_ok(limits, words) {
-            return rest_ok(limits, words);
-        }
+    if part_ok(limits, words, 0, STATION_Q) {
+        from_stations(limits, words)
+    } else {
+        false
     }
-    false
 }
 
 // Whether a sheet's numbers, its HULL number first, are within their limits, which are lent.
