@@ -1,19 +1,15 @@
 -- Words in two parts, the second of which does not look back at the first, are within limits where both parts are. Assumes nothing.
 use mathlib.Core.Path.{_≡_, refl, sym, ap, _∙_}
-use mathlib.Core.Bool.{Bool, true, false, _&&_}
+use mathlib.Core.Bool.{Bool, true, false, _&&_, and-assoc}
 use mathlib.Core.List.{List, [], _∷_, _++_, map-append}
-use Prim.Native.Nat.{ℕ, suc, _+_, _-_, _≤_, _<_}
+use Prim.Native.Nat.{ℕ, suc, _+_, _-_, _≤_}
 use native.Mathlib.Omega.{arith}
 use lib.Dec.{eqb}
 use lib.ListN.{length, take, drop, getD, length-drop, length-map}
 use lib.Seq.{take-add, take-all, drop-drop, drop-cons, length-take-le}
 use Rattle.text.specs.Limit.{Limit, capped, holds, allHold, limitOf, limitsOf}
 use Rattle.sheet.specs.Sheet.{sheetWords, limitsOn, sheetLimits, limitRows, wordsOk}
-use Rattle.checking.specs.Part.{wordRows, partOk, Places}
-
-and-assoc : (a b c : Bool) → (a && (b && c)) ≡ ((a && b) && c)
-and-assoc true b c = refl
-and-assoc false b c = refl
+use Rattle.checking.specs.Part.{wordRows, partOk, WordPart}
 
 pub hold-parts : (ls ms : List Limit) (last : ℕ) (xs ys : List ℕ) → length xs ≡ length ls → ((a : ℕ) → allHold ms a ys ≡ allHold ms 0 ys)
     → allHold (ls ++ ms) last (xs ++ ys) ≡ (allHold ls last xs && allHold ms 0 ys)
@@ -22,7 +18,7 @@ hold-parts [] ms last [] ys e f = f last
 hold-parts [] ms last (x ∷ xs) ys e f = absurd (omega arith)
 hold-parts (l ∷ ls) ms last [] ys e f = absurd (omega arith)
 hold-parts (l ∷ ls) ms last (x ∷ xs) ys e f =
-    ap (λ (b : Bool). holds l last x && b) (hold-parts ls ms x xs ys (omega arith) f) ∙ and-assoc (holds l last x) (allHold ls x xs) (allHold ms 0 ys)
+    ap (λ (b : Bool). holds l last x && b) (hold-parts ls ms x xs ys (omega arith) f) ∙ sym (and-assoc (holds l last x) (allHold ls x xs) (allHold ms 0 ys))
 
 -- a first limit that is not capped does not look back
 pub first-free : (l : Limit) (ls : List Limit) (ns : List ℕ) → eqb (l .rule) capped ≡ false → (a : ℕ) → allHold (l ∷ ls) a ns ≡ allHold (l ∷ ls) 0 ns
@@ -42,29 +38,30 @@ pub rows-many : {rows : List (List ℕ)} → rows ≡ wordRows → length rows �
 unfolding limitRows sheetLimits limitsOn
 rows-many e = ap length e
 
-pub part-long : {A : Type 0} (l : List A) (a b : ℕ) → length l ≡ sheetWords → Places a b → length (take (b - a) (drop a l)) ≡ b - a
+pub part-long : {A : Type 0} (l : List A) (a b : ℕ) → length l ≡ sheetWords → WordPart a b → length (take (b - a) (drop a l)) ≡ b - a
 part-long l a b n p = length-take-le (b - a) (drop a l) (omega (arith, length-drop a l, p .order, p .most))
 
--- whether the word at a place does not look back
+-- the word at a place does not look back
 abbrev Free : ℕ → Type 0
 Free b = eqb (limitOf (getD wordRows b []) .rule) capped ≡ false
 
-part-free : (b e : ℕ) (ns : List ℕ) → Places b e → Free b
+part-free : (b e : ℕ) (ns : List ℕ) → WordPart b e → Free b
     → (a : ℕ) → allHold (limitsOf (take (e - b) (drop b wordRows))) a ns ≡ allHold (limitsOf (take (e - b) (drop b wordRows))) 0 ns
 part-free b e ns p f a =
     let n : e - b ≡ suc (e - suc b) = omega (arith, p .order) in
-    rw (n, drop-cons wordRows b [] (omega (arith, rows-many refl, p .order, p .most))) (first-free (limitOf (getD wordRows b [])) (limitsOf (take (e - suc b) (drop (suc b) wordRows))) ns f a)
+    rw (n, drop-cons wordRows b [] (omega (arith, rows-many refl, p .order, p .most)))
+    (first-free (limitOf (getD wordRows b [])) (limitsOf (take (e - suc b) (drop (suc b) wordRows))) ns f a)
 
--- a place between two others that parts the words
-pub record Cut (a b e : ℕ) : Type 0 where
-  pub first : Places a b
-  pub second : Places b e
+-- a place between two others, from which on the words do not look back
+pub record Parting (a b e : ℕ) : Type 0 where
+  pub first : WordPart a b
+  pub second : WordPart b e
   pub free : Free b
 
-module _ {a b e : ℕ} (c : Cut a b e) (ws : List ℕ) (n : length ws ≡ sheetWords) where
-  joined : partOk ws a e ≡ (partOk ws a b && partOk ws b e)
+module _ {a b e : ℕ} (c : Parting a b e) (ws : List ℕ) (n : length ws ≡ sheetWords) where
+  parts-join : partOk ws a e ≡ (partOk ws a b && partOk ws b e)
   unfolding partOk
-  joined =
+  parts-join =
       let h = c .first .order in
       let k = c .second .order in
       let ls : List (List ℕ) = take (b - a) (drop a wordRows) in
@@ -75,15 +72,16 @@ module _ {a b e : ℕ} (c : Cut a b e) (ws : List ℕ) (n : length ws ≡ sheetW
       (part-free b e (take (e - b) (drop b ws)) (c .second) (c .free)))
 
   pub second-tells : {t : Bool} → partOk ws a b ≡ true → t ≡ partOk ws b e → t ≡ partOk ws a e
-  second-tells p q = q ∙ sym (joined ∙ ap (λ (t : Bool). t && partOk ws b e) p)
+  second-tells p q = q ∙ sym (parts-join ∙ ap (λ (t : Bool). t && partOk ws b e) p)
 
   pub first-fails : partOk ws a b ≡ false → false ≡ partOk ws a e
-  first-fails p = sym (joined ∙ ap (λ (t : Bool). t && partOk ws b e) p)
+  first-fails p = sym (parts-join ∙ ap (λ (t : Bool). t && partOk ws b e) p)
 
-pub part-judged : {rows : List (List ℕ)} → rows ≡ wordRows → (ws : List ℕ) (at end : ℕ) → allHold (limitsOf (take (end - at) (drop at rows))) 0 (take (end - at) (drop at ws)) ≡ partOk ws at end
+pub part-judged : {rows : List (List ℕ)} → rows ≡ wordRows → (ws : List ℕ) (at end : ℕ)
+    → allHold (limitsOf (take (end - at) (drop at rows))) 0 (take (end - at) (drop at ws)) ≡ partOk ws at end
 unfolding partOk
 part-judged e ws at end = rw e
 
-pub whole : (ws : List ℕ) → length ws ≡ sheetWords → partOk ws 0 sheetWords ≡ wordsOk ws
+pub words-whole : (ws : List ℕ) → length ws ≡ sheetWords → partOk ws 0 sheetWords ≡ wordsOk ws
 unfolding partOk limitRows sheetLimits limitsOn
-whole ws n = ap (allHold (drop 1 sheetLimits) 0) (take-all sheetWords ws (omega arith))
+words-whole ws n = ap (allHold (drop 1 sheetLimits) 0) (take-all sheetWords ws (omega arith))

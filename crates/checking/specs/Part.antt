@@ -16,12 +16,12 @@ unfoldable pub partOk : List ℕ → ℕ → ℕ → Bool
 partOk ws at end = allHold (limitsOf (take (end - at) (drop at wordRows))) 0 (take (end - at) (drop at ws))
 
 -- places that the words have
-pub record Places (at end : ℕ) : Type 0 where
+pub record WordPart (at end : ℕ) : Type 0 where
   pub order : at < end
   pub most : end ≤ sheetWords
 
 -- places whose rows are alike, with a range that goes down to 0
-pub record Run (at end : ℕ) : Type 0 where
-  pub places : Places at end
+pub record AlikePart (at end : ℕ) : Type 0 where
+  pub places : WordPart at end
   pub alike : take (end - at) (drop at wordRows) ≡ replicate (end - at) (getD wordRows at [])
   pub low : fromZero (limitOf (getD wordRows at [])) ≡ true

@@ -3,7 +3,8 @@ ghost use mathlib.Core.Path.{_≡_};
 ghost use Prim.Native.Nat.{_+_, _*_, _<_};
 ghost use lib.ListN.{length, drop};
 ghost use Rattle.sheet.specs.Sheet.{sheetWords, textWords, limitRows, wordsOk, sheetOk};
-ghost use Rattle.checking.specs.Part.{wordRows, partOk, Places, Run};
+ghost use Rattle.checking.specs.Part.{wordRows, partOk, WordPart, AlikePart};
+use sheet::FITTINGS;
 use sheet::SHEET_WORDS;
 use text::Limit;
 
@@ -14,15 +15,15 @@ const STATION_WORDS: usize = 7;
 
 const STATIONS: usize = 4;
 
-const VOL: usize = 34;
+const VOL: usize = STATION_Q + STATIONS * STATION_WORDS;
 
-const MASS: usize = 37;
+const MASS: usize = VOL + 3;
 
-const FITTED: usize = 44;
+const FITTED: usize = SHEET_WORDS - FITTINGS;
 
 // Whether the words from a place up to an end are within their limits.
 fn part_ok(limits: &[Limit], words: &[u32], at: usize, end: usize) -> bool
-    requires { ⌜ (now limits ≡ wordRows) × (length (now words) ≡ sheetWords) × Places at end ⌝ }
+    requires { ⌜ (now limits ≡ wordRows) × (length (now words) ≡ sheetWords) × WordPart at end ⌝ }
     ensures { λ r. ⌜ r ≡ partOk (now (words .entry)) at end ⌝ }
 {
     spelling::all_hold(&limits[at..end], &words[at..end])
@@ -30,7 +31,7 @@ fn part_ok(limits: &[Limit], words: &[u32], at: usize, end: usize) -> bool
 
 // The same of places whose limits are alike.
 fn run_ok(limits: &[Limit], words: &[u32], at: usize, end: usize) -> bool
-    requires { ⌜ (now limits ≡ wordRows) × (length (now words) ≡ sheetWords) × Run at end ⌝ }
+    requires { ⌜ (now limits ≡ wordRows) × (length (now words) ≡ sheetWords) × AlikePart at end ⌝ }
     ensures { λ r. ⌜ r ≡ partOk (now (words .entry)) at end ⌝ }
 {
     spelling::alike_hold(limits[at], &words[at..end])

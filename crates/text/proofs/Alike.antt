@@ -1,5 +1,5 @@
 -- Numbers that stand by one limit whose range goes down to 0: the greatest of them tells. Assumes nothing.
-use mathlib.Core.Path.{_≡_, refl, sym, ap, _∙_}
+use mathlib.Core.Path.{_≡_, refl, sym}
 use mathlib.Core.Bool.{Bool, true, false, _&&_, and-true}
 use mathlib.Core.List.{List, [], _∷_, foldr}
 use Prim.Native.Nat.{ℕ, zero, suc, _+_, _≤_, _<_, max}
@@ -29,9 +29,9 @@ or-none-holds low high last zero h = sym (leb·zero high)
 or-none-holds low high last (suc n) h =
     rw (ne-eqb (suc n) 0 (λ (z : suc n ≡ 0). omega arith), lt-ltb 0 (suc n) (omega arith), le-leb low (suc n) (omega arith)) (and-true (leb (suc n) high))
 
-pub from-zero : (l : Limit) (last n : ℕ) → fromZero l ≡ true → holds l last n ≡ leb n (l .high)
+low-holds : (l : Limit) (last n : ℕ) → fromZero l ≡ true → holds l last n ≡ leb n (l .high)
 unfolding fromZero
-from-zero l last n f = go (eqb (l .rule) orNone) refl
+low-holds l last n f = go (eqb (l .rule) orNone) refl
   where
     go : (t : Bool) → eqb (l .rule) orNone ≡ t → holds l last n ≡ leb n (l .high)
     go true e = rw (eqb-true (l .rule) orNone e) (or-none-holds (l .low) (l .high) last n (leb-true (l .low) 1 (rw e at f)))
@@ -52,4 +52,4 @@ max-leb a b h = go (leb a h) (leb b h) refl refl
 pub alike-holds : (l : Limit) (last : ℕ) (ns : List ℕ) → fromZero l ≡ true → allHold (replicate (length ns) l) last ns ≡ leb (foldr max 0 ns) (l .high)
 unfolding allHold
 alike-holds l last [] f = sym (leb·zero (l .high))
-alike-holds l last (n ∷ ns) f = rw (from-zero l last n f, alike-holds l n ns f) (sym (max-leb n (foldr max 0 ns) (l .high)))
+alike-holds l last (n ∷ ns) f = rw (low-holds l last n f, alike-holds l n ns f) (sym (max-leb n (foldr max 0 ns) (l .high)))

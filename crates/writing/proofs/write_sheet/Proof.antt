@@ -31,7 +31,6 @@ write-words-requires c κs =
     (refl, search needs, text-most (start .args .sheet .now) (sym (at-sheet-ok .sheet-ok .ensures) ∙ at-if1 .if1 .taken))
 
 returns : tie.Need-returns
-unfolding limitRows sheetLimits limitsOn
 returns c =
     let start = c .before .before .before .before .before .before .before .before .before .before .before in
     let at-sheet-ok = c .before .before .before .before .before .before .before in
@@ -39,7 +38,6 @@ returns c =
     settled-short (start .args .sheet .now) (start .args .out .now) (sym (at-sheet-ok .sheet-ok .ensures) ∙ at-if1 .if1 .taken) (c .before .before .write-words .ensures) (c .if2 .taken)
 
 array-share-prefix-bytes : tie.Need-array-share-prefix-bytes
-unfolding limitRows sheetLimits limitsOn
 array-share-prefix-bytes c =
     let start = c .before .before .before .before .before .before .before .before .before .before .before in
     let at-sheet-ok = c .before .before .before .before .before .before .before in
@@ -47,7 +45,6 @@ array-share-prefix-bytes c =
     written-in (start .args .sheet .now) (start .args .out .now) (sym (at-sheet-ok .sheet-ok .ensures) ∙ at-if1 .if1 .taken) (c .before .before .write-words .ensures) (text-most (start .args .sheet .now) (sym (at-sheet-ok .sheet-ok .ensures) ∙ at-if1 .if1 .taken))
 
 slice-aggregate-write-bytes : tie.Need-slice-aggregate-write-bytes
-unfolding limitRows sheetLimits limitsOn
 slice-aggregate-write-bytes c =
     let start = c .before .before .before .before .before .before .before .before .before .before .before .before in
     let at-sheet-ok = c .before .before .before .before .before .before .before .before in
@@ -59,7 +56,6 @@ write-bytes-requires : tie.Need-write-bytes-requires
 write-bytes-requires c κs = search needs
 
 cast-t95 : tie.Need-cast-t95
-unfolding limitRows sheetLimits limitsOn
 cast-t95 c =
     let start = c .before .before .before .before .before .before .before .before .before .before .before .before .before .before .before .before in
     let at-sheet-ok = c .before .before .before .before .before .before .before .before .before .before .before .before in
@@ -71,7 +67,6 @@ same-length : tie.Need-same-length
 same-length c = search needs
 
 returns-2 : tie.Need-returns-2
-unfolding limitRows sheetLimits limitsOn
 returns-2 c =
     let start = c .before .before .before .before .before .before .before .before .before .before .before .before .before .before .before .before in
     let at-sheet-ok = c .before .before .before .before .before .before .before .before .before .before .before .before in
@@ -81,7 +76,6 @@ returns-2 c =
     settled-written (start .args .sheet .now) (start .args .out .now) (sym (at-sheet-ok .sheet-ok .ensures) ∙ at-if1 .if1 .taken) (at-write-words .write-words .ensures) (text-most (start .args .sheet .now) (sym (at-sheet-ok .sheet-ok .ensures) ∙ at-if1 .if1 .taken)) (at-if2 .if2 .left) (c .before .before .write-bytes .ensures)
 
 returns-3 : tie.Need-returns-3
-unfolding limitRows sheetLimits limitsOn
 returns-3 c =
     let start = c .before .before .before .before .before in
     settled-outside (start .args .sheet .now) (start .args .out .now) (sym (c .before .sheet-ok .ensures) ∙ c .if1 .left)
