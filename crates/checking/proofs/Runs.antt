@@ -1,14 +1,14 @@
--- WordPart whose limits are alike, and those of the four stations. Assumes nothing.
+-- Places whose limits are alike, and those of the four stations. Assumes nothing.
 use mathlib.Core.Path.{_≡_, refl, sym, ap, _∙_}
 use mathlib.Core.Bool.{true}
 use mathlib.Core.List.{List, [], _∷_}
-use Prim.Native.Nat.{ℕ, zero, suc, _+_, _*_, _-_, _<_}
+use Prim.Native.Nat.{ℕ, zero, suc, _+_, _-_, _<_}
 use native.Mathlib.Omega.{arith}
 use borrow.Author.Needs.{needs}
 use lib.ListN.{length, take, drop, getD, replicate}
 use Rattle.text.specs.Limit.{Limit, allHold, limitOf, limitsOf, fromZero}
 use Rattle.sheet.specs.Sheet.{sheetWords, limitsOn, sheetLimits, limitRows}
-use Rattle.checking.specs.Part.{wordRows, partOk, WordPart, AlikePart}
+use Rattle.checking.specs.Part.{wordRows, stationAt, partOk, AlikePart}
 use Rattle.checking.proofs.Parts.{Parting, part-long, second-tells}
 
 limits-alike : (n : ℕ) (row : List ℕ) → limitsOf (replicate n row) ≡ replicate n (limitOf row)
@@ -31,7 +31,7 @@ pub record Station (at : ℕ) : Type 0 where
   pub within : Parting at (at + 1) (at + 7)
   pub after : Parting at (at + 7) sheetWords
 
-pub station : (k : ℕ) → k < 4 → Station (6 + 7 * k)
+pub station : (k : ℕ) → k < 4 → Station (stationAt k)
 unfolding limitRows sheetLimits limitsOn fromZero
 station zero h = search needs
 station (suc zero) h = search needs
@@ -39,10 +39,10 @@ station (suc (suc zero)) h = search needs
 station (suc (suc (suc zero))) h = search needs
 station (suc (suc (suc (suc k)))) h = absurd (omega arith)
 
-pub station-more : (ws : List ℕ) → length ws ≡ sheetWords → (k : ℕ) → k < 4 → partOk ws (6 + 7 * k) (6 + 7 * k + 7) ≡ true
-    → partOk ws (6 + 7 * k) sheetWords ≡ partOk ws (6 + 7 * (k + 1)) sheetWords
+pub station-more : (ws : List ℕ) → length ws ≡ sheetWords → (k : ℕ) → k < 4 → partOk ws (stationAt k) (stationAt k + 7) ≡ true
+    → partOk ws (stationAt k) sheetWords ≡ partOk ws (stationAt (k + 1)) sheetWords
 station-more ws n k h p =
-    let next : 6 + 7 * k + 7 ≡ 6 + 7 * (k + 1) = omega arith in
+    let next : stationAt k + 7 ≡ stationAt (k + 1) = omega arith in
     sym (second-tells (station k h .after) ws n p refl) ∙ ap (λ (i : ℕ). partOk ws i sheetWords) next
 
 -- ---- the other lines

@@ -1,5 +1,5 @@
 -- A part of a sheet's words, without its HULL number: those from one place up to another. Assumes nothing: these are definitions.
-use Prim.Native.Nat.{ℕ, _-_, _≤_, _<_}
+use Prim.Native.Nat.{ℕ, _+_, _*_, _-_, _≤_, _<_}
 use mathlib.Core.Path.{_≡_}
 use mathlib.Core.Bool.{Bool, true}
 use mathlib.Core.List.{List, []}
@@ -10,6 +10,10 @@ use Rattle.sheet.specs.Sheet.{sheetWords, limitRows}
 -- the rows of the table for the words
 abbrev pub wordRows : List (List ℕ)
 wordRows = drop 1 limitRows
+
+-- where the stations Q to T stand, seven words each, after the six of FORM; the line VOL follows as a fifth would
+abbrev pub stationAt : ℕ → ℕ
+stationAt k = 6 + 7 * k
 
 -- whether the words from a place up to an end are within their limits, with no word before them
 unfoldable pub partOk : List ℕ → ℕ → ℕ → Bool

@@ -1,9 +1,9 @@
 // Whether the numbers of a sheet are within their limits: the quick check that the register and the writer make. Words of alike limits are judged together, by the greatest of them.
 ghost use mathlib.Core.Path.{_≡_};
-ghost use Prim.Native.Nat.{_+_, _*_, _<_};
+ghost use Prim.Native.Nat.{_+_, _<_};
 ghost use lib.ListN.{length, drop};
 ghost use Rattle.sheet.specs.Sheet.{sheetWords, textWords, limitRows, wordsOk, sheetOk};
-ghost use Rattle.checking.specs.Part.{wordRows, partOk, WordPart, AlikePart};
+ghost use Rattle.checking.specs.Part.{wordRows, stationAt, partOk, WordPart, AlikePart};
 use sheet::FITTINGS;
 use sheet::SHEET_WORDS;
 use text::Limit;
@@ -40,7 +40,7 @@ fn run_ok(limits: &[Limit], words: &[u32], at: usize, end: usize) -> bool
 // The same of a station, Q to T by its number: one word B, and six of alike limits.
 fn station_ok(limits: &[Limit], words: &[u32], station: usize) -> bool
     requires { ⌜ (now limits ≡ wordRows) × (length (now words) ≡ sheetWords) × (station < 4) ⌝ }
-    ensures { λ r. ⌜ r ≡ partOk (now (words .entry)) (6 + 7 * station) (6 + 7 * station + 7) ⌝ }
+    ensures { λ r. ⌜ r ≡ partOk (now (words .entry)) (stationAt station) (stationAt station + 7) ⌝ }
 {
     let at = STATION_Q + STATION_WORDS * station;
     if run_ok(limits, words, at, at + 1) {
@@ -53,7 +53,7 @@ fn station_ok(limits: &[Limit], words: &[u32], station: usize) -> bool
 // The same from the line VOL to the end: MASS, PWR and SEAT have limits of many kinds.
 fn from_vol(limits: &[Limit], words: &[u32]) -> bool
     requires { ⌜ (now limits ≡ wordRows) × (length (now words) ≡ sheetWords) ⌝ }
-    ensures { λ r. ⌜ r ≡ partOk (now (words .entry)) 34 sheetWords ⌝ }
+    ensures { λ r. ⌜ r ≡ partOk (now (words .entry)) (stationAt 4) sheetWords ⌝ }
 {
     if run_ok(limits, words, VOL, MASS) {
         if part_ok(limits, words, MASS, FITTED) {
@@ -66,7 +66,7 @@ fn from_vol(limits: &[Limit], words: &[u32]) -> bool
 // The same from the first station to the end.
 fn from_stations(limits: &[Limit], words: &[u32]) -> bool
     requires { ⌜ (now limits ≡ wordRows) × (length (now words) ≡ sheetWords) ⌝ }
-    ensures { λ r. ⌜ r ≡ partOk (now (words .entry)) 6 sheetWords ⌝ }
+    ensures { λ r. ⌜ r ≡ partOk (now (words .entry)) (stationAt 0) sheetWords ⌝ }
 {
     let mut station = 0;
     while station < STATIONS {

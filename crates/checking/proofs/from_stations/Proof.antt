@@ -1,8 +1,8 @@
 -- `from_stations` meets its contract. Assumes nothing.
 use mathlib.Core.Path.{_≡_, refl, sym, ap, _∙_}
-use Prim.Native.Nat.{ℕ, _+_, _*_, _-_, _≤_}
+use Prim.Native.Nat.{ℕ, _-_, _≤_}
 use Rattle.sheet.specs.Sheet.{sheetWords}
-use Rattle.checking.specs.Part.{partOk}
+use Rattle.checking.specs.Part.{stationAt, partOk}
 use Rattle.checking.proofs.Parts.{first-fails}
 use Rattle.checking.proofs.Runs.{station, station-more}
 use native.Mathlib.Omega.{arith}
@@ -10,7 +10,7 @@ use Rattle.checking.proofs.from_stations.Statement.{statement}
 use Rattle.checking.proofs.from_stations.Tie as tie
 
 abbrev Inv-loop : tie.InvT-loop
-Inv-loop limits words station₀ station = (station ≤ 4) × (partOk words 6 sheetWords ≡ partOk words (6 + 7 * station) sheetWords)
+Inv-loop limits words station₀ station = (station ≤ 4) × (partOk words (stationAt 0) sheetWords ≡ partOk words (stationAt station) sheetWords)
 
 abbrev μ-loop : tie.MeasureT-loop
 μ-loop limits words station₀ station = 4 - station
@@ -51,7 +51,7 @@ returns-2 c =
     let start = c .before .before .before .before in
     let at-loop = c .before .before in
     let all : at-loop .loop .station ≡ 4 = omega (arith, at-loop .loop .inv .0, c .before .loop-test .left) in
-    c .from-vol .ensures ∙ sym (at-loop .loop .inv .1 ∙ ap (λ (k : ℕ). partOk (start .args .words .now) (6 + 7 * k) sheetWords) all)
+    c .from-vol .ensures ∙ sym (at-loop .loop .inv .1 ∙ ap (λ (k : ℕ). partOk (start .args .words .now) (stationAt k) sheetWords) all)
 
 pub from-stations-spec : {M : Type 1} → statement M
 from-stations-spec =
