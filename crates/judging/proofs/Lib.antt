@@ -1,3 +1,2 @@
 -- The laws of the check.
-pub mod Parts
 pub mod Checks

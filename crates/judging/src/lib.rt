@@ -12,21 +12,13 @@ use memory::REGISTER_WORDS;
 use sheet::SHEET_WORDS;
 use text::Limit;
 
-// The words of the line FORM, the only one that has a number capped by the one before it.
-const FORM_WORDS: usize = 6;
-
 // Whether the words from a place on are a sheet within limits. The limits are those of a sheet without its HULL number.
 fn sheet_ok(limits: &[Limit], mem: &[u32], at: usize) -> bool
     requires { ⌜ (now limits ≡ drop 1 limitRows) × (at + sheetWords ≤ length (now mem)) ⌝ }
     ensures { λ r. ⌜ r ≡ wordsOk (part (now (mem .entry)) at sheetWords) ⌝ }
 {
-    let rest = at + FORM_WORDS;
     let end = at + SHEET_WORDS;
-    if spelling::all_hold(&limits[..FORM_WORDS], &mem[at..rest]) {
-        spelling::all_hold_free(&limits[FORM_WORDS..], &mem[rest..end])
-    } else {
-        false
-    }
+    checking::words_ok(limits, &mem[at..end])
 }
 
 fn hull_ok(limits: &[Limit], mem: &[u32], hull: usize) -> bool

@@ -1,5 +1,5 @@
 -- The laws of sheets and engine rows, a file for each concept.
-pub mod Forms
+pub mod Table
 pub mod Lines
 pub mod Fits
 pub mod Whole

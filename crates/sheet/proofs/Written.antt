@@ -13,7 +13,7 @@ use Rattle.text.proofs.Stores.{putBack, rest-part, drop-more}
 use Rattle.text.proofs.Laid.{laid-none, laid-more, laid-part}
 use Rattle.sheet.specs.Lines.{lines, fittings, fittingHigh, fitLine}
 use Rattle.sheet.specs.Sheet.{textWords, limitsOn, sheetLimits, limitRows, linesText, fitText, fitsText}
-use Rattle.sheet.proofs.Forms.{rows-limits, rows-long}
+use Rattle.sheet.proofs.Table.{rows-limits, rows-long}
 
 -- what is laid keeps the length
 pub laid-length : {bs o₀ o : List ℕ} {at r : ℕ} → Laid bs o₀ at r o → length o ≡ length o₀

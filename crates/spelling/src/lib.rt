@@ -1,14 +1,15 @@
 // Bytes to numbers and back: the field finder, the number reader and writer, and one reader and one writer for every line of a sheet or of engine rows.
 ghost use mathlib.Core.Path.{_≡_};
 ghost use mathlib.Core.Bool.{_&&_, cond, true};
-ghost use Prim.Native.Nat.{_+_, _-_, _<_, _^_, min};
+ghost use mathlib.Core.List.{foldr};
+ghost use Prim.Native.Nat.{_+_, _-_, _<_, _^_, min, max};
 ghost use lib.Dec.{leb, eqb};
-ghost use lib.ListN.{set};
+ghost use lib.ListN.{length, replicate, set};
 ghost use lib.Seq.{sets};
 ghost use Rattle.text.specs.Field.{fieldOf, begins, agreed};
 ghost use Rattle.text.specs.Quoted.{tab, feed, dash};
 ghost use Rattle.text.specs.Number.{isDigit, nineDigits, numberOf, digitsOf};
-ghost use Rattle.text.specs.Limit.{orNone, limitOf, isNone, within, holds, allHold, limitsOf, capped, uncapped};
+ghost use Rattle.text.specs.Limit.{orNone, limitOf, isNone, within, holds, allHold, limitsOf, fromZero};
 ghost use Rattle.text.specs.Line.{lineOf, readEntry, readNumbers, readLine, entryText, numbersText, lineText, Reads, Laid};
 use text::BROKEN_LINE;
 use text::CAPPED;
@@ -200,31 +201,28 @@ pub fn all_hold(table: &[Limit], numbers: &[u32]) -> bool
     true
 }
 
-// Whether n may stand, of a limit that does not look back at the number before.
-fn may_stand_free(l: Limit, n: u32) -> bool
-    requires { ⌜ (limitOf l .rule ≡ capped → ⊥) ⌝ }
-    ensures { λ r. ⌜ r ≡ holds (limitOf l) 0 n ⌝ }
+// The greatest of the numbers, 0 where there are none.
+fn greatest(numbers: &[u32]) -> u32
+    ensures { λ r. ⌜ r ≡ foldr max 0 (now (numbers .entry)) ⌝ }
 {
-    if n < l[0] { is_none(l, n) } else { n <= l[1] }
-}
-
-// The same check as all_hold, of limits none of which looks back: it is the quicker of the two, since no number asks for its rule but one below its range.
-pub fn all_hold_free(table: &[Limit], numbers: &[u32]) -> bool
-    requires { ⌜ uncapped (limitsOf (now table)) ≡ true ⌝ }
-    ensures { λ r. ⌜ r ≡ allHold (limitsOf (now (table .entry))) 0 (now (numbers .entry)) ⌝ }
-{
-    if table.len() != numbers.len() {
-        return false;
-    }
+    let mut top = 0;
     let mut k = 0;
     while k < numbers.len() {
-        if may_stand_free(table[k], numbers[k]) {
-            k += 1;
-        } else {
-            return false;
+        let n = numbers[k];
+        if top < n {
+            top = n;
         }
+        k += 1;
     }
-    true
+    top
+}
+
+// Whether each of the numbers may stand by one limit, whose range goes down to 0, or to 1 with 0 for none: the greatest of them tells, so that the loop has no branch.
+pub fn alike_hold(l: Limit, numbers: &[u32]) -> bool
+    requires { ⌜ fromZero (limitOf l) ≡ true ⌝ }
+    ensures { λ r. ⌜ r ≡ allHold (replicate (length (now (numbers .entry))) (limitOf l)) 0 (now (numbers .entry)) ⌝ }
+{
+    greatest(numbers) <= l[1]
 }
 
 // ---- a line

@@ -4,7 +4,7 @@ pub mod Field
 pub mod Number
 pub mod NumberTrip
 pub mod Limit
-pub mod Free
+pub mod Alike
 pub mod Entry
 pub mod Reading
 pub mod Line

@@ -62,11 +62,11 @@ hold-uneven [] last (n ∷ ns) h = refl
 hold-uneven (l ∷ ls) last [] h = refl
 hold-uneven (l ∷ ls) last (n ∷ ns) h = rw (hold-uneven ls n ns (λ (e : length ls ≡ length ns). h (ap suc e)), and-false)
 
-pub hold-more : (l : Limit) (ls : List Limit) (last n : ℕ) (ns : List ℕ) → holds l last n ≡ true → allHold (l ∷ ls) last (n ∷ ns) ≡ allHold ls n ns
+hold-more : (l : Limit) (ls : List Limit) (last n : ℕ) (ns : List ℕ) → holds l last n ≡ true → allHold (l ∷ ls) last (n ∷ ns) ≡ allHold ls n ns
 unfolding allHold
 hold-more l ls last n ns e = rw e
 
-pub hold-fails : (l : Limit) (ls : List Limit) (last n : ℕ) (ns : List ℕ) → holds l last n ≡ false → allHold (l ∷ ls) last (n ∷ ns) ≡ false
+hold-fails : (l : Limit) (ls : List Limit) (last n : ℕ) (ns : List ℕ) → holds l last n ≡ false → allHold (l ∷ ls) last (n ∷ ns) ≡ false
 unfolding allHold
 hold-fails l ls last n ns e = rw e
 

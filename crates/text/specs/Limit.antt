@@ -1,7 +1,7 @@
 -- 01, The sheet: the limits of a number, as the table gives them: "low..high", "not above" the number before it, or "`-`" where there is none.
 -- The reader, the writer and the register's check go by these alone. Assumes nothing: these are definitions.
 use Prim.Native.Nat.{ℕ}
-use mathlib.Core.Bool.{Bool, true, false, not, _&&_, _||_, cond}
+use mathlib.Core.Bool.{Bool, true, false, _&&_, _||_, cond}
 use mathlib.Core.List.{List, [], _∷_, map}
 use lib.Dec.{eqb, leb, ltb}
 use lib.ListN.{getD}
@@ -59,10 +59,9 @@ allHold [] last (n ∷ ns) = false
 allHold (l ∷ ls) last [] = false
 allHold (l ∷ ls) last (n ∷ ns) = holds l last n && allHold ls n ns
 
--- whether none of the limits looks back at the number before
-unfoldable pub uncapped : List Limit → Bool
-uncapped [] = true
-uncapped (l ∷ ls) = not (eqb (l .rule) capped) && uncapped ls
+-- whether any number up to the highest may stand, after whatever number: low..high goes down to 0, or to 1 with 0 for none
+unfoldable pub fromZero : Limit → Bool
+fromZero l = cond (eqb (l .rule) orNone) (leb (l .low) 1) (eqb (l .rule) plain && eqb (l .low) 0)
 
 -- the code's tables: three numbers a limit
 abbrev pub limitOf : List ℕ → Limit

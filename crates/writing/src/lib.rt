@@ -102,7 +102,7 @@ pub fn write_sheet(sheet: &[u32; TEXT_WORDS], out: &mut [u8]) -> Answer
     ensures { λ r. ⌜ Settled (writeAnswer (now (sheet .entry)) (length (now (out .entry)))) (writeInto (now (sheet .entry)) (now (out .entry))) r (now (out .exit)) ⌝ }
 {
     let limits = LIMITS;
-    if spelling::all_hold(&limits, sheet) {
+    if checking::sheet_ok(&limits, sheet) {
         let mut bytes = [0u8; MOST_TEXT];
         let len = write_words(&limits, sheet, &mut bytes);
         if out.len() < len {

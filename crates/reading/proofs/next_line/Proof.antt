@@ -1,6 +1,6 @@
 -- `next_line` meets its contract. Assumes nothing.
 use mathlib.Core.Path.{ap}
-use Rattle.sheet.proofs.Forms.{rows-long}
+use Rattle.sheet.proofs.Table.{rows-long}
 use Rattle.reading.specs.Steps.{reached}
 use Rattle.reading.proofs.LineByLine.{stays, line-in, goes-on}
 use native.Mathlib.Omega.{arith}

@@ -6,7 +6,7 @@ use lib.ListN.{length}
 use Rattle.text.specs.Limit.{limitsOf}
 use Rattle.sheet.specs.Sheet.{limitRows, sheetLimits, limitsOn}
 
-pub table-limits : limitsOf limitRows ≡ sheetLimits
+table-limits : limitsOf limitRows ≡ sheetLimits
 unfolding limitRows sheetLimits limitsOn
 table-limits = refl
 

@@ -1,0 +1,2 @@
+-- What the inner functions of the check promise.
+pub mod Part
