@@ -4,11 +4,11 @@ use mathlib.Core.Bool.{Bool, true, false, _&&_}
 use mathlib.Core.List.{List, _++_}
 use Prim.Native.Nat.{ℕ, _-_}
 use native.Mathlib.Omega.{arith}
-use lib.ListN.{length, take, drop, length-drop, take-append-drop}
+use lib.ListN.{length, take, drop, take-append-drop}
 use lib.Seq.{length-take-le}
 use Rattle.text.specs.Limit.{Limit, allHold, limitsOf}
 use Rattle.text.proofs.Stores.{rest-part}
-use Rattle.sheet.specs.Sheet.{sheetWords, textWords, limitsOn, sheetLimits, limitRows, sheetOk, wordsOk}
+use Rattle.sheet.specs.Sheet.{textWords, limitsOn, sheetLimits, limitRows, sheetOk, wordsOk}
 use Rattle.checking.proofs.Parts.{hold-parts, first-free}
 
 words-free : (ws : List ℕ) (a : ℕ) → allHold (drop 1 sheetLimits) a ws ≡ wordsOk ws
@@ -23,24 +23,16 @@ hull-one : length (limitsOf (take 1 limitRows)) ≡ 1
 unfolding limitRows sheetLimits limitsOn
 hull-one = refl
 
-pub words-rows : {rows : List (List ℕ)} → rows ≡ limitRows → take (length rows - 1) (drop 1 rows) ≡ drop 1 limitRows
-unfolding limitRows sheetLimits limitsOn
-words-rows e = ap (λ (rows : List (List ℕ)). take (length rows - 1) (drop 1 rows)) e
-
 module _ (s : List ℕ) (n : length s ≡ textWords) where
-  pub words-many : length (take (length s - 1) (drop 1 s)) ≡ sheetWords
-  words-many = ap length (rest-part s 1) ∙ length-drop 1 s ∙ rw n
+  parted : sheetOk s ≡ (allHold (limitsOf (take 1 limitRows)) 0 (take 1 s) && wordsOk (take (length s - 1) (drop 1 s)))
+  parted =
+      rw (rest-part s 1)
+      (ap (allHold sheetLimits 0) (sym (take-append-drop 1 s))
+      ∙ (ap (λ (ls : List Limit). allHold ls 0 (take 1 s ++ drop 1 s)) (sym hull-first)
+      ∙ hold-parts (limitsOf (take 1 limitRows)) (drop 1 sheetLimits) 0 (take 1 s) (drop 1 s) (length-take-le 1 s (omega arith) ∙ sym hull-one) (words-free (drop 1 s))))
 
-  module _ {rows : List (List ℕ)} (e : rows ≡ limitRows) where
-    parted : sheetOk s ≡ (allHold (limitsOf (take 1 rows)) 0 (take 1 s) && wordsOk (take (length s - 1) (drop 1 s)))
-    parted =
-        rw (e, rest-part s 1)
-        (ap (allHold sheetLimits 0) (sym (take-append-drop 1 s))
-        ∙ (ap (λ (ls : List Limit). allHold ls 0 (take 1 s ++ drop 1 s)) (sym hull-first)
-        ∙ hold-parts (limitsOf (take 1 limitRows)) (drop 1 sheetLimits) 0 (take 1 s) (drop 1 s) (length-take-le 1 s (omega arith) ∙ sym hull-one) (words-free (drop 1 s))))
+  pub words-tell : {t : Bool} → allHold (limitsOf (take 1 limitRows)) 0 (take 1 s) ≡ true → t ≡ wordsOk (take (length s - 1) (drop 1 s)) → t ≡ sheetOk s
+  words-tell p q = q ∙ sym (parted ∙ ap (λ (t : Bool). t && wordsOk (take (length s - 1) (drop 1 s))) p)
 
-    pub words-tell : {t : Bool} → allHold (limitsOf (take 1 rows)) 0 (take 1 s) ≡ true → t ≡ wordsOk (take (length s - 1) (drop 1 s)) → t ≡ sheetOk s
-    words-tell p q = q ∙ sym (parted ∙ ap (λ (t : Bool). t && wordsOk (take (length s - 1) (drop 1 s))) p)
-
-    pub hull-fails : allHold (limitsOf (take 1 rows)) 0 (take 1 s) ≡ false → false ≡ sheetOk s
-    hull-fails p = sym (parted ∙ ap (λ (t : Bool). t && wordsOk (take (length s - 1) (drop 1 s))) p)
+  pub hull-fails : allHold (limitsOf (take 1 limitRows)) 0 (take 1 s) ≡ false → false ≡ sheetOk s
+  hull-fails p = sym (parted ∙ ap (λ (t : Bool). t && wordsOk (take (length s - 1) (drop 1 s))) p)

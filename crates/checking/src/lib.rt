@@ -1,10 +1,11 @@
 // Whether the numbers of a sheet are within their limits: the quick check that the register and the writer make. Words of alike limits are judged together, by the greatest of them.
 ghost use mathlib.Core.Path.{_≡_};
 ghost use Prim.Native.Nat.{_+_, _<_};
-ghost use lib.ListN.{length, drop};
-ghost use Rattle.sheet.specs.Sheet.{sheetWords, textWords, limitRows, wordsOk, sheetOk};
+ghost use lib.ListN.{length};
+ghost use Rattle.sheet.specs.Sheet.{sheetWords, textWords, wordsOk, sheetOk};
 ghost use Rattle.checking.specs.Part.{wordRows, stationAt, partOk, WordPart, AlikePart};
 use sheet::FITTINGS;
+use sheet::LIMITS;
 use sheet::SHEET_WORDS;
 use text::Limit;
 
@@ -79,25 +80,27 @@ fn from_stations(limits: &[Limit], words: &[u32]) -> bool
     from_vol(limits, words)
 }
 
-// Whether the words of a sheet, without its HULL number, are within their limits, which are lent.
-pub fn words_ok(limits: &[Limit], words: &[u32]) -> bool
-    requires { ⌜ (now limits ≡ drop 1 limitRows) × (length (now words) ≡ sheetWords) ⌝ }
+// Whether the words of a sheet, without its HULL number, are within their limits.
+pub fn words_ok(words: &[u32]) -> bool
+    requires { ⌜ length (now words) ≡ sheetWords ⌝ }
     ensures { λ r. ⌜ r ≡ wordsOk (now (words .entry)) ⌝ }
 {
-    if part_ok(limits, words, 0, STATION_Q) {
-        from_stations(limits, words)
+    let limits = LIMITS;
+    if part_ok(&limits[1..], words, 0, STATION_Q) {
+        from_stations(&limits[1..], words)
     } else {
         false
     }
 }
 
-// Whether a sheet's numbers, its HULL number first, are within their limits, which are lent.
-pub fn sheet_ok(limits: &[Limit], sheet: &[u32]) -> bool
-    requires { ⌜ (now limits ≡ limitRows) × (length (now sheet) ≡ textWords) ⌝ }
+// Whether a sheet's numbers, its HULL number first, are within their limits.
+pub fn sheet_ok(sheet: &[u32]) -> bool
+    requires { ⌜ length (now sheet) ≡ textWords ⌝ }
     ensures { λ r. ⌜ r ≡ sheetOk (now (sheet .entry)) ⌝ }
 {
+    let limits = LIMITS;
     if spelling::all_hold(&limits[..1], &sheet[..1]) {
-        words_ok(&limits[1..], &sheet[1..])
+        words_ok(&sheet[1..])
     } else {
         false
     }

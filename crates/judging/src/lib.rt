@@ -1,8 +1,8 @@
 // Whether the register's memory is well formed: the check that every call on the register makes first. It reads the memory once, slot by slot, without copies.
 ghost use mathlib.Core.Path.{_≡_};
 ghost use Prim.Native.Nat.{_+_, _≤_, _<_};
-ghost use lib.ListN.{length, drop};
-ghost use Rattle.sheet.specs.Sheet.{sheetWords, limitRows, wordsOk};
+ghost use lib.ListN.{length};
+ghost use Rattle.sheet.specs.Sheet.{sheetWords, wordsOk};
 ghost use Rattle.memory.specs.Layout.{mostHulls, desks, registerWords, part, count};
 ghost use Rattle.memory.specs.Formed.{each, hullOk, draftOk, formed};
 use memory::DESKS;
@@ -10,36 +10,35 @@ use memory::MOST_EDITS;
 use memory::MOST_HULLS;
 use memory::REGISTER_WORDS;
 use sheet::SHEET_WORDS;
-use text::Limit;
 
-// Whether the words from a place on are a sheet within limits. The limits are those of a sheet without its HULL number.
-fn sheet_ok(limits: &[Limit], mem: &[u32], at: usize) -> bool
-    requires { ⌜ (now limits ≡ drop 1 limitRows) × (at + sheetWords ≤ length (now mem)) ⌝ }
+// Whether the words from a place on are a sheet within limits.
+fn sheet_ok(mem: &[u32], at: usize) -> bool
+    requires { ⌜ at + sheetWords ≤ length (now mem) ⌝ }
     ensures { λ r. ⌜ r ≡ wordsOk (part (now (mem .entry)) at sheetWords) ⌝ }
 {
     let end = at + SHEET_WORDS;
-    checking::words_ok(limits, &mem[at..end])
+    checking::words_ok(&mem[at..end])
 }
 
-fn hull_ok(limits: &[Limit], mem: &[u32], hull: usize) -> bool
-    requires { ⌜ (now limits ≡ drop 1 limitRows) × (length (now mem) ≡ registerWords) × (hull < mostHulls) ⌝ }
+fn hull_ok(mem: &[u32], hull: usize) -> bool
+    requires { ⌜ (length (now mem) ≡ registerWords) × (hull < mostHulls) ⌝ }
     ensures { λ r. ⌜ r ≡ hullOk (now (mem .entry)) hull ⌝ }
 {
     let at = keeping::hull_at(hull);
     if mem[at] <= MOST_EDITS {
-        sheet_ok(limits, mem, at + 1)
+        sheet_ok(mem, at + 1)
     } else {
         false
     }
 }
 
-fn hulls_ok(limits: &[Limit], mem: &[u32], hulls: usize) -> bool
-    requires { ⌜ (now limits ≡ drop 1 limitRows) × (length (now mem) ≡ registerWords) × (hulls ≤ mostHulls) ⌝ }
+fn hulls_ok(mem: &[u32], hulls: usize) -> bool
+    requires { ⌜ (length (now mem) ≡ registerWords) × (hulls ≤ mostHulls) ⌝ }
     ensures { λ r. ⌜ r ≡ each hulls (hullOk (now (mem .entry))) ⌝ }
 {
     let mut i = 0;
     while i < hulls {
-        if hull_ok(limits, mem, i) {
+        if hull_ok(mem, i) {
             i += 1;
         } else {
             return false;
@@ -48,8 +47,8 @@ fn hulls_ok(limits: &[Limit], mem: &[u32], hulls: usize) -> bool
     true
 }
 
-fn draft_ok(limits: &[Limit], mem: &[u32], desk: usize) -> bool
-    requires { ⌜ (now limits ≡ drop 1 limitRows) × (length (now mem) ≡ registerWords) × (count (now mem) ≤ mostHulls) × (desk < desks) ⌝ }
+fn draft_ok(mem: &[u32], desk: usize) -> bool
+    requires { ⌜ (length (now mem) ≡ registerWords) × (count (now mem) ≤ mostHulls) × (desk < desks) ⌝ }
     ensures { λ r. ⌜ r ≡ draftOk (now (mem .entry)) desk ⌝ }
 {
     let at = keeping::draft_at(desk);
@@ -67,16 +66,16 @@ fn draft_ok(limits: &[Limit], mem: &[u32], desk: usize) -> bool
     if mem[edits] < mem[at + 2] {
         return false;
     }
-    sheet_ok(limits, mem, at + 3)
+    sheet_ok(mem, at + 3)
 }
 
-fn drafts_ok(limits: &[Limit], mem: &[u32]) -> bool
-    requires { ⌜ (now limits ≡ drop 1 limitRows) × (length (now mem) ≡ registerWords) × (count (now mem) ≤ mostHulls) ⌝ }
+fn drafts_ok(mem: &[u32]) -> bool
+    requires { ⌜ (length (now mem) ≡ registerWords) × (count (now mem) ≤ mostHulls) ⌝ }
     ensures { λ r. ⌜ r ≡ each desks (draftOk (now (mem .entry))) ⌝ }
 {
     let mut desk = 0;
     while desk < DESKS {
-        if draft_ok(limits, mem, desk) {
+        if draft_ok(mem, desk) {
             desk += 1;
         } else {
             return false;
@@ -96,9 +95,8 @@ pub fn is_formed(mem: &[u32]) -> bool
     if MOST_HULLS < hulls {
         return false;
     }
-    let limits = sheet::LIMITS;
-    if hulls_ok(&limits[1..], mem, hulls) {
-        drafts_ok(&limits[1..], mem)
+    if hulls_ok(mem, hulls) {
+        drafts_ok(mem)
     } else {
         false
     }

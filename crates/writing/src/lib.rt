@@ -101,10 +101,9 @@ fn write_words(limits: &[Limit], sheet: &[u32], out: &mut [u8]) -> usize
 pub fn write_sheet(sheet: &[u32; TEXT_WORDS], out: &mut [u8]) -> Answer
     ensures { λ r. ⌜ Settled (writeAnswer (now (sheet .entry)) (length (now (out .entry)))) (writeInto (now (sheet .entry)) (now (out .entry))) r (now (out .exit)) ⌝ }
 {
-    let limits = LIMITS;
-    if checking::sheet_ok(&limits, sheet) {
+    if checking::sheet_ok(sheet) {
         let mut bytes = [0u8; MOST_TEXT];
-        let len = write_words(&limits, sheet, &mut bytes);
+        let len = write_words(&LIMITS, sheet, &mut bytes);
         if out.len() < len {
             return Answer::Refused(NO_ROOM);
         }

@@ -10,10 +10,10 @@ use Rattle.judging.proofs.drafts_ok.Statement.{statement}
 use Rattle.judging.proofs.drafts_ok.Tie as tie
 
 abbrev Inv-loop : tie.InvT-loop
-Inv-loop limits mem desk₀ desk = (desk ≤ desks) × (each desk (draftOk mem) ≡ true)
+Inv-loop mem desk₀ desk = (desk ≤ desks) × (each desk (draftOk mem) ≡ true)
 
 abbrev μ-loop : tie.MeasureT-loop
-μ-loop limits mem desk₀ desk = desks - desk
+μ-loop mem desk₀ desk = desks - desk
 
 loop-holds : tie.Need-loop-holds Inv-loop μ-loop
 loop-holds c = (omega arith, each-none (draftOk (c .before .args .mem .now)))
@@ -21,7 +21,7 @@ loop-holds c = (omega arith, each-none (draftOk (c .before .args .mem .now)))
 draft-ok-requires : tie.Need-draft-ok-requires Inv-loop μ-loop
 draft-ok-requires c κs =
     let start = c .before .before .before in
-    (start .pre .0, start .pre .1, start .pre .2, omega arith)
+    (start .pre .0, start .pre .1, omega arith)
 
 add-desk : tie.Need-add-desk Inv-loop μ-loop
 add-desk c = omega arith

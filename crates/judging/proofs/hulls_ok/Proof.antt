@@ -9,10 +9,10 @@ use Rattle.judging.proofs.hulls_ok.Statement.{statement}
 use Rattle.judging.proofs.hulls_ok.Tie as tie
 
 abbrev Inv-loop : tie.InvT-loop
-Inv-loop limits mem hulls i₀ i = (i ≤ hulls) × (each i (hullOk mem) ≡ true)
+Inv-loop mem hulls i₀ i = (i ≤ hulls) × (each i (hullOk mem) ≡ true)
 
 abbrev μ-loop : tie.MeasureT-loop
-μ-loop limits mem hulls i₀ i = hulls - i
+μ-loop mem hulls i₀ i = hulls - i
 
 loop-holds : tie.Need-loop-holds Inv-loop μ-loop
 loop-holds c = (omega arith, each-none (hullOk (c .before .args .mem .now)))
@@ -20,7 +20,7 @@ loop-holds c = (omega arith, each-none (hullOk (c .before .args .mem .now)))
 hull-ok-requires : tie.Need-hull-ok-requires Inv-loop μ-loop
 hull-ok-requires c κs =
     let start = c .before .before .before in
-    (start .pre .0, start .pre .1, omega arith)
+    (start .pre .0, omega arith)
 
 add-i : tie.Need-add-i Inv-loop μ-loop
 add-i c = omega arith

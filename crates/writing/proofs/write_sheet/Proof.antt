@@ -9,11 +9,7 @@ use borrow.Author.Needs.{needs}
 use Rattle.writing.proofs.write_sheet.Statement.{statement}
 use Rattle.writing.proofs.write_sheet.Tie as tie
 
-slice-aggregate-sheet-ok : tie.Need-slice-aggregate-sheet-ok
-slice-aggregate-sheet-ok c = search needs
-
 sheet-ok-requires : tie.Need-sheet-ok-requires
-unfolding limitRows sheetLimits limitsOn
 sheet-ok-requires c κs = search needs
 
 slice-aggregate-write-words : tie.Need-slice-aggregate-write-words
@@ -25,28 +21,28 @@ slice-aggregate-write-words-2 c = search needs
 write-words-requires : tie.Need-write-words-requires
 unfolding limitRows sheetLimits limitsOn
 write-words-requires c κs =
-    let start = c .before .before .before .before .before .before .before .before in
+    let start = c .before .before .before .before .before .before .before in
     let at-sheet-ok = c .before .before .before .before in
     let at-if1 = c .before .before .before in
     (refl, search needs, text-most (start .args .sheet .now) (sym (at-sheet-ok .sheet-ok .ensures) ∙ at-if1 .if1 .taken))
 
 returns : tie.Need-returns
 returns c =
-    let start = c .before .before .before .before .before .before .before .before .before .before .before in
+    let start = c .before .before .before .before .before .before .before .before .before .before in
     let at-sheet-ok = c .before .before .before .before .before .before .before in
     let at-if1 = c .before .before .before .before .before .before in
     settled-short (start .args .sheet .now) (start .args .out .now) (sym (at-sheet-ok .sheet-ok .ensures) ∙ at-if1 .if1 .taken) (c .before .before .write-words .ensures) (c .if2 .taken)
 
 array-share-prefix-bytes : tie.Need-array-share-prefix-bytes
 array-share-prefix-bytes c =
-    let start = c .before .before .before .before .before .before .before .before .before .before .before in
+    let start = c .before .before .before .before .before .before .before .before .before .before in
     let at-sheet-ok = c .before .before .before .before .before .before .before in
     let at-if1 = c .before .before .before .before .before .before in
     written-in (start .args .sheet .now) (start .args .out .now) (sym (at-sheet-ok .sheet-ok .ensures) ∙ at-if1 .if1 .taken) (c .before .before .write-words .ensures) (text-most (start .args .sheet .now) (sym (at-sheet-ok .sheet-ok .ensures) ∙ at-if1 .if1 .taken))
 
 slice-aggregate-write-bytes : tie.Need-slice-aggregate-write-bytes
 slice-aggregate-write-bytes c =
-    let start = c .before .before .before .before .before .before .before .before .before .before .before .before in
+    let start = c .before .before .before .before .before .before .before .before .before .before .before in
     let at-sheet-ok = c .before .before .before .before .before .before .before .before in
     let at-if1 = c .before .before .before .before .before .before .before in
     let at-write-words = c .before .before .before in
@@ -55,9 +51,9 @@ slice-aggregate-write-bytes c =
 write-bytes-requires : tie.Need-write-bytes-requires
 write-bytes-requires c κs = search needs
 
-cast-t95 : tie.Need-cast-t95
-cast-t95 c =
-    let start = c .before .before .before .before .before .before .before .before .before .before .before .before .before .before .before .before in
+cast-t92 : tie.Need-cast-t92
+cast-t92 c =
+    let start = c .before .before .before .before .before .before .before .before .before .before .before .before .before .before .before in
     let at-sheet-ok = c .before .before .before .before .before .before .before .before .before .before .before .before in
     let at-if1 = c .before .before .before .before .before .before .before .before .before .before .before in
     let at-write-words = c .before .before .before .before .before .before .before in
@@ -68,7 +64,7 @@ same-length c = search needs
 
 returns-2 : tie.Need-returns-2
 returns-2 c =
-    let start = c .before .before .before .before .before .before .before .before .before .before .before .before .before .before .before .before in
+    let start = c .before .before .before .before .before .before .before .before .before .before .before .before .before .before .before in
     let at-sheet-ok = c .before .before .before .before .before .before .before .before .before .before .before .before in
     let at-if1 = c .before .before .before .before .before .before .before .before .before .before .before in
     let at-write-words = c .before .before .before .before .before .before .before in
@@ -77,14 +73,13 @@ returns-2 c =
 
 returns-3 : tie.Need-returns-3
 returns-3 c =
-    let start = c .before .before .before .before .before in
+    let start = c .before .before .before .before in
     settled-outside (start .args .sheet .now) (start .args .out .now) (sym (c .before .sheet-ok .ensures) ∙ c .if1 .left)
 
 pub write-sheet-spec : {M : Type 1} → statement M
 write-sheet-spec =
     tie.close
     (tie.spec
-    slice-aggregate-sheet-ok
     sheet-ok-requires
     slice-aggregate-write-words
     slice-aggregate-write-words-2
@@ -93,7 +88,7 @@ write-sheet-spec =
     array-share-prefix-bytes
     slice-aggregate-write-bytes
     write-bytes-requires
-    cast-t95
+    cast-t92
     same-length
     returns-2
     returns-3)
