@@ -59,7 +59,7 @@ const LOW_POWER: u32 = 1500;
 // Grams of water times 180000, and a fifth of a kilogram of them.
 const GRAM: u64 = 180_000;
 
-const FIFTH_KILO: u64 = 5 * 1000 * GRAM;
+const MARKED_KILO: u64 = 5 * 1000 * GRAM;
 
 // Grams to a person, and the grams of live load below which persons must be tested.
 const PERSON_GRAMS: u64 = 75_000;
@@ -179,9 +179,9 @@ fn marked_c(sheet: &[u32]) -> u64
     let gain = gain_of(sheet);
     let loss = loss_of(sheet, 1);
     if LOW_POWER < sheet[DECLARED] {
-        whole_part(gain, loss, FIFTH_KILO)
+        whole_part(gain, loss, MARKED_KILO)
     } else {
-        whole_part(3 * gain, 3 * loss, 2 * FIFTH_KILO)
+        whole_part(3 * gain, 3 * loss, 2 * MARKED_KILO)
     }
 }
 
@@ -192,9 +192,9 @@ fn marked_a(sheet: &[u32]) -> u64
 {
     let gain = gain_of(sheet) + HALF_MARKED;
     if sheet[OUTBOARD] == 1 {
-        whole_part(gain, loss_of(sheet, 1), FIFTH_KILO)
+        whole_part(gain, loss_of(sheet, 1), MARKED_KILO)
     } else {
-        whole_part(gain, loss_of(sheet, 5), FIFTH_KILO)
+        whole_part(gain, loss_of(sheet, 5), MARKED_KILO)
     }
 }
 

@@ -29,7 +29,7 @@ use Rattle.history.specs.Calls.{put, takeOff, tryPlateA, tryPlateC, plat
 use Rattle.history.specs.Runs.{Event, _⇒_, call}
 use Rattle.history.specs.History.{block, serial}
 use Rattle.history.specs.Told.{savesOf, opening, quietSince}
-use Rattle.history.proofs.InOrder.{transcript, order}
+use Rattle.history.specs.InOrder.{transcript, order}
 
 stations : List ℕ
 stations = bytes "STN\tQ\t1000\t500\t500\t500\t500\t500\t500\nSTN\tR\t1000\t500\t500\t500\t500\t500\t500\nSTN\tS\t1000\t500\t500\t500\t500\t500\t500\nSTN\tT\t1000\t500\t500\t500\t500\t500\t500\n"

@@ -1,37 +1,19 @@
 -- DEMAND 3 in the order of time: calls and histories oldest first. Assumes nothing.
-use Prim.Native.Nat.{ℕ}
+use Prim.Native.Nat.{ℕ, _<_}
 use mathlib.Core.Path.{_≡_, refl, sym, ap, _∙_}
 use mathlib.Core.Bool.{true}
 use mathlib.Core.List.{List, [], _∷_, map, reverse, reverseAux, reverse-reverse}
 use mathlib.Core.Logic.{_↔_}
 use lib.ListN.{length}
-use Rattle.memory.specs.Layout.{registerWords}
+use Rattle.memory.specs.Layout.{registerWords, count, edit}
 use Rattle.register.specs.Hulls.{freshMemory}
 use Rattle.history.specs.Calls.{Call, save, reply, next}
-use Rattle.history.specs.Runs.{Event, _⇒_, call, after, history, accepted}
+use Rattle.history.specs.Runs.{Event, call, after, history, accepted}
 use Rattle.history.specs.History.{serial}
-use Rattle.history.specs.Demand.{Due, SameHulls, Gives}
-use Rattle.history.proofs.Theorems.{save-iff, serial-gives}
-
--- ---- a run from the memory m on, oldest call first
-
--- its calls, each with its reply; and the memory at its end
-unfoldable pub transcript : List ℕ → List Call → List Event
-transcript m [] = []
-transcript m (c ∷ cs) = (c ⇒ reply m c) ∷ transcript (next m c) cs
-
-unfoldable pub lastly : List ℕ → List Call → List ℕ
-lastly m [] = m
-lastly m (c ∷ cs) = lastly (next m c) cs
-
--- the serial list of a transcript
-unfoldable pub order : List Event → List Event
-order es = reverse (serial (reverse es))
-
--- run from fresh, the calls of the transcript es in serial order each have the reply that they had, and leave the hulls of the memory r
-pub record GivesInOrder (m : List ℕ) (es : List Event) (r : List ℕ) : Type 0 where
-  pub replies : transcript (freshMemory m) (map call (order es)) ≡ order es
-  pub hulls : SameHulls (lastly (freshMemory m) (map call (order es))) r
+use Rattle.history.specs.Told.{savesOf}
+use Rattle.history.specs.Demand.{Due, SaveDoes, Gives}
+use Rattle.history.specs.InOrder.{transcript, lastly, order, GivesInOrder, DemandInOrder}
+use Rattle.history.proofs.Theorems.{save-iff, save-does, edits-count, serial-gives}
 
 -- ---- a run newest first is the run oldest first
 
@@ -85,3 +67,17 @@ module _ (m : List ℕ) (z : length m ≡ registerWords) where
   -- From a fresh register: a save after a run is accepted exactly when it is due.
   pub save-iff-in-order : (cs : List Call) (d : ℕ) → (accepted (reply (lastly (freshMemory m) cs) (save d)) ≡ true) ↔ Due d (reverse (transcript (freshMemory m) cs))
   save-iff-in-order cs d = rw (← newest-last m cs, ← newest-first m cs) (save-iff m z (reverse cs) d)
+
+  -- And then does what demand 3 says.
+  pub save-does-in-order : (cs : List Call) (d : ℕ) (u : Due d (reverse (transcript (freshMemory m) cs)))
+      → SaveDoes d (u .draft) (reverse (transcript (freshMemory m) cs)) (lastly (freshMemory m) (reverse (map call (u .draft .before)))) (lastly (freshMemory m) cs)
+      (reply (lastly (freshMemory m) cs) (save d) .answer) (next (lastly (freshMemory m) cs) (save d))
+  unfolding after
+  save-does-in-order cs d = rw (← newest-last m cs, ← newest-first m cs) (λ u. rw (oldest-last m (map call (u .draft .before))) (save-does m z (reverse cs) d u))
+
+  -- At any time the edit number of every hull is its count of accepted saves.
+  pub edits-count-in-order : (cs : List Call) (h : ℕ) → h < count (lastly (freshMemory m) cs) → edit (lastly (freshMemory m) cs) h ≡ savesOf h (reverse (transcript (freshMemory m) cs))
+  edits-count-in-order cs h = rw (← newest-last m cs, ← newest-first m cs) (edits-count m z (reverse cs) h)
+
+pub demand-3-in-order : (m : List ℕ) → length m ≡ registerWords → DemandInOrder m
+demand-3-in-order m z = record { accepts = save-iff-in-order m z; saves = save-does-in-order m z; counts = edits-count-in-order m z; serves = serial-in-order m z }

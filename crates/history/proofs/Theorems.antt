@@ -13,7 +13,7 @@ use Rattle.history.specs.Calls.{Call, save, Reply, reply}
 use Rattle.history.specs.Runs.{call, after, history, taken, accepted}
 use Rattle.history.specs.History.{block, serial}
 use Rattle.history.specs.Told.{Opening, savesOf}
-use Rattle.history.specs.Demand.{Due, SaveDoes, Gives}
+use Rattle.history.specs.Demand.{Due, SaveDoes, Gives, Demand}
 use Rattle.history.proofs.Tools.{self}
 use Rattle.history.proofs.Blocks.{Whole, block-whole, saveless}
 use Rattle.history.proofs.Model.{Register, State, Outcome, stateOf, eventsOf}
@@ -45,7 +45,8 @@ module _ (m : List ℕ) (z : length m ≡ registerWords) where
       rw (← S .numbers h (shown-few S l)) (Sound.sound (after m cs) (S .ok) .hulls h (rw (S .counts) l) .number)
 
   -- A save by desk d that is due, of the draft opened as o says, does what demand 3 says.
-  save-due-does : (cs : List Call) (d : ℕ) (o : Opening) → Saved (stateOf cs) (eventsOf cs) d o → SaveDoes m cs d o
+  save-due-does : (cs : List Call) (d : ℕ) (o : Opening) → Saved (stateOf cs) (eventsOf cs) d o
+      → SaveDoes d o (history m cs) (after m (map call (o .before))) (after m cs) (reply (after m cs) (save d) .answer) (after m (save d ∷ cs))
   save-due-does cs d o y =
       let S = run-shows m z cs in
       let T = run-shows m z (save d ∷ cs) in
@@ -75,7 +76,8 @@ module _ (m : List ℕ) (z : length m ≡ registerWords) where
 
   -- The accepted save answers the count of accepted saves, which the hull then has as its edit number, and the hull holds its sheet at the opening with the draft's
   -- accepted work done on it; every other hull is as it was.
-  pub save-does : (cs : List Call) (d : ℕ) (u : Due d (history m cs)) → SaveDoes m cs d (u .draft)
+  pub save-does : (cs : List Call) (d : ℕ) (u : Due d (history m cs))
+      → SaveDoes d (u .draft) (history m cs) (after m (map call (u .draft .before))) (after m cs) (reply (after m cs) (save d) .answer) (after m (save d ∷ cs))
   save-does cs d u = save-due-does cs d (u .draft) (due-taken cs d u)
 
   -- The block of an accepted save is the open that made its draft, and every call on that draft since.
@@ -103,3 +105,8 @@ module _ (m : List ℕ) (z : length m ≡ registerWords) where
           sheets = λ h l. let j = there-few S l in T .sheets h j ∙ ap (λ (r : Register). r .hull h .sheet) (g .register) ∙ sym (S .sheets h j);
         };
       })
+
+-- ---- the demand whole
+
+pub demand-3 : (m : List ℕ) → length m ≡ registerWords → Demand m
+demand-3 m z = record { accepts = save-iff m z; saves = save-does m z; counts = edits-count m z; serves = serial-gives m z }

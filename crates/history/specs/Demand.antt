@@ -2,14 +2,16 @@
 use Prim.Native.Nat.{ℕ, suc, _<_}
 use mathlib.Core.Path.{_≡_}
 use mathlib.Core.Bool.{true}
+use mathlib.Core.Logic.{_↔_}
 use mathlib.Core.List.{List, _∷_, map}
 use mathlib.Core.Option.{some}
+use Rattle.sheet.specs.declared.Answer.{Answer}
 use Rattle.sheet.specs.declared.Answer.the-variants.{Count}
 use Rattle.memory.specs.Layout.{count, edit, hullSheet}
 use Rattle.memory.specs.Formed.{mostEdits}
 use Rattle.history.specs.Calls.{Call, save, reply}
-use Rattle.history.specs.Runs.{Event, call, after, history}
-use Rattle.history.specs.History.{block}
+use Rattle.history.specs.Runs.{Event, call, after, history, accepted}
+use Rattle.history.specs.History.{block, serial}
 use Rattle.history.specs.Told.{Opening, opening, savesOf, quietSince, redo}
 
 -- (a) a save by desk d is due: the desk holds a draft, the hull has had no accepted save since that draft was opened, and has had fewer than 65,535
@@ -19,16 +21,17 @@ pub record Due (d : ℕ) (past : List Event) : Type 0 where
   pub quiet : quietSince d (draft .hull) past ≡ true
   pub room : savesOf (draft .hull) past < mostEdits
 
--- (a) what an accepted save by desk d, of the draft opened so, does after the calls cs
-pub record SaveDoes (m : List ℕ) (cs : List Call) (d : ℕ) (o : Opening) : Type 0 where
+-- (a) what an accepted save by desk d, of the draft opened as o says, does: by the history and the memory before it, the memory at the opening, its answer, and the
+-- memory after it
+pub record SaveDoes (d : ℕ) (o : Opening) (past : List Event) (opened before : List ℕ) (said : Answer) (saved : List ℕ) : Type 0 where
   -- it answers the hull's edit number, which is its count of accepted saves
-  pub answer : reply (after m cs) (save d) .answer ≡ Count (suc (savesOf (o .hull) (history m cs)))
-  pub number : edit (after m (save d ∷ cs)) (o .hull) ≡ suc (savesOf (o .hull) (history m cs))
+  pub answer : said ≡ Count (suc (savesOf (o .hull) past))
+  pub number : edit saved (o .hull) ≡ suc (savesOf (o .hull) past)
   -- the hull holds its sheet at the opening with the draft's accepted work done on it, in order, and nothing else
-  pub sheet : hullSheet (after m (save d ∷ cs)) (o .hull) ≡ redo (block d (history m cs)) (hullSheet (after m (map call (o .before))) (o .hull))
+  pub sheet : hullSheet saved (o .hull) ≡ redo (block d past) (hullSheet opened (o .hull))
   -- every other hull is as it was, and no hull comes or goes
-  pub hulls : count (after m (save d ∷ cs)) ≡ count (after m cs)
-  pub others : (h : ℕ) → h < count (after m cs) → (h ≡ o .hull → ⊥) → (edit (after m (save d ∷ cs)) h ≡ edit (after m cs) h) × (hullSheet (after m (save d ∷ cs)) h ≡ hullSheet (after m cs) h)
+  pub hulls : count saved ≡ count before
+  pub others : (h : ℕ) → h < count before → (h ≡ o .hull → ⊥) → (edit saved h ≡ edit before h) × (hullSheet saved h ≡ hullSheet before h)
 
 -- two memories hold the same hulls with the same edit numbers
 pub record SameHulls (o m : List ℕ) : Type 0 where
@@ -40,3 +43,13 @@ pub record SameHulls (o m : List ℕ) : Type 0 where
 pub record Gives (m : List ℕ) (es : List Event) (r : List ℕ) : Type 0 where
   pub replies : history m (map call es) ≡ es
   pub hulls : SameHulls (after m (map call es)) r
+
+-- the demand, of a memory that was m before its fresh start, and of any calls after it, newest first
+pub record Demand (m : List ℕ) : Type 0 where
+  -- (a) a save is accepted exactly when it is due, and then does so; and at any time a hull's edit number is its count of accepted saves
+  pub accepts : (cs : List Call) (d : ℕ) → (accepted (reply (after m cs) (save d)) ≡ true) ↔ Due d (history m cs)
+  pub saves : (cs : List Call) (d : ℕ) (u : Due d (history m cs))
+      → SaveDoes d (u .draft) (history m cs) (after m (map call (u .draft .before))) (after m cs) (reply (after m cs) (save d) .answer) (after m (save d ∷ cs))
+  pub counts : (cs : List Call) (h : ℕ) → h < count (after m cs) → edit (after m cs) h ≡ savesOf h (history m cs)
+  -- (b) the list with each accepted save's block at the save's place gives the same
+  pub serves : (cs : List Call) → Gives m (serial (history m cs)) (after m cs)

@@ -4,3 +4,4 @@ pub mod Runs
 pub mod History
 pub mod Told
 pub mod Demand
+pub mod InOrder

@@ -13,7 +13,7 @@ use Rattle.plates.specs.Whole.{floorDiv, whole}
 use Rattle.plates.specs.Words.{reference, station, aft, well, flooding, bare, fuel, machinery, outboard, declared, fittingsOf}
 use Rattle.plates.specs.Volume.{product, summed, volumeN, gram, netZ}
 use Rattle.plates.specs.Weights.{sum, boatM}
-use Rattle.plates.specs.PlateC.{exactX, markedC, lowPower, fifthKilo}
+use Rattle.plates.specs.PlateC.{exactX, markedC, lowPower, markedKilo}
 use Rattle.plates.specs.PlateA.{halfMarked, inboardX, loadX, markedA}
 use Rattle.plates.specs.Bounds.{Bounds}
 use Rattle.plates.proofs.Whole.{Differ, of-pos, of-sub, sum-of, less-of, times-of, is-sub}
@@ -49,19 +49,19 @@ added a b c = is-sub (a + c) b (sum-of (of-sub a b) (of-pos c)) (omega arith)
 
 -- ---- the marked loads, by the case that the code finds
 
-pub marked-high : (s : List ℕ) → lowPower < declared s → whole (floorDiv (subℕ (gain s) (loss 1 s)) fifthKilo) ≡ whole (markedC s)
+pub marked-high : (s : List ℕ) → lowPower < declared s → whole (floorDiv (subℕ (gain s) (loss 1 s)) markedKilo) ≡ whole (markedC s)
 unfolding markedC
 marked-high s h = rw (lt-ltb lowPower (declared s) h, exact-is s) refl
 
-pub marked-low : (s : List ℕ) → declared s ≤ lowPower → whole (floorDiv (subℕ (3 * gain s) (3 * loss 1 s)) (2 * fifthKilo)) ≡ whole (markedC s)
+pub marked-low : (s : List ℕ) → declared s ≤ lowPower → whole (floorDiv (subℕ (3 * gain s) (3 * loss 1 s)) (2 * markedKilo)) ≡ whole (markedC s)
 unfolding markedC
 marked-low s h = rw (le-ltb lowPower (declared s) h, exact-is s, thrice (gain s) (loss 1 s)) refl
 
-pub marked-outboard : (s : List ℕ) → eqb (outboard s) 1 ≡ true → whole (floorDiv (subℕ (gain s + halfMarked) (loss 1 s)) fifthKilo) ≡ whole (markedA s)
+pub marked-outboard : (s : List ℕ) → eqb (outboard s) 1 ≡ true → whole (floorDiv (subℕ (gain s + halfMarked) (loss 1 s)) markedKilo) ≡ whole (markedA s)
 unfolding markedA loadX
 marked-outboard s e = rw (e, exact-is s, added (gain s) (loss 1 s) halfMarked) refl
 
-pub marked-inboard : (s : List ℕ) → eqb (outboard s) 1 ≡ false → whole (floorDiv (subℕ (gain s + halfMarked) (loss 5 s)) fifthKilo) ≡ whole (markedA s)
+pub marked-inboard : (s : List ℕ) → eqb (outboard s) 1 ≡ false → whole (floorDiv (subℕ (gain s + halfMarked) (loss 5 s)) markedKilo) ≡ whole (markedA s)
 unfolding markedA loadX
 marked-inboard s e = rw (e, inboard-is s, added (gain s) (loss 5 s) halfMarked) refl
 
@@ -117,12 +117,12 @@ pub marked-most : (s : List ℕ) → Bounds s → whole (markedA s) ≤ 20000
 marked-most s b = go (eqb (outboard s) 1) refl
   where
     go : (t : Bool) → eqb (outboard s) 1 ≡ t → whole (markedA s) ≤ 20000
-    go true e = omega (arith, marked-outboard s e, floor-most (gain s + halfMarked) (loss 1 s) fifthKilo, volume-most s b, b .aft-most)
-    go false e = omega (arith, marked-inboard s e, floor-most (gain s + halfMarked) (loss 5 s) fifthKilo, volume-most s b, b .aft-most)
+    go true e = omega (arith, marked-outboard s e, floor-most (gain s + halfMarked) (loss 1 s) markedKilo, volume-most s b, b .aft-most)
+    go false e = omega (arith, marked-inboard s e, floor-most (gain s + halfMarked) (loss 5 s) markedKilo, volume-most s b, b .aft-most)
 
 pub c-most : (s : List ℕ) → Bounds s → whole (markedC s) ≤ 20000
 c-most s b = go (ltb lowPower (declared s)) refl
   where
     go : (t : Bool) → ltb lowPower (declared s) ≡ t → whole (markedC s) ≤ 20000
-    go true e = omega (arith, marked-high s (ltb-true lowPower (declared s) e), floor-most (gain s) (loss 1 s) fifthKilo, volume-most s b, b .aft-most)
-    go false e = omega (arith, marked-low s (ltb-false lowPower (declared s) e), floor-most (3 * gain s) (3 * loss 1 s) (2 * fifthKilo), volume-most s b, b .aft-most)
+    go true e = omega (arith, marked-high s (ltb-true lowPower (declared s) e), floor-most (gain s) (loss 1 s) markedKilo, volume-most s b, b .aft-most)
+    go false e = omega (arith, marked-low s (ltb-false lowPower (declared s) e), floor-most (3 * gain s) (3 * loss 1 s) (2 * markedKilo), volume-most s b, b .aft-most)

@@ -10,7 +10,7 @@ use lib.Dec.{ltb, lit<}
 use lib.IntN.{ℤ, pos, negsuc, _+ℤ_, _*ℤ_}
 use Rattle.plates.specs.Whole.{floorDiv, ceilDiv}
 use Rattle.plates.specs.Words.{declared}
-use Rattle.plates.specs.PlateC.{fifthKilo, exactX, lowPower, markedC}
+use Rattle.plates.specs.PlateC.{markedKilo, exactX, lowPower, markedC}
 use Rattle.plates.specs.PlateA.{halfMarked, loadX, markedA, raised}
 use Rattle.plates.proofs.Whole.{Differ, of-pos, sum-of, times-of}
 
@@ -53,13 +53,13 @@ floor-largest (negsuc n) d p =
 
 -- ---- the marked loads
 
-pub c-largest-high : (s : List ℕ) → lowPower < declared s → Largest (exactX s) fifthKilo (markedC s)
+pub c-largest-high : (s : List ℕ) → lowPower < declared s → Largest (exactX s) markedKilo (markedC s)
 unfolding markedC
-c-largest-high s h = rw (lt-ltb lowPower (declared s) h) (floor-largest (exactX s) fifthKilo (lit< tt))
+c-largest-high s h = rw (lt-ltb lowPower (declared s) h) (floor-largest (exactX s) markedKilo (lit< tt))
 
-pub c-largest-low : (s : List ℕ) → declared s ≤ lowPower → Largest (pos 3 *ℤ exactX s) (2 * fifthKilo) (markedC s)
+pub c-largest-low : (s : List ℕ) → declared s ≤ lowPower → Largest (pos 3 *ℤ exactX s) (2 * markedKilo) (markedC s)
 unfolding markedC
-c-largest-low s h = rw (le-ltb lowPower (declared s) h) (floor-largest (pos 3 *ℤ exactX s) (2 * fifthKilo) (lit< tt))
+c-largest-low s h = rw (le-ltb lowPower (declared s) h) (floor-largest (pos 3 *ℤ exactX s) (2 * markedKilo) (lit< tt))
 
 -- z is at least q × d less a half of d, and below q × d and a half of d
 pub record Nearest (z : ℤ) (half : ℕ) (q : ℤ) : Type 0 where
@@ -76,16 +76,16 @@ sums : (z : ℤ) → (a : ℕ) × (b : ℕ) × Differ z a b
 sums (pos n) = (n, 0, of-pos n)
 sums (negsuc n) = (0, suc n, of-neg n)
 
-nearest-of : (z q : ℤ) → Largest (z +ℤ pos halfMarked) fifthKilo q → Nearest z halfMarked q
+nearest-of : (z q : ℤ) → Largest (z +ℤ pos halfMarked) markedKilo q → Nearest z halfMarked q
 nearest-of z q l =
     let dz = sums z .2 in
     let dq = sums q .2 in
-    let past = not-above-back (sum-of (sum-of dz (of-pos halfMarked)) (of-pos 1)) (times-of fifthKilo (sum-of dq (of-pos 1))) (l .most) in
+    let past = not-above-back (sum-of (sum-of dz (of-pos halfMarked)) (of-pos 1)) (times-of markedKilo (sum-of dq (of-pos 1))) (l .most) in
     record { low = l .fits; high = not-above (sum-of dz (of-pos 1)) (sum-of (times-of (2 * halfMarked) dq) (of-pos halfMarked)) (omega arith) }
 
 pub a-nearest : (s : List ℕ) → Nearest (loadX s) halfMarked (markedA s)
 unfolding markedA
-a-nearest s = nearest-of (loadX s) (markedA s) (floor-largest (loadX s +ℤ pos halfMarked) fifthKilo (lit< tt))
+a-nearest s = nearest-of (loadX s) (markedA s) (floor-largest (loadX s +ℤ pos halfMarked) markedKilo (lit< tt))
 
 -- ---- the raise
 

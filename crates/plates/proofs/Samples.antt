@@ -1,7 +1,7 @@
 -- The starred samples of 01, cases 1 to 7, as one statement over one list of them, each sheet within the limits; and cases of our own in another. Assumes nothing.
 use mathlib.Core.Path.{_≡_, refl}
 use mathlib.Core.Bool.{Bool, true, false, _&&_}
-use mathlib.Core.List.{List, [], _∷_, _++_}
+use mathlib.Core.List.{List, [], _∷_, _++_, map}
 use Prim.Native.Nat.{ℕ}
 use lib.Dec.{eqb, leb}
 use lib.IntN.{ℤ, pos, negsuc}
@@ -10,7 +10,7 @@ use Rattle.text.specs.Limit.{allHold}
 use Rattle.sheet.specs.declared.Answer.{Answer}
 use Rattle.sheet.specs.declared.Answer.the-variants.{Refused, Done, Count, Plate}
 use Rattle.sheet.specs.Sheet.{limitsOn, sheetLimits, wordsOk}
-use Rattle.plates.specs.Volume.{product, volumeN, netZ}
+use Rattle.plates.specs.Volume.{product, summed, volumeN, netZ}
 use Rattle.plates.specs.Weights.{sum, boatM}
 use Rattle.plates.specs.PlateC.{exactX, markedC, rising, rowsRight, rowFor, noRow, engineWeight, liveLoad, persons, untested, plateC}
 use Rattle.plates.specs.PlateA.{inboardX, loadX, markedA, rowWatts, beforeWatts, formulaWatts, powerA, plateA}
@@ -141,3 +141,19 @@ starred = refl
 our-own : all-right further ≡ true
 unfolding all-right further seated holds-of answer-c marks agrees refuses second-is load power inboard words allHold sheetLimits limitsOn product volumeN netZ sum boatM exactX markedC rising rowsRight rowFor noRow engineWeight liveLoad persons untested plateC inboardX loadX markedA rowWatts beforeWatts formulaWatts powerA plateA
 our-own = refl
+
+-- ---- what the cases above leave open, since their stations and depths are alike
+
+-- each depth and each station by its own factor
+shares-right : (product (1 ∷ 1 ∷ 10 ∷ 100 ∷ 1000 ∷ 10000 ∷ 100000 ∷ []) ≡ 224241) × (summed 1 1 10 100 1000 ≡ 1424)
+unfolding product
+shares-right = (refl, refl)
+
+-- the ends of the table's rows, and one above each
+ends : List ℕ
+ends = 2250000 ∷ 2250001 ∷ 3300000 ∷ 3300001 ∷ 3600000 ∷ 3600001 ∷ 3900000 ∷ 3900001 ∷ 4200000 ∷ 4200001 ∷ 5000000 ∷ []
+
+rows-right : (map rowWatts ends ≡ 1500 ∷ 3000 ∷ 3000 ∷ 4000 ∷ 4000 ∷ 5250 ∷ 5250 ∷ 7500 ∷ 7500 ∷ 12000 ∷ 12000 ∷ [])
+    × (map beforeWatts ends ≡ 0 ∷ 1500 ∷ 1500 ∷ 3000 ∷ 3000 ∷ 4000 ∷ 4000 ∷ 5250 ∷ 5250 ∷ 7500 ∷ 7500 ∷ [])
+unfolding ends rowWatts beforeWatts
+rows-right = (refl, refl)

@@ -38,13 +38,15 @@ seven l j h =
       drop-cons l (suc (suc (suc (suc (suc (suc j)))))) 0,
     )
 
--- nothing is rounded: each millimetre of a depth counts exactly its share of B
-pub product-exact : (b q r s t u v : ℕ) → product (b ∷ (q + 1) ∷ r ∷ s ∷ t ∷ u ∷ v ∷ []) ≡ product (b ∷ q ∷ r ∷ s ∷ t ∷ u ∷ v ∷ []) + b
+-- nothing is rounded: each millimetre of each depth counts exactly its share of B
+pub product-exact : (b q r s t u v i j k l m n : ℕ)
+    → product (b ∷ (q + i) ∷ (r + j) ∷ (s + k) ∷ (t + l) ∷ (u + m) ∷ (v + n) ∷ []) ≡ product (b ∷ q ∷ r ∷ s ∷ t ∷ u ∷ v ∷ []) + b * (i + 4 * j + 2 * k + 4 * l + 2 * m + 2 * n)
 unfolding product
-product-exact b q r s t u v =
+product-exact b q r s t u v i j k l m n =
     let x : ℕ = q + 4 * r + 2 * s + 4 * t + 2 * u + 2 * v in
-    let e : (q + 1) + 4 * r + 2 * s + 4 * t + 2 * u + 2 * v ≡ x + 1 = omega arith in
-    ap (λ (y : ℕ). b * y) e ∙ (mul-add b x 1 ∙ omega arith)
+    let y : ℕ = i + 4 * j + 2 * k + 4 * l + 2 * m + 2 * n in
+    let e : (q + i) + 4 * (r + j) + 2 * (s + k) + 4 * (t + l) + 2 * (u + m) + 2 * (v + n) ≡ x + y = omega arith in
+    ap (λ (z : ℕ). b * z) e ∙ mul-add b x y
 
 pub product-most : (l : List ℕ) → Readings l → product l ≤ 150000000
 unfolding product

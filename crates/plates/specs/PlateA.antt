@@ -10,7 +10,7 @@ use Rattle.plates.specs.Whole.{floorDiv, ceilDiv, isBelow, whole}
 use Rattle.plates.specs.Words.{hullLength, transomWidth, transomHeight, flat, remote, fuel, machinery, outboard}
 use Rattle.plates.specs.Volume.{gram, netZ}
 use Rattle.plates.specs.Weights.{boatM}
-use Rattle.plates.specs.PlateC.{exactX, fifthKilo}
+use Rattle.plates.specs.PlateC.{exactX, markedKilo}
 
 -- ---- load
 
@@ -26,7 +26,7 @@ abbrev pub halfMarked : ℕ
 halfMarked = 2500 * gram
 
 unfoldable pub markedA : List ℕ → ℤ
-markedA s = floorDiv (loadX s +ℤ pos halfMarked) fifthKilo
+markedA s = floorDiv (loadX s +ℤ pos halfMarked) markedKilo
 
 -- ---- power
 
@@ -37,15 +37,18 @@ factorP s = hullLength s * transomWidth s
 abbrev pub tableEnd : ℕ
 tableEnd = 5000000
 
--- the table's rows, by P up to and including; the watts of the first row that P fits, of the watts of the row before it and itself
+-- the table: each row up to and including a P, and the watts of the first row that P is not above
+abbrev pub firstRow : ℕ
+firstRow = 2250000
+
 unfoldable pub rowWatts : ℕ → ℕ
 rowWatts p =
-    cond (leb p 2250000) 1500 (cond (leb p 3300000) 3000 (cond (leb p 3600000) 4000 (cond (leb p 3900000) 5250 (cond (leb p 4200000) 7500 12000))))
+    cond (leb p firstRow) 1500 (cond (leb p 3300000) 3000 (cond (leb p 3600000) 4000 (cond (leb p 3900000) 5250 (cond (leb p 4200000) 7500 12000))))
 
--- the row before; before the first there is none, and 0 stands for it
+-- the watts of the row before that one; before the first there is none, and 0 stands for it
 unfoldable pub beforeWatts : ℕ → ℕ
 beforeWatts p =
-    cond (leb p 2250000) 0 (cond (leb p 3300000) 1500 (cond (leb p 3600000) 3000 (cond (leb p 3900000) 4000 (cond (leb p 4200000) 5250 7500))))
+    cond (leb p firstRow) 0 (cond (leb p 3300000) 1500 (cond (leb p 3600000) 3000 (cond (leb p 3900000) 4000 (cond (leb p 4200000) 5250 7500))))
 
 -- raised to the next multiple of 5000, leaving an exact multiple: a / d watts
 abbrev pub raised : ℕ → ℕ → ℕ
@@ -67,7 +70,7 @@ powerA s =
 
 -- an outboard with a flat bottom in the first row has no power
 abbrev pub noPower : List ℕ → Bool
-noPower s = eqb (outboard s) 1 && (eqb (flat s) 1 && leb (factorP s) 2250000)
+noPower s = eqb (outboard s) 1 && (eqb (flat s) 1 && leb (factorP s) firstRow)
 
 -- ---- the plate
 

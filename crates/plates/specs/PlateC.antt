@@ -14,9 +14,9 @@ use Rattle.plates.specs.Words.{fuel, machinery, outboard, declared, posi
 use Rattle.plates.specs.Volume.{gram, netZ}
 use Rattle.plates.specs.Weights.{boatM}
 
--- a fifth of a kilogram of what Z counts: 5 × 1000 grams
-abbrev pub fifthKilo : ℕ
-fifthKilo = 5 * 1000 * gram
+-- what X has for each kilogram of a load that is a fifth of it: 5 × 1000 grams, as Z counts them
+abbrev pub markedKilo : ℕ
+markedKilo = 5 * 1000 * gram
 
 -- X: the water's weight less the vessel's, tanks and machinery included
 unfoldable pub exactX : List ℕ → ℤ
@@ -27,7 +27,7 @@ abbrev pub lowPower : ℕ
 lowPower = 1500
 
 unfoldable pub markedC : List ℕ → ℤ
-markedC s = cond (ltb lowPower (declared s)) (floorDiv (exactX s) fifthKilo) (floorDiv (pos 3 *ℤ exactX s) (2 * fifthKilo))
+markedC s = cond (ltb lowPower (declared s)) (floorDiv (exactX s) markedKilo) (floorDiv (pos 3 *ℤ exactX s) (2 * markedKilo))
 
 -- ---- the engine's weight
 

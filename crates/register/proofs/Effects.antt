@@ -45,6 +45,10 @@ kept-text t a x m f = go (readSheet t .ended)
 pub fresh-refused : (m : List ℕ) → isRefusal (freshAnswer m) ≡ true → freshMemory m ≡ m
 fresh-refused m e = kept-refused (freshRefusal m) Done freshWords m none-refused e
 
+-- the memory and its room are judged before the text
+pub room-first : (m t : List ℕ) → (roomRefusal m ≡ 0 → ⊥) → newAnswer m t ≡ Refused (roomRefusal m)
+room-first m t n = rw (ne-eqb (roomRefusal m) 0 n) refl
+
 pub new-refused : (m t : List ℕ) → isRefusal (newAnswer m t) ≡ true → newMemory m t ≡ m
 new-refused m t e = kept-refused (roomRefusal m) (onText t (Count (count m)) Refused) _ m (kept-text t (Count (count m)) _ m refl) e
 

@@ -1,0 +1,40 @@
+-- 00, demand 3, once more in the order of time: calls and histories oldest first. Assumes nothing: these are definitions.
+use Prim.Native.Nat.{ℕ, _<_}
+use mathlib.Core.Path.{_≡_}
+use mathlib.Core.Bool.{true}
+use mathlib.Core.Logic.{_↔_}
+use mathlib.Core.List.{List, [], _∷_, map, reverse}
+use Rattle.memory.specs.Layout.{count, edit}
+use Rattle.register.specs.Hulls.{freshMemory}
+use Rattle.history.specs.Calls.{Call, save, reply, next}
+use Rattle.history.specs.Runs.{Event, _⇒_, call, accepted}
+use Rattle.history.specs.History.{serial}
+use Rattle.history.specs.Told.{savesOf}
+use Rattle.history.specs.Demand.{Due, SaveDoes, SameHulls}
+
+-- a run from the memory m on: its calls, each with its reply; and the memory at its end
+unfoldable pub transcript : List ℕ → List Call → List Event
+transcript m [] = []
+transcript m (c ∷ cs) = (c ⇒ reply m c) ∷ transcript (next m c) cs
+
+unfoldable pub lastly : List ℕ → List Call → List ℕ
+lastly m [] = m
+lastly m (c ∷ cs) = lastly (next m c) cs
+
+-- the serial list of a transcript
+unfoldable pub order : List Event → List Event
+order es = reverse (serial (reverse es))
+
+-- run from fresh, the calls of the transcript es in serial order each have the reply that they had, and leave the hulls of the memory r
+pub record GivesInOrder (m : List ℕ) (es : List Event) (r : List ℕ) : Type 0 where
+  pub replies : transcript (freshMemory m) (map call (order es)) ≡ order es
+  pub hulls : SameHulls (lastly (freshMemory m) (map call (order es))) r
+
+-- the demand, of a memory that was m before its fresh start, and of any calls after it
+pub record DemandInOrder (m : List ℕ) : Type 0 where
+  pub accepts : (cs : List Call) (d : ℕ) → (accepted (reply (lastly (freshMemory m) cs) (save d)) ≡ true) ↔ Due d (reverse (transcript (freshMemory m) cs))
+  pub saves : (cs : List Call) (d : ℕ) (u : Due d (reverse (transcript (freshMemory m) cs)))
+      → SaveDoes d (u .draft) (reverse (transcript (freshMemory m) cs)) (lastly (freshMemory m) (reverse (map call (u .draft .before)))) (lastly (freshMemory m) cs)
+      (reply (lastly (freshMemory m) cs) (save d) .answer) (next (lastly (freshMemory m) cs) (save d))
+  pub counts : (cs : List Call) (h : ℕ) → h < count (lastly (freshMemory m) cs) → edit (lastly (freshMemory m) cs) h ≡ savesOf h (reverse (transcript (freshMemory m) cs))
+  pub serves : (cs : List Call) → GivesInOrder m (transcript (freshMemory m) cs) (lastly (freshMemory m) cs)
