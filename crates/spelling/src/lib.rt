@@ -363,11 +363,8 @@ fn write_entry(l: Limit, n: u32, out: &mut [u8], at: usize) -> usize
         store(out, at, b'-');
         return at + 1;
     }
-    if at < out.len() {
-        at + write_number(&mut out[at..], n as u64)
-    } else {
-        at + write_number(&mut out[..0], n as u64)
-    }
+    let from = shorter(at, out.len());
+    at + write_number(&mut out[from..], n as u64)
 }
 
 fn write_numbers(table: &[Limit], numbers: &[u32], out: &mut [u8], start: usize) -> usize
