@@ -1,14 +1,14 @@
 -- Bytes laid into a lent slice, one piece after the other. Assumes nothing.
 use mathlib.Core.Path.{_≡_, refl, sym, _∙_}
 use mathlib.Core.List.{List, [], _∷_, _++_}
-use Prim.Native.Nat.{ℕ, _+_, _-_, _/_, _%_, _≤_, _<_}
+use Prim.Native.Nat.{ℕ, _+_, _-_, _/_, _%_, _≤_, _<_, min}
 use native.Mathlib.Omega.{arith}
 use native.Mathlib.Nat.{add-zero}
 use lib.ListN.{length, take, drop, set, length-append}
 use lib.Seq.{sets}
 use Rattle.text.specs.Number.{digitsOf}
 use Rattle.text.specs.Line.{Laid}
-use Rattle.text.proofs.Stores.{putBack, sets-append, sets-out, rest-part, part-sets}
+use Rattle.text.proofs.Stores.{putBack, sets-append, sets-min, rest-part, part-sets}
 use Rattle.text.proofs.Number.{digits-small, digits-more}
 
 pub laid-none : (o : List ℕ) (at : ℕ) → Laid [] o at at o
@@ -35,11 +35,11 @@ laid-part bs o ys at r p =
     let e : ys ≡ sets (drop at o) 0 bs = p .laid ∙ rw (rest-part o at) in
     record { end = omega (arith, p .end); laid = rw e (part-sets o at bs) }
 
--- bytes past the end, which leave the whole as it was
-pub laid-past : (bs o ys : List ℕ) (at r : ℕ) → length o ≤ at → Laid bs [] 0 r ys → Laid bs o at (at + r) (ys ++ o)
-laid-past bs o ys at r h p =
-    let e : ys ≡ [] = p .laid ∙ sets-out [] 0 bs (omega arith) in
-    record { end = omega (arith, p .end); laid = rw (e, sets-out o at bs h) }
+-- bytes laid into what is left from `at` on, which past the end is nothing and leaves the whole as it was
+pub laid-left : (bs o ys : List ℕ) (at from r : ℕ) → from ≡ min at (length o) → Laid bs (take (length o - from) (drop from o)) 0 r ys → Laid bs o at (at + r) (putBack o from ys)
+laid-left bs o ys at from r e p =
+    let q = laid-part bs o ys from r p in
+    record { end = omega (arith, p .end); laid = q .laid ∙ rw (e, sets-min o at bs) }
 
 -- ---- a number
 

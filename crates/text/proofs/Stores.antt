@@ -25,9 +25,22 @@ sets-take l s i h =
     let e : i ≡ 0 + length (take i s) = omega (arith, length-take-le i s (omega arith)) in
     ap (λ (k : ℕ). set (sets l 0 (take i s)) k (getD s i 0)) e ∙ sets-snoc l 0 (take i s) (getD s i 0) ∙ rw (add-one i, take-suc s i 0)
 
-pub sets-out : (l : List ℕ) (i : ℕ) (xs : List ℕ) → length l ≤ i → sets l i xs ≡ l
+sets-out : (l : List ℕ) (i : ℕ) (xs : List ℕ) → length l ≤ i → sets l i xs ≡ l
 sets-out l i [] h = refl
 sets-out l i (x ∷ xs) h = rw (set-out l i x h) (sets-out l (suc i) xs (omega arith))
+
+-- stores from past the end are stores from the end: none
+pub sets-min : (l : List ℕ) (i : ℕ) (xs : List ℕ) → sets l (min i (length l)) xs ≡ sets l i xs
+sets-min l i xs = go (leb i (length l)) refl
+  where
+    go : (t : Bool) → leb i (length l) ≡ t → sets l (min i (length l)) xs ≡ sets l i xs
+    go true e =
+        let h = leb-true i (length l) e in
+        let m : min i (length l) ≡ i = omega arith in
+        ap (λ (k : ℕ). sets l k xs) m
+    go false e =
+        let h = leb-false i (length l) e in
+        sets-out l (min i (length l)) xs (omega arith) ∙ sym (sets-out l i xs (omega arith))
 
 -- the stores into the part from n on, seen from the whole
 pub drop-sets : (l : List ℕ) (n i : ℕ) (xs : List ℕ) → drop n (sets l (n + i) xs) ≡ sets (drop n l) i xs

@@ -1,5 +1,5 @@
 -- `write_entry` meets its contract. Assumes nothing.
-use Rattle.text.proofs.Laid.{laid-byte, laid-part, laid-past}
+use Rattle.text.proofs.Laid.{laid-byte, laid-left}
 use Rattle.text.proofs.Number.{length-digits-ten}
 use native.Mathlib.Omega.{arith}
 use borrow.Author.Needs.{needs}
@@ -25,6 +25,9 @@ returns c =
     let at-if1 = c .before .before .before .before in
     simp (← at-is-none .is-none .ensures, at-if1 .if1 .taken, c .before .before .store .ensures) (laid-byte (start .args .out .now) (start .args .at) 45)
 
+shorter-requires : tie.Need-shorter-requires
+shorter-requires c κs = search needs
+
 sub-write-number : tie.Need-sub-write-number
 sub-write-number c = search needs
 
@@ -43,21 +46,6 @@ add-result-2 c =
     let l = length-digits-ten (start .args .n) (omega arith) in
     omega (arith, c .before .before .write-number .ensures .end)
 
-slice-relend-prefix-write-number : tie.Need-slice-relend-prefix-write-number
-slice-relend-prefix-write-number c = search needs
-
-slice-aggregate-write-number : tie.Need-slice-aggregate-write-number
-slice-aggregate-write-number c = search needs
-
-write-number-requires-2 : tie.Need-write-number-requires-2
-write-number-requires-2 c κs = search needs
-
-add-result-3 : tie.Need-add-result-3
-add-result-3 c =
-    let start = c .before .before .before .before .before .before .before .before in
-    let l = length-digits-ten (start .args .n) (omega arith) in
-    omega (arith, c .before .before .write-number2 .ensures .end)
-
 same-length-2 : tie.Need-same-length-2
 same-length-2 c = search needs
 
@@ -66,18 +54,8 @@ returns-2 c =
     let start = c .before .before .before .before .before .before .before .before in
     let at-is-none = c .before .before .before .before .before .before in
     let at-if1 = c .before .before .before .before .before in
-    simp (← at-is-none .is-none .ensures, at-if1 .if1 .left) (laid-part _ (start .args .out .now) _ (start .args .at) _ (c .before .before .write-number .ensures))
-
-same-length-3 : tie.Need-same-length-3
-same-length-3 c = search needs
-
-returns-3 : tie.Need-returns-3
-returns-3 c =
-    let start = c .before .before .before .before .before .before .before .before in
-    let at-is-none = c .before .before .before .before .before .before in
-    let at-if1 = c .before .before .before .before .before in
-    let at-if2 = c .before .before .before .before in
-    simp (← at-is-none .is-none .ensures, at-if1 .if1 .left) (laid-past _ (start .args .out .now) _ (start .args .at) _ (at-if2 .if2 .left) (c .before .before .write-number2 .ensures))
+    let at-shorter = c .before .before .before .before in
+    simp (← at-is-none .is-none .ensures, at-if1 .if1 .left) (laid-left _ (start .args .out .now) _ (start .args .at) _ _ (at-shorter .shorter .ensures) (c .before .before .write-number .ensures))
 
 pub write-entry-spec : {M : Type 1} → statement M
 write-entry-spec =
@@ -88,16 +66,11 @@ write-entry-spec =
     add-result
     same-length
     returns
+    shorter-requires
     sub-write-number
     part-write-number-start
     part-write-number-end
     write-number-requires
     add-result-2
-    slice-relend-prefix-write-number
-    slice-aggregate-write-number
-    write-number-requires-2
-    add-result-3
     same-length-2
-    returns-2
-    same-length-3
-    returns-3)
+    returns-2)
