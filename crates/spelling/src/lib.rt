@@ -3,12 +3,12 @@ ghost use mathlib.Core.Path.{_≡_};
 ghost use mathlib.Core.Bool.{_&&_, cond, true};
 ghost use mathlib.Core.List.{foldr};
 ghost use Prim.Native.Nat.{_+_, _-_, _<_, _^_, min, max};
-ghost use lib.Dec.{leb, eqb};
+ghost use lib.Dec.{eqb};
 ghost use lib.ListN.{length, replicate, set};
 ghost use lib.Seq.{sets};
 ghost use Rattle.text.specs.Field.{fieldOf, begins, agreed};
 ghost use Rattle.text.specs.Quoted.{tab, feed, dash};
-ghost use Rattle.text.specs.Number.{isDigit, nineDigits, numberOf, digitsOf};
+ghost use Rattle.text.specs.Number.{isDigit, numberOf, digitsOf};
 ghost use Rattle.text.specs.Limit.{orNone, limitOf, isNone, within, holds, allHold, limitsOf, fromZero};
 ghost use Rattle.text.specs.Line.{lineOf, readEntry, readNumbers, readLine, entryText, numbersText, lineText, Reads, Laid};
 use text::BROKEN_LINE;
@@ -19,6 +19,10 @@ use text::LineRead;
 use text::NumberRead;
 use text::OR_NONE;
 use text::OUTSIDE_LIMITS;
+use text::PLAIN;
+
+// The most digits that a number has.
+const MOST_DIGITS: usize = 10;
 
 // The part of text before its first tab or line feed, or all of it: the caller's own bytes.
 pub fn find_field(text: &[u8]) -> &[u8]
@@ -61,6 +65,12 @@ pub fn agreement(tag: &[u8], text: &[u8]) -> usize
     i
 }
 
+fn shorter(a: usize, b: usize) -> usize
+    ensures { λ r. ⌜ r ≡ min a b ⌝ }
+{
+    if a < b { a } else { b }
+}
+
 // ---- numbers
 
 fn is_digit(b: u8) -> bool
@@ -76,44 +86,39 @@ fn digit(b: u8) -> u64
     if b < b'0' { 0 } else { (b - b'0') as u64 }
 }
 
-// Whether b can follow the digits of n: a digit, and ten in all at most.
-fn goes_on(n: u64, b: u8) -> bool
-    ensures { λ r. ⌜ r ≡ (isDigit b && leb n nineDigits) ⌝ }
-{
-    if is_digit(b) { n <= 999_999_999 } else { false }
-}
-
 // The number that a field is.
 pub fn read_number(f: &[u8]) -> NumberRead
     ensures { λ r. ⌜ r ≡ numberOf (now (f .entry)) ⌝ }
 {
-    if f.len() == 0 {
+    let len = f.len();
+    if len == 0 {
         return NumberRead::Malformed(0);
     }
-    let first = f[0];
-    if is_digit(first) {
-        if first == b'0' {
-            if f.len() == 1 {
-                return NumberRead::Value(0);
-            } else {
-                return NumberRead::Malformed(1);
-            }
+    if f[0] == b'0' {
+        if len == 1 {
+            return NumberRead::Value(0);
+        } else {
+            return NumberRead::Malformed(1);
         }
-    } else {
-        return NumberRead::Malformed(0);
     }
-    let mut n = digit(first);
-    let mut i = 1;
-    while i < f.len() {
+    // an eleventh byte is at fault whatever it is, so that no digit asks for the number before it
+    let end = shorter(len, MOST_DIGITS);
+    let mut n = 0;
+    let mut i = 0;
+    while i < end {
         let b = f[i];
-        if goes_on(n, b) {
+        if is_digit(b) {
             n = 10 * n + digit(b);
             i += 1;
         } else {
             return NumberRead::Malformed(i);
         }
     }
-    NumberRead::Value(n)
+    if i < len {
+        NumberRead::Malformed(i)
+    } else {
+        NumberRead::Value(n)
+    }
 }
 
 // Puts b at a place of out, if out has that place.
@@ -164,6 +169,9 @@ fn is_within(l: Limit, last: u32, n: u64) -> bool
     }
     if n > high as u64 {
         return false;
+    }
+    if rule == PLAIN {
+        return true;
     }
     if rule == OR_NONE {
         return n > 0;
@@ -333,12 +341,6 @@ pub fn read_line(tag: &[u8], table: &[Limit], text: &[u8], out: &mut [u32]) -> L
         LineRead::Fault(refusal, place) => LineRead::Fault(refusal, size + place),
         LineRead::Taken(len) => LineRead::Taken(size + len),
     }
-}
-
-fn shorter(a: usize, b: usize) -> usize
-    ensures { λ r. ⌜ r ≡ min a b ⌝ }
-{
-    if a < b { a } else { b }
 }
 
 // Lays bytes at the start of out, as far as out goes.

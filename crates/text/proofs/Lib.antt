@@ -2,6 +2,7 @@
 pub mod Stores
 pub mod Field
 pub mod Number
+pub mod Digits
 pub mod NumberTrip
 pub mod Limit
 pub mod Alike

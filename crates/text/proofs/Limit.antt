@@ -6,7 +6,7 @@ use Prim.Native.Nat.{ℕ, suc, _+_, _≤_, _<_}
 use native.Mathlib.Numerals.{add-one}
 use lib.ListN.{length, drop, getD, length-map, drop-of-length-le}
 use lib.Seq.{drop-cons}
-use Rattle.text.specs.Limit.{Limit, orNone, capped, byRule, within, holds, allHold, limitOf, limitsOf}
+use Rattle.text.specs.Limit.{Limit, plain, orNone, capped, byRule, within, holds, allHold, limitOf, limitsOf}
 use Rattle.text.proofs.Number.{both-hold}
 use borrow.Author.Tests.{leb-true, le-leb, lt-leb, eq-eqb, ne-eqb}
 use lib.Dec.{leb, ltb}
@@ -41,14 +41,18 @@ module _ (l : Limit) (last n : ℕ) where
     ruled : within l last n ≡ byRule (l .rule) last n
     ruled = rw (le-leb (l .low) n h, le-leb n (l .high) k)
 
+    pub within-plain : l .rule ≡ plain → within l last n ≡ true
+    within-plain e = ruled ∙ rw e
+
     pub within-or-none : l .rule ≡ orNone → within l last n ≡ ltb 0 n
     within-or-none e = ruled ∙ rw (eq-eqb (l .rule) orNone e)
 
     pub within-capped : (l .rule ≡ orNone → ⊥) → l .rule ≡ capped → within l last n ≡ leb n last
     within-capped d e = ruled ∙ rw (ne-eqb (l .rule) orNone d, eq-eqb (l .rule) capped e)
 
-    pub within-plain : (l .rule ≡ orNone → ⊥) → (l .rule ≡ capped → ⊥) → within l last n ≡ true
-    within-plain d e = ruled ∙ rw (ne-eqb (l .rule) orNone d, ne-eqb (l .rule) capped e)
+    -- any other number is no rule and asks nothing
+    pub within-other : (l .rule ≡ orNone → ⊥) → (l .rule ≡ capped → ⊥) → within l last n ≡ true
+    within-other d e = ruled ∙ rw (ne-eqb (l .rule) orNone d, ne-eqb (l .rule) capped e)
 
 pub within-high : (l : Limit) (last n : ℕ) → within l last n ≡ true → n ≤ l .high
 within-high l last n e = leb-true n (l .high) (both-hold (leb n (l .high)) _ (both-hold (leb (l .low) n) _ e .1) .0)

@@ -29,13 +29,6 @@ digit-low b e = leb-true 48 b (both-hold _ _ e .0)
 pub digit-high : (b : ℕ) → isDigit b ≡ true → b ≤ 57
 digit-high b e = leb-true b 57 (both-hold (leb 48 b) _ e .1)
 
--- b goes on after n: it is a digit, and n has nine at most
-pub goes-digit : (b n : ℕ) → (isDigit b && leb n nineDigits) ≡ true → b ≤ 57
-goes-digit b n e = digit-high b (both-hold (isDigit b) (leb n nineDigits) e .0)
-
-pub goes-small : (b n : ℕ) → (isDigit b && leb n nineDigits) ≡ true → n ≤ nineDigits
-goes-small b n e = leb-true n nineDigits (both-hold (isDigit b) (leb n nineDigits) e .1)
-
 -- ---- a field, read digit by digit
 
 pub number-empty : (s : List ℕ) → length s ≡ 0 → numberOf s ≡ Malformed 0
@@ -43,15 +36,10 @@ unfolding numberOf
 number-empty [] h = refl
 number-empty (b ∷ s) h = absurd (omega arith)
 
-pub number-no-digit : (s : List ℕ) → 0 < length s → isDigit (getD s 0 0) ≡ false → numberOf s ≡ Malformed 0
+pub number-zero : (s : List ℕ) → 0 < length s → getD s 0 0 ≡ 48 → numberOf s ≡ zeroAlone (drop 1 s)
 unfolding numberOf
-number-no-digit [] h e = absurd (omega arith)
-number-no-digit (b ∷ s) h e = rw (e, numberOf)
-
-pub number-zero : (s : List ℕ) → 0 < length s → isDigit (getD s 0 0) ≡ true → getD s 0 0 ≡ 48 → numberOf s ≡ zeroAlone (drop 1 s)
-unfolding numberOf
-number-zero [] h d e = absurd (omega arith)
-number-zero (b ∷ s) h d e = rw (d, eq-eqb b 48 e, numberOf)
+number-zero [] h e = absurd (omega arith)
+number-zero (b ∷ s) h e = rw (digit-is b (omega arith) (omega arith), eq-eqb b 48 e, numberOf)
 
 pub number-more : (s : List ℕ) → 0 < length s → isDigit (getD s 0 0) ≡ true → (getD s 0 0 ≡ 48 → ⊥) → numberOf s ≡ restOf (getD s 0 0 - 48) 1 (drop 1 s)
 unfolding numberOf
@@ -71,6 +59,18 @@ zero-led (b ∷ d ∷ s) h k = refl
 pub rest-step : (n i b : ℕ) (s : List ℕ) → (isDigit b && leb n nineDigits) ≡ true → restOf n i (b ∷ s) ≡ restOf (10 * n + (b - 48)) (suc i) s
 unfolding restOf
 rest-step n i b s e = rw (e, restOf)
+
+-- a field that starts with no `0` reads as what is left after no digits
+pub number-rest : (s : List ℕ) → 0 < length s → getD s 0 0 ≢ 48 → numberOf s ≡ restOf 0 0 s
+unfolding numberOf restOf
+number-rest [] h k = absurd (omega arith)
+number-rest (b ∷ s) h k = go (isDigit b) refl
+  where
+    go : (t : Bool) → isDigit b ≡ t → numberOf (b ∷ s) ≡ restOf 0 0 (b ∷ s)
+    go true e =
+        let w : b - 48 ≡ 10 * 0 + (b - 48) = omega arith in
+        number-more (b ∷ s) h e k ∙ ap (λ (n : ℕ). restOf n 1 s) w ∙ sym (rest-step 0 0 b s (rw e))
+    go false e = rw (e, numberOf, restOf)
 
 module _ (n j : ℕ) (s : List ℕ) (i : ℕ) where
   pub rest-more : i < length s → (isDigit (getD s i 0) && leb n nineDigits) ≡ true → restOf n j (drop i s) ≡ restOf (10 * n + (getD s i 0 - 48)) (j + 1) (drop (i + 1) s)
