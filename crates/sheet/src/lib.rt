@@ -1,5 +1,5 @@
 // What a sheet and engine rows are, and their one text: definitions in specs/, laws in proofs/, and the types and numbers that the code names. The code is the
-// crates reading and writing.
+// crates checking, reading and writing.
 use text::CAPPED;
 use text::Limit;
 use text::OR_NONE;
@@ -27,7 +27,7 @@ pub const MOST_ROWS: usize = 40;
 
 pub const NO_ROOM: u32 = 16;
 
-// The limits of a sheet's numbers, line by line in the order of the text. A call makes this table once and lends it to what it calls.
+// The limits of a sheet's numbers, line by line in the order of the text.
 pub const LIMITS: [Limit; TEXT_WORDS] = [
     // HULL
     [0, 15, PLAIN],

@@ -1,17 +1,18 @@
 -- The first digits of a field: how many they are tells whether one more may follow, so that a reader that counts them need not look at the number. Assumes nothing.
-use mathlib.Core.Path.{_≡_, refl, ap, _∙_}
+use mathlib.Core.Path.{_≡_, refl, sym, ap, _∙_}
 use mathlib.Core.Logic.{_≢_}
 use mathlib.Core.Bool.{Bool, true, false, and-false}
 use mathlib.Core.List.{List}
 use Prim.Native.Nat.{ℕ, zero, suc, _+_, _*_, _-_, _/_, _≤_, _<_}
 use native.Mathlib.Numerals.{add-one}
 use native.Mathlib.Omega.{arith}
-use borrow.Author.Tests.{ltb-true, ltb-false, le-leb, lt-leb}
-use lib.Dec.{ltb}
+use borrow.Author.Tests.{eqb-true, eqb-false, ltb-true, ltb-false, le-leb, lt-leb}
+use lib.Dec.{eqb, ltb}
 use lib.ListN.{length, drop, getD}
+use Rattle.text.specs.declared.NumberRead.{NumberRead}
 use Rattle.text.specs.declared.NumberRead.the-variants.{Value, Malformed}
 use Rattle.text.specs.Number.{isDigit, nineDigits, restOf, numberOf, digitsIn, digitsOf}
-use Rattle.text.proofs.Number.{digit-low, digit-high, length-digits-small, length-digits-more, length-digits-mono, number-rest, rest-more, rest-stops, rest-end}
+use Rattle.text.proofs.Number.{digit-low, digit-high, length-digits-small, length-digits-more, length-digits-mono, number-zero, zero-led, number-rest, rest-more, rest-stops, rest-end}
 
 -- ---- how many digits
 
@@ -88,3 +89,27 @@ module _ (f : List ℕ) (n i : ℕ) (g : Digits f n i) where
 
   pub digits-end : length f ≤ i → numberOf f ≡ Value n
   digits-end h = g .rest ∙ rest-end n i f i h
+
+-- ---- a number has ten digits at most
+
+no-value : {A : Type 0} {r : NumberRead} {at n : ℕ} → r ≡ Malformed at → r ≡ Value n → A
+no-value {at = at} {n = n} e f = let z : _≡_ {A = NumberRead} (Malformed at) (Value n) = sym e ∙ f in let c : _≡_ {A = ℕ} 0 1 = cc in absurd (omega arith)
+
+-- k more digits make ten
+walk : (f : List ℕ) (m k n i : ℕ) → i + k ≡ 10 → 10 < length f → Digits f n i → numberOf f ≡ Value m → ⊥
+walk f m zero n i e h g v = no-value (digits-full f n i g (omega arith) (omega arith)) v
+walk f m (suc k) n i e h g v = go (isDigit (getD f i 0)) refl (λ d. walk f m k (10 * n + (getD f i 0 - 48)) (i + 1) (omega arith) h (digits-next f n i g (omega arith) (omega arith) d) v)
+  where
+    go : (t : Bool) → isDigit (getD f i 0) ≡ t → (isDigit (getD f i 0) ≡ true → ⊥) → ⊥
+    go true d next = next d
+    go false d next = no-value (digits-stop f n i g (omega arith) d) v
+
+pub ten-most : (f : List ℕ) (n : ℕ) → numberOf f ≡ Value n → length f ≤ 10
+ten-most f n v = go (ltb 10 (length f)) (eqb (getD f 0 0) 48) refl refl
+  where
+    go : (t u : Bool) → ltb 10 (length f) ≡ t → eqb (getD f 0 0) 48 ≡ u → length f ≤ 10
+    go true true e w =
+        let h = ltb-true 10 (length f) e in
+        no-value (number-zero f (omega arith) (eqb-true (getD f 0 0) 48 w) ∙ zero-led f (omega arith) (λ z. omega arith)) v
+    go true false e w = let h = ltb-true 10 (length f) e in absurd (walk f n 10 0 0 refl h (digits-none f (omega arith) (eqb-false (getD f 0 0) 48 w)) v)
+    go false u e w = ltb-false 10 (length f) e
