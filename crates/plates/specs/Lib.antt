@@ -6,3 +6,4 @@ pub mod Weights
 pub mod PlateC
 pub mod PlateA
 pub mod Bounds
+pub mod Samples
