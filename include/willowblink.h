@@ -120,7 +120,8 @@ typedef struct wb_sheet {
 /*
  * ---- the register; mem is WB_REGISTER_WORDS words, and any other length is refused with 1 ----
  *
- * Refusals stand in the order in which they are judged. What a call leaves alone is said of one that is accepted; a refused one leaves everything.
+ * Here and below, refusals stand in the order in which they are judged. What a call leaves alone is said of one that is accepted; a refused one leaves
+ * everything. No call writes a word besides those that it is said to.
  */
 
 /*
