@@ -25,14 +25,11 @@
 #include <time.h>
 #include <ucontext.h>
 
+#include "layout.h"
 #include "reference.h"
 #include "willowblink.h"
 
 enum { PASSES = 20, ROUNDS = 50, BATCH_NS = 20000, PAINTED = 1 << 16 };
-
-/* The register's layout, as docs/REGISTER.md has it. */
-#define HULL(i) (1 + 69 * (i))
-#define DRAFT(d) (1105 + 71 * (d))
 
 /* Everything that the calls are lent, in one place, so that both implementations can be held to the same bytes; as every case starts; and kept. */
 static struct {
@@ -78,17 +75,17 @@ static size_t engines_len;
     X(put, 0, "", put, NONE, lent.full, LEN, 3, 7, 2500) \
     X(put_3, 3, "", put, NONE, lent.full, LEN, 3, 25, 2500) \
     X(put_7, 7, "", put, NONE, lent.spare, LEN, 7, 7, 2500) \
-    X(take, 0, "", take_off, lent.full[DRAFT(3) + 3 + 43 + 1] = 3334, lent.full, LEN, 3, 1) \
-    X(take_17, 17, "", take_off, lent.full[DRAFT(3) + 3 + 43 + 9] = 0, lent.full, LEN, 3, 9) \
+    X(take, 0, "", take_off, lent.full[FITTING_AT(3, 1)] = 3334, lent.full, LEN, 3, 1) \
+    X(take_17, 17, "", take_off, lent.full[FITTING_AT(3, 9)] = 0, lent.full, LEN, 3, 9) \
     X(replace, 0, "", replace, NONE, lent.full, LEN, 4, text, text_len) \
     X(replace_3, 3, "last weight", replace, NONE, lent.full, LEN, 4, beyond, text_len) \
     X(trial_a, 0, "", trial_a, NONE, lent.full, LEN, 3) \
     X(trial_a_12, 12, "", trial_a, NONE, lent.full, LEN, 6) \
     X(trial_c, 0, "", trial_c, NONE, lent.full, LEN, 3, ENGINES) \
     X(trial_c_10, 10, "last row falls", trial_c, NONE, lent.full, LEN, 3, falling, ROWS, weights, ROWS) \
-    X(save, 0, "", save, (lent.full[DRAFT(2)] = 1, lent.full[HULL(9)] = lent.full[DRAFT(2) + 2]), lent.full, LEN, 2) \
+    X(save, 0, "", save, (lent.full[DESK_AT(2)] = 1, lent.full[HULL_AT(9)] = lent.full[DESK_AT(2) + 2]), lent.full, LEN, 2) \
     X(save_8, 8, "", save, NONE, lent.full, LEN, 1) \
-    X(drop, 0, "", drop, lent.full[DRAFT(5)] = 1, lent.full, LEN, 5) \
+    X(drop, 0, "", drop, lent.full[DESK_AT(5)] = 1, lent.full, LEN, 5) \
     X(drop_7, 7, "", drop, NONE, lent.spare, LEN, 7) \
     X(plate_a, 0, "", plate_a, NONE, lent.full, LEN, 11) \
     X(plate_a_5, 5, "", plate_a, NONE, lent.full, LEN, 16) \
@@ -219,7 +216,7 @@ static void fill(uint32_t *mem, uint32_t hulls, uint32_t drafts)
     for (uint32_t i = 0; i < hulls; i++) {
         wb_sheet s = i == 14 ? lent.longest : i == 15 ? lent.heavy : boat(i);
         enter(mem, &s);
-        mem[HULL(i)] = 7 + i;
+        mem[HULL_AT(i)] = 7 + i;
     }
     static const uint32_t opened[WB_DESKS] = {0, 3, 9, 11, 4, 12, 15, 14};
     for (uint32_t d = 0; d < drafts; d++)
@@ -257,7 +254,7 @@ static void prepare(void)
     falling[ROWS - 1] = falling[ROWS - 2];
     fill(lent.full, 16, 8);
     fill(lent.spare, 15, 7);
-    lent.full[HULL(3)]++; /* saved since desk 1 opened it */
+    lent.full[HULL_AT(3)]++; /* saved since desk 1 opened it */
     memcpy(lent.spoilt, lent.full, sizeof lent.full);
     lent.spoilt[LEN - 1] = 500001;
     memcpy(&start, &lent, sizeof lent);

@@ -7,14 +7,20 @@
  *     office FILE open DESK HULL
  *     ..; without words it prints them all
  *
+ * Once the library is installed (scripts/install) it is built by
+ *
+ *     cc -std=c99 office.c $(pkg-config --cflags --libs willowblink) -o office
+ *
  * It says in plain words what was answered, a refusal with its number, and ends with 0 when the call was accepted, 1 when it was refused, and 2 on
  * bad usage or trouble with a file. Answers and refusals go to standard output, trouble to standard error.
  *
  * The file is the register's 1673 words, the lowest byte of each first, and nothing else. Beside it stand FILE.lock, which is empty and stays, and
- * for the length of a change FILE.new.
+ * for the length of a change FILE.new. The lock has the register's rights; where those were changed, it follows when its owner next makes a change.
  *
- * Who is killed before it answers does not know whether its change was made, and has to look; but the register is then whole either way.
+ * A change may stand although its run ended with 2: the trouble came when the register was in its place, as when the answer could not be printed, and
+ * standard error says so. Who is killed before it answers does not know whether its change was made, and has to look. The register is whole either way.
  */
+#define _POSIX_C_SOURCE 200809L
 #include <errno.h>
 #include <fcntl.h>
 #include <stdint.h>
@@ -39,7 +45,8 @@ struct work {
     uint32_t words[WB_REGISTER_WORDS];
     size_t count; /* how many words are lent: all, or none where the file has another size */
     uint32_t number[3];
-    const char *path; /* of the text */
+    int held;         /* whether the desk that opens a hull holds a draft */
+    const char *path; /* of the text; NULL without one */
     uint8_t text[TEXT_ROOM];
     size_t text_len;
     uint32_t powers[WB_ENGINE_ROWS];
@@ -48,10 +55,15 @@ struct work {
     uint8_t sheet[WB_SHEET_TEXT];
 };
 
+/* Whether this run has put changed words in the register's place. */
+static int changed;
+
 /* Ends the run over trouble with a file. */
 static void trouble(const char *what, const char *path)
 {
     fprintf(stderr, "office: %s %s: %s\n", what, path, strerror(errno));
+    if (changed)
+        fprintf(stderr, "office: the change was made before this and may stand; look before you make it again\n");
     exit(TROUBLE);
 }
 
@@ -65,7 +77,7 @@ static const char *const refusals[] = {
     [WB_NO_HULL] = "there is no such hull",
     [WB_NO_DESK] = "there is no such desk; the desks are 0 to 7",
     [WB_NO_DRAFT] = "the desk has no hull open",
-    [WB_EDITED_SINCE] = "another desk has saved the hull since this one opened it; open it again",
+    [WB_EDITED_SINCE] = "another desk has saved the hull since this one opened it; to open it again discards this desk's changes",
     [WB_EDITS_SPENT] = "the hull has been saved 65535 times and can be saved no more",
     [WB_BAD_ROWS] = "the engine rows are not as they must be",
     [WB_NO_ROW] = "no engine row reaches the declared power",
@@ -77,12 +89,14 @@ static const char *const refusals[] = {
     [WB_EMPTY_LINE] = "there is no fitting on that line",
 };
 
-static int refuse(uint32_t refusal)
+/* Of a text that is at fault its file is named. */
+static int refuse(const struct work *w, uint32_t refusal)
 {
     const char *why = "for a reason that this program does not know";
+    int at_fault = w->path != NULL && (refusal == WB_BROKEN_LINE || refusal == WB_OUTSIDE_LIMITS);
     if (refusal < sizeof refusals / sizeof refusals[0])
         why = refusals[refusal];
-    printf("refused (%u): %s\n", (unsigned)refusal, why);
+    printf("refused (%u): %s%s%s\n", (unsigned)refusal, at_fault ? w->path : "", at_fault ? ": " : "", why);
     return REFUSED;
 }
 
@@ -140,6 +154,30 @@ static char *beside(const char *path, const char *ending)
 /* ---- the register's file ---- */
 
 /*
+ * Under a second name the register would have a second lock, and by a change the two names would come to stand for two registers. Under a second name
+ * the lock would be some other file, whose rights are not ours to set.
+ */
+static void see_one_name(int fd, const char *path)
+{
+    struct stat about;
+    if (fstat(fd, &about) != 0)
+        trouble("cannot look at", path);
+    if (S_ISREG(about.st_mode) && about.st_nlink <= 1)
+        return;
+    fprintf(stderr, "office: %s is not a plain file with one name\n", path);
+    exit(TROUBLE);
+}
+
+/* Gives a file beside the register the register's rights, and some besides. Where there is no register yet, it has what the user's umask leaves. */
+static int keep_rights(int fd, const char *path, mode_t besides)
+{
+    struct stat about;
+    if (stat(path, &about) != 0)
+        return errno == ENOENT ? 0 : -1;
+    return fchmod(fd, (about.st_mode & 07777) | besides);
+}
+
+/*
  * Waits until no other run is changing the register. The system lets go of the lock when the run ends, also when it is killed, so none is left over.
  *
  * The lock is on a file of its own. A change puts a new file in the register's place: who waited for a lock on the old one would get it when the
@@ -153,22 +191,14 @@ static void lock_register(const char *path)
     int fd = open(name, O_RDWR | O_CREAT | O_NOFOLLOW, 0666);
     if (fd < 0)
         trouble("cannot open", name);
+    see_one_name(fd, name);
+    /* its owner can always lock; who does not own it leaves its rights as they are */
+    if (keep_rights(fd, path, S_IRUSR | S_IWUSR) != 0 && errno != EPERM)
+        trouble("cannot set the rights of", name);
     while (fcntl(fd, F_SETLKW, &whole) != 0)
         if (errno != EINTR)
             trouble("cannot lock", name);
     free(name);
-}
-
-/* Under a second name the register would have a second lock, and by a change the two names would come to stand for two registers. */
-static void see_one_name(int fd, const char *path)
-{
-    struct stat about;
-    if (fstat(fd, &about) != 0)
-        trouble("cannot look at", path);
-    if (S_ISREG(about.st_mode) && about.st_nlink <= 1)
-        return;
-    fprintf(stderr, "office: %s is not a plain file with one name\n", path);
-    exit(TROUBLE);
 }
 
 /*
@@ -208,17 +238,6 @@ static void begin_register(struct work *w, const char *path)
     w->count = WB_REGISTER_WORDS;
 }
 
-/* The rights of the register, for the file that takes its place; a new one has what the user's umask leaves. */
-static void keep_rights(int fd, const char *name, const char *path)
-{
-    struct stat about;
-    if (stat(path, &about) != 0) {
-        if (errno != ENOENT)
-            trouble("cannot look at", path);
-    } else if (fchmod(fd, about.st_mode & 07777) != 0)
-        trouble("cannot set the rights of", name);
-}
-
 /* A new name reaches the disk with its folder. */
 static void sync_folder(const char *path)
 {
@@ -251,12 +270,14 @@ static void store_register(const struct work *w, const char *path)
     int fd = open(name, O_WRONLY | O_CREAT | O_EXCL, 0666);
     if (fd < 0)
         trouble("cannot make", name);
-    keep_rights(fd, name, path);
+    if (keep_rights(fd, path, 0) != 0)
+        trouble("cannot set the rights of", name);
     write_all(fd, name, bytes, sizeof bytes);
     if (fsync(fd) != 0 || close(fd) != 0)
         trouble("cannot write", name);
     if (rename(name, path) != 0)
         trouble("cannot put in its place", name);
+    changed = 1;
     sync_folder(path);
     free(name);
 }
@@ -284,14 +305,17 @@ static void tell_new(const struct work *w, wb_answer a)
     printf("hull %u entered from %s\n", (unsigned)a.first, w->path);
 }
 
+/* A trial of a desk without a draft is refused for that, so it tells whether this open discards one. */
 static wb_answer ask_open(struct work *w)
 {
+    w->held = wb_trial_a(w->words, w->count, w->number[0]).refusal != WB_NO_DRAFT;
     return wb_open(w->words, w->count, w->number[0], w->number[1]);
 }
 
 static void tell_open(const struct work *w, wb_answer a)
 {
-    printf("desk %u has hull %u open at edit %u\n", (unsigned)w->number[0], (unsigned)w->number[1], (unsigned)a.first);
+    printf("desk %u has hull %u open at edit %u%s\n", (unsigned)w->number[0], (unsigned)w->number[1], (unsigned)a.first,
+           w->held ? "; the draft that it held was discarded" : "");
 }
 
 static wb_answer ask_put(struct work *w)
@@ -436,12 +460,19 @@ static void usage(void)
     exit(TROUBLE);
 }
 
+/* Ends the run over a word that cannot be what it should. */
+static void bad_word(const char *word, const char *what)
+{
+    fprintf(stderr, "office: '%s' is not %s\n", word, what);
+    exit(TROUBLE);
+}
+
 static const struct command *find_command(const char *name)
 {
     for (size_t i = 0; i < sizeof commands / sizeof commands[0]; i++)
         if (strcmp(commands[i].name, name) == 0)
             return &commands[i];
-    usage();
+    bad_word(name, "a command; without words office prints them all");
     return NULL;
 }
 
@@ -449,15 +480,11 @@ static const struct command *find_command(const char *name)
 static uint32_t number_of(const char *word)
 {
     uint64_t n = 0;
-    if (*word == '\0')
-        usage();
-    for (; *word != '\0'; word++) {
-        if (*word < '0' || *word > '9')
-            usage();
-        n = 10 * n + (uint64_t)(*word - '0');
-        if (n > UINT32_MAX)
-            usage();
-    }
+    const char *digit = word;
+    for (; *digit >= '0' && *digit <= '9' && n <= UINT32_MAX; digit++)
+        n = 10 * n + (uint64_t)(*digit - '0');
+    if (digit == word || *digit != '\0' || n > UINT32_MAX)
+        bad_word(word, "a number up to 4294967295");
     return (uint32_t)n;
 }
 
@@ -481,14 +508,22 @@ static uint32_t take_words(struct work *w, const struct command *c, char **words
     return strchr(c->lent, 'e') == NULL ? 0 : read_rows(w);
 }
 
-static void bring_register(struct work *w, const struct command *c, const char *path)
+static void look_at_register(struct work *w, const struct command *c, const char *path)
 {
-    if (c->does != READS)
-        lock_register(path);
     if (c->does == BEGINS)
         begin_register(w, path);
     else
         load_register(w, path);
+}
+
+/* Looks before it locks, so that a name that was mistyped, or is that of some other file, is given no lock. What counts is the look under the lock. */
+static void bring_register(struct work *w, const struct command *c, const char *path)
+{
+    look_at_register(w, c, path);
+    if (c->does == READS || w->count == 0)
+        return;
+    lock_register(path);
+    look_at_register(w, c, path);
 }
 
 /* What was said counts only once it is out. */
@@ -496,7 +531,7 @@ static int said(int status)
 {
     if (fflush(stdout) == 0 && !ferror(stdout))
         return status;
-    perror("office: cannot print the answer");
+    trouble("cannot print", "the answer");
     return TROUBLE;
 }
 
@@ -512,11 +547,11 @@ int main(int argc, char **argv)
     /* Texts are read before the lock is taken: one that comes slowly, by a pipe, keeps no other desk waiting. */
     uint32_t refusal = take_words(&w, c, argv + 3);
     if (refusal != WB_ACCEPTED)
-        return said(refuse(refusal));
+        return said(refuse(&w, refusal));
     bring_register(&w, c, path);
     wb_answer a = c->ask(&w);
     if (a.refusal != WB_ACCEPTED)
-        return said(refuse(a.refusal));
+        return said(refuse(&w, a.refusal));
     if (c->does != READS)
         store_register(&w, path);
     c->tell(&w, a);

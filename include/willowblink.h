@@ -2,10 +2,14 @@
  * willowblink.h: the capacity plates of small boats, and the register of hull sheets that they are worked from.
  *
  * Every call takes any numbers, any bytes and any lengths, and gives a settled answer. It refuses what is bad by the number of a wb_refusal and then
- * leaves every byte that it was lent as it stood. It keeps nothing between calls, allocates nothing, and touches nothing but what it is lent.
+ * leaves every byte that it was lent as it stood. It keeps nothing between calls, allocates nothing, and touches nothing but what it is lent; what is
+ * lent as const is only read.
  *
- * A slice is a pointer and its length, in elements. The pointer is never null, also where the length is 0, and is aligned as its type asks. Buffers that
- * are lent to one call must not overlap. Calls on one register must come one at a time, and its words must not change between them.
+ * A slice is a pointer and its length, in elements; the length is no more than what is there. No pointer is null, neither a slice's, also where its
+ * length is 0, nor a wb_sheet *, and each is aligned as its type asks. Buffers that are lent to one call must not overlap.
+ *
+ * A call that may change a register needs it alone; those that only read it, whose mem is const, may run side by side. The caller locks. Between calls
+ * the register's words must stay as they are.
  *
  * The calls are proved to do what docs/PROMISES.md says; docs/RULES.md has the rules, docs/REGISTER.md the layout of the register's memory.
  */
@@ -34,6 +38,24 @@ extern "C" {
 /* A text of more bytes, of a sheet or of engine rows, is refused with 2 before any of it is read. */
 #define WB_MOST_TEXT 4096
 
+/*
+ * A sheet's text is these lines in this order, with the members of a wb_sheet. One tab, here a space, stands between two fields, one line feed ends each
+ * line, the last too, and there is nothing else.
+ *
+ *     HULL hull
+ *     FORM length reference transom_width transom_height flat remote
+ *     STN Q b q r s t u v          then R, S and T alike
+ *     VOL aft well flooding
+ *     MASS bare fuel machinery
+ *     PWR outboard declared
+ *     SEAT positions tested        tested is written - where it is 0
+ *     FIT line weight              one for each fitting, line 1..24, rising; none where there is no fitting
+ *     END
+ *
+ * Engine rows are a text of their own: 1 to 40 lines ENG power weight, the powers rising, power 1..200000, weight 0..1000000. A number is 1 to 10
+ * digits, and 0 is the only one that starts with 0.
+ */
+
 /* Why a call was refused. */
 typedef enum wb_refusal {
     WB_ACCEPTED = 0,
@@ -56,7 +78,10 @@ typedef enum wb_refusal {
     WB_EMPTY_LINE = 17      /* taking off a fitting line that is empty */
 } wb_refusal;
 
-/* What a call answers: a refusal and figures of 0, or WB_ACCEPTED and the figures that the call names; those that it does not name are 0. */
+/*
+ * What a call answers: a refusal and figures of 0, or WB_ACCEPTED and the figures that the call names; those that it does not name are 0. "Done" names
+ * none.
+ */
 typedef struct wb_answer {
     uint32_t refusal; /* a wb_refusal */
     uint32_t first;
@@ -76,57 +101,66 @@ typedef struct wb_sheet {
     uint32_t reference;          /* 2000..6000, not above length */
     uint32_t transom_width;      /* 500..3000 */
     uint32_t transom_height;     /* 200..900 */
-    uint32_t flat;               /* 1: flat bottom with hard chine */
-    uint32_t remote;             /* 1: remote steering */
+    uint32_t flat;               /* 0..1; 1: flat bottom with hard chine */
+    uint32_t remote;             /* 0..1; 1: remote steering */
     wb_station station[4];       /* Q, R, S, T: B 0..4000, the others 0..2500 */
     uint32_t aft;                /* volume of the aft structure, 0..5000000 */
-    uint32_t well;               /* of the motor well */
-    uint32_t flooding;           /* of the flooding chambers */
+    uint32_t well;               /* of the motor well, 0..5000000 */
+    uint32_t flooding;           /* of the flooding chambers, 0..5000000 */
     uint32_t bare;               /* bare boat, 1..2000000 */
     uint32_t fuel;               /* permanent tanks with fuel, 0..500000 */
     uint32_t machinery;          /* installed machinery, 0..500000 */
-    uint32_t outboard;           /* 1 outboard, 0 inboard or stern-drive */
+    uint32_t outboard;           /* 0..1; 1: outboard, 0: inboard or stern-drive */
     uint32_t declared;           /* declared power, 0..200000 */
     uint32_t positions;          /* designated positions, 1..24 */
     uint32_t tested;             /* persons passed by stability tests, 1..24, or 0 if not tested */
     uint32_t fitting[WB_FITTINGS]; /* the weight on line i + 1, 1..500000, or 0 if the line is empty */
 } wb_sheet;
 
-/* ---- the register; mem is WB_REGISTER_WORDS words, and any other length is refused with 1 ---- */
+/*
+ * ---- the register; mem is WB_REGISTER_WORDS words, and any other length is refused with 1 ----
+ *
+ * Here and below, refusals stand in the order in which they are judged. What a call leaves alone is said of one that is accepted; a refused one leaves
+ * everything. No call writes a word besides those that it is said to.
+ */
 
 /*
- * Fresh start: no hulls and no drafts. Every word becomes 0, whatever it was.
- * Refuses: 1 for a wrong size, and nothing else.
+ * Fresh start: no hulls and no drafts. Every word becomes 0, whatever it was; none is left.
+ * Answers: done. Refuses: 1 for a wrong size, and nothing else.
  */
 wb_answer wb_fresh(uint32_t *mem, size_t mem_len);
 
 /*
- * Enters a hull from the text of a sheet, with edit number 0. The text's HULL number is judged and then ignored.
+ * Enters a hull from the text of a sheet, with edit number 0. The text's HULL number is judged and then ignored. The other hulls and all drafts are
+ * left alone.
  * Answers: first is the hull's number. Refuses: 1; 4; 2 or 3 for the first fault of the text.
  */
 wb_answer wb_new_hull(uint32_t *mem, size_t mem_len, const uint8_t *text, size_t text_len);
 
 /*
  * Opens a hull at a desk: the desk's draft is then a copy of the hull's sheet. A draft that the desk held is discarded, unless this call is refused.
+ * The hulls and the other desks' drafts are left alone.
  * Answers: first is the hull's edit number. Refuses: 1, 6, 5.
  */
 wb_answer wb_open(uint32_t *mem, size_t mem_len, uint32_t desk, uint32_t hull);
 
 /*
- * Puts a fitting of so many grams on a line of the desk's draft, in place of one that is there.
- * Refuses: 1, 6, 7; 3 for a line outside 1..24 or a weight outside 1..500000.
+ * Puts a fitting of so many grams on a line of the desk's draft, in place of one that is there. The rest of the draft, the hulls and the other drafts
+ * are left alone.
+ * Answers: done. Refuses: 1, 6, 7; 3 for a line outside 1..24 or a weight outside 1..500000.
  */
 wb_answer wb_put(uint32_t *mem, size_t mem_len, uint32_t desk, uint32_t line, uint32_t weight);
 
 /*
- * Takes off the fitting on a line of the desk's draft.
- * Refuses: 1, 6, 7; 3 for a line outside 1..24; 17 where the line is empty.
+ * Takes off the fitting on a line of the desk's draft. The rest of the draft, the hulls and the other drafts are left alone.
+ * Answers: done. Refuses: 1, 6, 7; 3 for a line outside 1..24; 17 where the line is empty.
  */
 wb_answer wb_take_off(uint32_t *mem, size_t mem_len, uint32_t desk, uint32_t line);
 
 /*
- * Makes the desk's draft the sheet of a text. The text's HULL number is judged and then ignored.
- * Refuses: 1, 6, 7; 2 or 3 for the first fault of the text.
+ * Makes the desk's draft the sheet of a text. The text's HULL number is judged and then ignored: the draft is of the hull that it was of, opened at the
+ * edit number that it was. The hulls and the other drafts are left alone.
+ * Answers: done. Refuses: 1, 6, 7; 2 or 3 for the first fault of the text.
  */
 wb_answer wb_replace(uint32_t *mem, size_t mem_len, uint32_t desk, const uint8_t *text, size_t text_len);
 
@@ -145,14 +179,15 @@ wb_answer wb_trial_c(const uint32_t *mem, size_t mem_len, uint32_t desk, const u
                      size_t weights_len);
 
 /*
- * Saves the desk's draft as its hull's sheet, even if nothing differs, and ends the draft. A refused save keeps it.
+ * Saves the desk's draft as its hull's sheet, even if nothing differs, and ends the draft. A refused save keeps it. The other hulls and the other
+ * drafts are left alone, those of the same hull too: their saves are then refused with 8.
  * Answers: first is the hull's edit number, which is one more than before. Refuses: 1, 6, 7; 8, then 9.
  */
 wb_answer wb_save(uint32_t *mem, size_t mem_len, uint32_t desk);
 
 /*
- * Ends the desk's draft. The hull is left as it is.
- * Refuses: 1, 6, 7.
+ * Ends the desk's draft. The hulls and the other drafts are left alone.
+ * Answers: done. Refuses: 1, 6, 7.
  */
 wb_answer wb_drop(uint32_t *mem, size_t mem_len, uint32_t desk);
 
@@ -172,7 +207,7 @@ wb_answer wb_plate_c(const uint32_t *mem, size_t mem_len, uint32_t hull, const u
 
 /*
  * Writes the text of a hull's sheet, with the register's number, from the start of out. Bytes of out after the text are left alone, and the text is
- * not ended by a 0. WB_SHEET_TEXT bytes are always room enough.
+ * not ended by a 0. WB_SHEET_TEXT bytes are always room enough. The memory is only read.
  * Answers: first is how many bytes were written. Refuses: 1, 5; 16 where out is shorter than the text.
  */
 wb_answer wb_write_hull(const uint32_t *mem, size_t mem_len, uint32_t hull, uint8_t *out, size_t out_len);
@@ -180,20 +215,21 @@ wb_answer wb_write_hull(const uint32_t *mem, size_t mem_len, uint32_t hull, uint
 /* ---- texts, without a register ---- */
 
 /*
- * Reads a sheet from its text, the HULL number too.
- * Refuses: 2 or 3 for the first fault from the left and top.
+ * Reads a sheet from its text, the HULL number too. All 69 numbers of sheet are written; the text is only read.
+ * Answers: done. Refuses: 2 or 3 for the first fault from the left and top.
  */
 wb_answer wb_read_sheet(const uint8_t *text, size_t text_len, wb_sheet *sheet);
 
 /*
- * Writes a sheet's one text from the start of out. Reading it gives the same sheet, and writing what was read the same bytes.
+ * Writes a sheet's one text from the start of out. Reading it gives the same sheet, and writing what was read the same bytes. Bytes of out after the
+ * text are left alone, and the text is not ended by a 0. WB_SHEET_TEXT bytes are always room enough. The sheet is only read.
  * Answers: first is how many bytes were written. Refuses: 3 for a sheet outside the limits; 16 where out is shorter than the text.
  */
 wb_answer wb_write_sheet(const wb_sheet *sheet, uint8_t *out, size_t out_len);
 
 /*
- * Reads engine rows, lines of ENG, power, weight, into the starts of two slices. Elements after the rows are left alone; WB_ENGINE_ROWS are always
- * room enough.
+ * Reads engine rows from their text into the starts of two slices. Elements after the rows are left alone; WB_ENGINE_ROWS are always room enough. The
+ * text is only read.
  * Answers: first is how many rows there are. Refuses: 2 or 3 for the first fault of the text; 16 where either slice is shorter than the rows.
  */
 wb_answer wb_read_engines(const uint8_t *text, size_t text_len, uint32_t *powers, size_t powers_len, uint32_t *weights, size_t weights_len);

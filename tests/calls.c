@@ -6,6 +6,7 @@
  */
 #define _POSIX_C_SOURCE 199309L
 #include "compare.h"
+#include "layout.h"
 #include "material.h"
 #include "parts.h"
 #include "random.h"
@@ -18,10 +19,6 @@
 
 #define DEFAULT_SEED 1799
 #define DEFAULT_CALLS 400000
-
-/* The layout of docs/REGISTER.md. */
-#define HULL_AT(hull) (1 + 69 * (hull))
-#define DESK_AT(desk) (1105 + 71 * (desk))
 
 static uint32_t *const mem = lent[MEMORY].words;
 
@@ -203,10 +200,17 @@ static unsigned long long number_after(int argc, char **argv, const char *option
     return otherwise;
 }
 
+/* Digits alone, and few enough for 64 bits: of a word strtoull would make 0, and of more digits its highest number. */
+static int is_number(const char *word)
+{
+    size_t digits = strspn(word, "0123456789");
+    return digits > 0 && digits < 20 && word[digits] == '\0';
+}
+
 static int usage_wrong(int argc, char **argv)
 {
     for (int i = 1; i < argc; i += 2)
-        if (i + 1 == argc || (strcmp(argv[i], "--seed") != 0 && strcmp(argv[i], "--calls") != 0))
+        if (i + 1 == argc || (strcmp(argv[i], "--seed") != 0 && strcmp(argv[i], "--calls") != 0) || !is_number(argv[i + 1]))
             return 1;
     return 0;
 }
@@ -221,7 +225,7 @@ static double seconds(void)
 int main(int argc, char **argv)
 {
     if (usage_wrong(argc, argv)) {
-        fprintf(stderr, "usage: %s [--seed N] [--calls N]\n", argv[0]);
+        fprintf(stderr, "usage: %s [--seed N] [--calls N]; N is a number of at most 19 digits\n", argv[0]);
         return 2;
     }
     uint64_t seed = number_after(argc, argv, "--seed", DEFAULT_SEED);

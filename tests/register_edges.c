@@ -1,14 +1,11 @@
 /* register_edges.c: memories with one word changed, wrong sizes, the last edit numbers, and the order of the register's refusals. */
+#include "layout.h"
 #include "material.h"
 #include "parts.h"
 #include "random.h"
 #include "steps.h"
 
 #include <string.h>
-
-/* The layout of docs/REGISTER.md. */
-#define HULL_AT(hull) (1 + 69 * (hull))
-#define DESK_AT(desk) (1105 + 71 * (desk))
 
 static uint32_t *const mem = lent[MEMORY].words;
 
@@ -19,7 +16,7 @@ static void build(uint32_t hulls, uint32_t drafts)
 {
     start_fresh();
     for (uint32_t word = 1; word < WB_REGISTER_WORDS; word++)
-        if ((word - 1105) % 71 != 0 || word < 1105)
+        if ((word - DESK_AT(0)) % DESK_WORDS != 0 || word < DESK_AT(0))
             mem[word] = random_word();
     for (uint32_t hull = 0; hull < hulls; hull++) {
         wb_sheet sheet = random_sheet();
@@ -56,19 +53,20 @@ static void lend_good_things(void)
 /* What one word of a memory of build may hold; free words may hold anything. */
 static void limits_of(uint32_t word, uint32_t hulls, uint32_t drafts, uint32_t *low, uint32_t *high)
 {
-    uint32_t hull = (word - 1) / 69, desk = (word - 1105) / 71, at = word < 1105 ? (word - 1) % 69 : (word - 1105) % 71;
-    int number = (int)at - (word < 1105 ? 0 : 2); /* the place in a sheet, where the edit or opening number stands for HULL */
+    uint32_t hull = (word - 1) / HULL_WORDS, desk = (word - DESK_AT(0)) / DESK_WORDS;
+    uint32_t at = word < DESK_AT(0) ? (word - 1) % HULL_WORDS : (word - DESK_AT(0)) % DESK_WORDS;
+    int number = (int)at - (word < DESK_AT(0) ? 0 : 2); /* the place in a sheet, where the edit or opening number stands for HULL */
     *low = 0;
     if (word == 0)
         *high = WB_HULLS;
-    else if (word >= 1105 && at == 0)
+    else if (word >= DESK_AT(0) && at == 0)
         *high = 1;
-    else if (word < 1105 ? hull >= hulls : desk >= drafts)
+    else if (word < DESK_AT(0) ? hull >= hulls : desk >= drafts)
         *high = 0xFFFFFFFF;
     else if (number < 0)
         *high = hulls - 1;
     else if (number == 0)
-        *high = word < 1105 ? 65535 : 3;
+        *high = word < DESK_AT(0) ? 65535 : 3;
     else {
         *low = number == TESTED_NUMBER || number >= FIRST_FITTING ? 0 : lowest(number);
         *high = highest(number);
@@ -89,8 +87,8 @@ static void change_word(uint32_t word, uint32_t number, int formed, uint32_t tur
 /* The words whose limits hang on another word are left out here: the count, and lengths. */
 static int alone(uint32_t word)
 {
-    uint32_t at = word < 1105 ? (word - 1) % 69 : (word - 1105) % 71 - 2;
-    return word != 0 && at != LENGTH_NUMBER && at != REFERENCE_NUMBER && !(word < 1105 && at == 0);
+    uint32_t at = word < DESK_AT(0) ? (word - 1) % HULL_WORDS : (word - DESK_AT(0)) % DESK_WORDS - 2;
+    return word != 0 && at != LENGTH_NUMBER && at != REFERENCE_NUMBER && !(word < DESK_AT(0) && at == 0);
 }
 
 static void change_every_word(uint32_t hulls, uint32_t drafts)
@@ -108,7 +106,7 @@ static void change_every_word(uint32_t hulls, uint32_t drafts)
         if (low > 0)
             change_word(word, low - 1, 0, turn++);
         /* a desk's mark set to 1 makes a draft of what was free there */
-        if (!alone(word) || (word >= DESK_AT(drafts) && (word - 1105) % 71 == 0))
+        if (!alone(word) || (word >= DESK_AT(drafts) && (word - DESK_AT(0)) % DESK_WORDS == 0))
             continue;
         change_word(word, low, 1, turn++);
         change_word(word, high, 1, turn++);
@@ -141,7 +139,7 @@ static void try_seventeen_hulls(void)
 {
     build(WB_HULLS, 0);
     lend_good_things();
-    memcpy(mem + HULL_AT(WB_HULLS), mem + HULL_AT(0), 69 * sizeof *mem);
+    memcpy(mem + HULL_AT(WB_HULLS), mem + HULL_AT(0), HULL_WORDS * sizeof *mem);
     mem[HULL_AT(WB_HULLS)] = 0;
     for (uint32_t turn = 0; turn < 12; turn++) {
         change_word(0, WB_HULLS + 1, 0, turn);
@@ -300,10 +298,10 @@ static void try_fittings(void)
     for (uint32_t line = 1; line <= WB_FITTINGS; line++) {
         expect(attempt((struct call){.kind = TAKE_OFF, .desk = 3, .line = line}), 17, 0, 0);
         expect(attempt((struct call){.kind = PUT, .desk = 3, .line = line, .weight = line}), 0, 0, 0);
-        insist(mem[DESK_AT(3) + 3 + 43 + line] == line, "the fitting is not on its line");
+        insist(mem[FITTING_AT(3, line)] == line, "the fitting is not on its line");
         expect(attempt((struct call){.kind = PUT, .desk = 3, .line = line, .weight = 500000}), 0, 0, 0);
         expect(attempt((struct call){.kind = TAKE_OFF, .desk = 3, .line = line}), 0, 0, 0);
-        insist(mem[DESK_AT(3) + 3 + 43 + line] == 0, "the fitting is still on its line");
+        insist(mem[FITTING_AT(3, line)] == 0, "the fitting is still on its line");
         expect(attempt((struct call){.kind = PUT, .desk = 3, .line = line, .weight = 1}), 0, 0, 0);
     }
 }
