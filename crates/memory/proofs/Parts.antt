@@ -1,4 +1,4 @@
--- Parts of the memory: what stands in one after a write there, and that a write elsewhere leaves it. Assumes nothing.
+-- Words and parts of the memory: what stands in one after a write there, and that a write elsewhere leaves a word. Assumes nothing.
 use mathlib.Core.Path.{_≡_, refl, sym, ap, _∙_}
 use mathlib.Core.Logic.{_⊎_, inl, inr}
 use mathlib.Core.List.{List, [], _∷_}

@@ -12,7 +12,7 @@ use native.Mathlib.Nat.{le-trans}
 use Rattle.text.specs.Limit.{Limit, within, holds, allHold}
 use Rattle.text.proofs.Number.{both-hold}
 use Rattle.text.proofs.Limit.{within-high, hold-length}
-use Rattle.sheet.specs.Sheet.{limitsOn, sheetLimits, wordsOk}
+use Rattle.sheet.specs.Sheet.{sheetWords, limitsOn, sheetLimits, wordsOk}
 use Rattle.plates.specs.Words.{station}
 use Rattle.plates.specs.Bounds.{Readings, Weights, Bounds}
 
@@ -54,7 +54,7 @@ same-most zero high k = omega arith
 same-most (suc n) high zero = omega arith
 same-most (suc n) high (suc k) = same-most n high k
 
-weights-keep : (s h : List ℕ) → Keeps s h → length s ≡ 68 → drop 44 h ≡ replicate 24 500000 → Weights (drop 44 s)
+weights-keep : (s h : List ℕ) → Keeps s h → length s ≡ sheetWords → drop 44 h ≡ replicate 24 500000 → Weights (drop 44 s)
 weights-keep s h m n e =
     record {
       few = omega (arith, length-drop 44 s);
@@ -73,7 +73,7 @@ unfolding sheetLimits limitsOn
 within-bounds s e =
     let h : List ℕ = highs (drop 1 sheetLimits) in
     let m : Keeps s h = at-most (drop 1 sheetLimits) 0 s e in
-    let n : length s ≡ 68 = hold-length (drop 1 sheetLimits) 0 s e in
+    let n : length s ≡ sheetWords = hold-length (drop 1 sheetLimits) 0 s e in
     record {
       words = n;
       long = m 0;

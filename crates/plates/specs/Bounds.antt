@@ -3,6 +3,7 @@ use Prim.Native.Nat.{ℕ, _≤_, _<_}
 use mathlib.Core.Path.{_≡_}
 use mathlib.Core.List.{List, []}
 use lib.ListN.{length, getD}
+use Rattle.sheet.specs.Sheet.{sheetWords}
 use Rattle.plates.specs.Words.{hullLength, reference, transomWidth, station, fittingsOf, aft, well, flooding, bare, fuel, machinery, positions}
 
 -- a station's seven readings
@@ -29,7 +30,7 @@ pub record Weights (ws : List ℕ) : Type 0 where
   pub light : (k : ℕ) → getD ws k 0 ≤ 500000
 
 pub record Bounds (s : List ℕ) : Type 0 where
-  pub words : length s ≡ 68
+  pub words : length s ≡ sheetWords
   pub long : hullLength s ≤ 6000
   pub reference-most : reference s ≤ 6000
   pub wide : transomWidth s ≤ 3000
