@@ -160,7 +160,7 @@ pub fn write_number(out: &mut [u8], n: u64) -> usize
 
 // ---- limits
 
-// Whether n, written after `last` on its line, is within a limit.
+// Whether n is within a limit, where the number before it is `last`.
 fn is_within(l: Limit, last: u32, n: u64) -> bool
     ensures { λ r. ⌜ r ≡ within (limitOf l) last n ⌝ }
 {
@@ -193,7 +193,7 @@ fn is_none(l: Limit, n: u32) -> bool
     if rule == OR_NONE { n == 0 } else { false }
 }
 
-// Whether n may stand after `last`: within the limit, or a 0 for none.
+// Whether n may stand there: within the limit, or a 0 for none.
 fn may_stand(l: Limit, last: u32, n: u32) -> bool
     ensures { λ r. ⌜ r ≡ holds (limitOf l) last n ⌝ }
 {
