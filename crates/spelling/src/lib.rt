@@ -374,7 +374,7 @@ fn write_entry(l: Limit, n: u32, out: &mut [u8], at: usize) -> usize
     at + write_number(&mut out[from..], n as u64)
 }
 
-// Writes a number for each limit of the table from a place on, and answers the place after them.
+// Writes numbers by the limits of the table, as far as there are both, from a place on, and answers the place after them.
 fn write_numbers(table: &[Limit], numbers: &[u32], out: &mut [u8], start: usize) -> usize
     requires { ⌜ start < 2 ^ 63 ⌝ }
     ensures { λ r. ⌜ Laid (numbersText (limitsOf (now (table .entry))) (now (numbers .entry))) (now (out .entry)) start r (now (out .exit)) ⌝ }
