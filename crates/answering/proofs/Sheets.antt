@@ -30,7 +30,7 @@ lent-part m at = ap (λ (n : ℕ). take n (drop at m)) (add-sub-cancel-left at s
 -- ---- a hull's sheet
 
 module _ (m : List ℕ) (h : ℕ) (g : HullGoes m h) {at : ℕ} (q : at ≡ hullAt h) where
-  pub size-known : length m ≡ registerWords
+  size-known : length m ≡ registerWords
   size-known = sound m (g .ok) .size
 
   pub hull-low : h < mostHulls

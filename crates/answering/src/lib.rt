@@ -38,6 +38,7 @@ const EMPTY_LINE: u32 = 17;
 
 // ---- the shared checks; 0 where nothing is refused
 
+// What refuses a call on a hull: the memory first, then the hull.
 fn hull_refusal(mem: &[u32], hull: u32) -> u32
     ensures { λ r. ⌜ r ≡ hullRefusal (now (mem .entry)) hull ⌝ }
 {
@@ -48,6 +49,7 @@ fn hull_refusal(mem: &[u32], hull: u32) -> u32
     }
 }
 
+// What refuses a call on a desk's draft: the memory first, then the desk, then that it holds no draft.
 fn desk_refusal(mem: &[u32], desk: u32) -> u32
     ensures { λ r. ⌜ r ≡ deskRefusal (now (mem .entry)) desk ⌝ }
 {
@@ -76,6 +78,7 @@ pub fn fresh(mem: &mut [u32]) -> Answer
     Answer::Done
 }
 
+// What refuses a new hull before its text is read: the memory first, then a full register.
 fn room_refusal(mem: &[u32]) -> u32
     ensures { λ r. ⌜ r ≡ roomRefusal (now (mem .entry)) ⌝ }
 {
@@ -158,6 +161,7 @@ pub fn write_hull(mem: &[u32], hull: u32, out: &mut [u8]) -> Answer
 
 // ---- drafts
 
+// What refuses an open: the memory first, then the desk, then the hull.
 fn open_refusal(mem: &[u32], desk: u32, hull: u32) -> u32
     ensures { λ r. ⌜ r ≡ openRefusal (now (mem .entry)) desk hull ⌝ }
 {
@@ -185,6 +189,7 @@ pub fn open_hull(mem: &mut [u32], desk: u32, hull: u32) -> Answer
     Answer::Count(keeping::open_draft(mem, desk as usize, hull))
 }
 
+// What refuses a put: as for every call on a draft, then a line or a weight outside the limits.
 fn put_refusal(mem: &[u32], desk: u32, line: u32, weight: u32) -> u32
     ensures { λ r. ⌜ r ≡ putRefusal (now (mem .entry)) desk line weight ⌝ }
 {
@@ -219,6 +224,7 @@ pub fn put_fitting(mem: &mut [u32], desk: u32, line: u32, weight: u32) -> Answer
     Answer::Done
 }
 
+// What refuses a taking off: as for every call on a draft, then a line outside the limits, then an empty one.
 fn take_refusal(mem: &[u32], desk: u32, line: u32) -> u32
     ensures { λ r. ⌜ r ≡ takeRefusal (now (mem .entry)) desk line ⌝ }
 {
@@ -295,6 +301,7 @@ pub fn trial_c(mem: &[u32], desk: u32, powers: &[u32], weights: &[u32]) -> Answe
     figuring::plate_c(&mem[start..end], powers, weights)
 }
 
+// What refuses a save: as for every call on a draft, then an edit of the hull since the open, then that no edit number is left.
 fn save_refusal(mem: &[u32], desk: u32) -> u32
     ensures { λ r. ⌜ r ≡ saveRefusal (now (mem .entry)) desk ⌝ }
 {

@@ -29,7 +29,7 @@ const FLAT: usize = 4;
 
 const REMOTE: usize = 5;
 
-const STATIONS: usize = 6;
+const STATION_Q: usize = 6;
 
 const AFT: usize = 34;
 
@@ -51,7 +51,7 @@ const POSITIONS: usize = 42;
 
 const TESTED: usize = 43;
 
-const FITTINGS: usize = 44;
+const FITTED: usize = 44;
 
 // Declared watts up to which the gross load of plate C is three tenths, not a fifth.
 const LOW_POWER: u32 = 1500;
@@ -66,8 +66,10 @@ const PERSON_GRAMS: u64 = 75_000;
 
 const TESTED_GRAMS: u64 = 250_000;
 
+// Half of a marked kilogram, which plate A adds before it rounds down.
 const HALF_MARKED: u64 = 2500 * GRAM;
 
+// A word as a number to reckon with: the sums need the room.
 fn wide(x: u32) -> u64
     ensures { λ r. ⌜ r ≡ x ⌝ }
 {
@@ -147,10 +149,10 @@ fn gain_of(sheet: &[u32]) -> u64
     requires { ⌜ Bounds (now sheet) ⌝ }
     ensures { λ r. ⌜ r ≡ volumeN (now (sheet .entry)) + gram * aft (now (sheet .entry)) ⌝ }
 {
-    let q = readings_at(sheet, STATIONS);
-    let r = readings_at(sheet, STATIONS + 7);
-    let s = readings_at(sheet, STATIONS + 14);
-    let t = readings_at(sheet, STATIONS + 21);
+    let q = readings_at(sheet, STATION_Q);
+    let r = readings_at(sheet, STATION_Q + 7);
+    let s = readings_at(sheet, STATION_Q + 14);
+    let t = readings_at(sheet, STATION_Q + 21);
     volume_of([q, r, s, t], sheet[REFERENCE]) + GRAM * wide(sheet[AFT])
 }
 
@@ -159,7 +161,7 @@ fn boat_of(sheet: &[u32]) -> u64
     requires { ⌜ Bounds (now sheet) ⌝ }
     ensures { λ r. ⌜ r ≡ boatM (now (sheet .entry)) ⌝ }
 {
-    wide(sheet[BARE]) + fittings_weight(&sheet[FITTINGS..])
+    wide(sheet[BARE]) + fittings_weight(&sheet[FITTED..])
 }
 
 // What takes from the load. The tanks and machinery count so many times.
@@ -301,6 +303,7 @@ fn engine_weight(sheet: &[u32], powers: &[u32], weights: &[u32]) -> u32
     }
 }
 
+// The lesser of two numbers.
 fn least_of(a: u64, b: u64) -> u64
     ensures { λ r. ⌜ r ≡ min a b ⌝ }
 {
@@ -431,6 +434,7 @@ fn no_power(sheet: &[u32]) -> bool
     }
 }
 
+// The refusals that are the plates' own.
 const BAD_ROWS: u32 = 10;
 
 const NO_ROW: u32 = 11;

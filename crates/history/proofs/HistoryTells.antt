@@ -20,7 +20,7 @@ use Rattle.history.proofs.Replay.{Drafts, drafts, high-none}
 -- ---- what is told
 
 -- the sheet of a draft's hull when it was opened, and the draft after its block
-abbrev pub sheetAt : Opening → List ℕ
+abbrev sheetAt : Opening → List ℕ
 sheetAt o = stateOf (map call (o .before)) .register .hull (o .hull) .sheet
 
 abbrev pub draftOf : List Event → Opening → Draft
@@ -136,7 +136,7 @@ tells-step s past w (unasked p) z f = same _ f (λ h. refl) (λ d. refl)
 
 -- ---- every run
 
-pub its-calls : (cs : List Call) → map call (eventsOf cs) ≡ cs
+its-calls : (cs : List Call) → map call (eventsOf cs) ≡ cs
 unfolding eventsOf
 its-calls [] = refl
 its-calls (c ∷ cs) = ap (λ (l : List Call). c ∷ l) (its-calls cs)

@@ -55,7 +55,7 @@ workSays (replace t) s = says (onText t Done Refused)
 workSays tryPlateA s = says (PlateA.plateA s)
 workSays (tryPlateC ps ws) s = says (PlateC.plateC s ps ws)
 
-abbrev pub workDone : Work → List ℕ → List ℕ
+abbrev workDone : Work → List ℕ → List ℕ
 workDone w s = cond (accepted (workSays w s)) (worked w s) s
 
 -- what is asked of hull h, whose sheet is s; and of a hull that is not there
@@ -90,16 +90,16 @@ opens r h = record { hull = h; opening = r .hull h .edits; sheet = r .hull h .sh
 abbrev pub edited : Work → Draft → Draft
 edited w x = record { hull = x .hull; opening = x .opening; sheet = workDone w (x .sheet) }
 
-abbrev pub refuse : State → ℕ → Outcome
+abbrev refuse : State → ℕ → Outcome
 refuse s n = record { state = s; reply = says (Refused n) }
 
 -- ---- a call
 
-abbrev pub workOn : State → ℕ → Work → Option Draft → Outcome
+abbrev workOn : State → ℕ → Work → Option Draft → Outcome
 workOn s d w none = refuse s 7
 workOn s d w (some x) = record { state = atDesk s d (some (edited w x)); reply = workSays w (x .sheet) }
 
-abbrev pub saveOf : State → ℕ → Option Draft → Outcome
+abbrev saveOf : State → ℕ → Option Draft → Outcome
 saveOf s d none = refuse s 7
 saveOf s d (some x) =
     cond (eqb (s .register .hull (x .hull) .edits) (x .opening))
@@ -108,7 +108,7 @@ saveOf s d (some x) =
     (record { state = record { register = store (s .register) x; draft = but (s .draft) d none }; reply = says (Count (suc (s .register .hull (x .hull) .edits))) }))
     (refuse s 8)
 
-abbrev pub dropOf : State → ℕ → Option Draft → Outcome
+abbrev dropOf : State → ℕ → Option Draft → Outcome
 dropOf s d none = refuse s 7
 dropOf s d (some x) = record { state = atDesk s d none; reply = says Done }
 

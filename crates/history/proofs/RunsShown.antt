@@ -45,7 +45,7 @@ tied-step m s (drop-high {d} p) S = drop-kept S d 6 refl (high-desk S p)
 tied-step m s (asks {h} {q} p) S = record { shows = S; replies = asks-replies S h q p (sym (hull-there m h (S .ok) (rw (S .counts) p))) }
 tied-step m s (unasked {h} {q} p) S = record { shows = S; replies = unasked-replies S h q (sym (hull-absent m h (S .ok) (rw (S .counts) p))) }
 
-pub tied : (m : List ℕ) (s : State) (c : Call) → Shows m s → Tied (next m c) (reply m c) (step s c .state) (step s c .reply)
+tied : (m : List ℕ) (s : State) (c : Call) → Shows m s → Tied (next m c) (reply m c) (step s c .state) (step s c .reply)
 tied m s c S = each s c (λ t r. Tied (next m c) (reply m c) t r) (λ t r p. tied-step m s p S)
 
 -- ---- every run

@@ -54,7 +54,7 @@ pub record Holds (m : List ℕ) (d : ℕ) (x : Draft) : Type 0 where
   pub number : opening m d ≡ x .opening
   pub sheet : draftSheet m d ≡ x .sheet
 
-pub holds-it : (m : List ℕ) (d : ℕ) (x : Draft) → draftIn m d ≡ some x → Holds m d x
+holds-it : (m : List ℕ) (d : ℕ) (x : Draft) → draftIn m d ≡ some x → Holds m d x
 holds-it m d x e = go (eqb (held m d) 0) refl e
   where
     go : (t : Bool) → eqb (held m d) 0 ≡ t → cond t none (some (slot m d)) ≡ some x → Holds m d x

@@ -42,7 +42,7 @@ taken-refusal (Count n) e = absurd (false≢true (sym e))
 taken-refusal (Plate a b) e = absurd (false≢true (sym e))
 
 -- an answer that is not refused has no refusal
-pub taken-zero : (refusal : ℕ) (a : Answer) → taken (orRefused refusal a) ≡ true → refusal ≡ 0
+taken-zero : (refusal : ℕ) (a : Answer) → taken (orRefused refusal a) ≡ true → refusal ≡ 0
 taken-zero refusal a e = go (eqb refusal 0) refl e
   where
     go : (t : Bool) → eqb refusal 0 ≡ t → taken (cond t a (Refused refusal)) ≡ true → refusal ≡ 0

@@ -12,7 +12,7 @@ use memory::REGISTER_WORDS;
 use sheet::SHEET_WORDS;
 
 // Whether the words from a place on are a sheet within limits.
-fn sheet_ok(mem: &[u32], at: usize) -> bool
+fn words_at_ok(mem: &[u32], at: usize) -> bool
     requires { ⌜ at + sheetWords ≤ length (now mem) ⌝ }
     ensures { λ r. ⌜ r ≡ wordsOk (part (now (mem .entry)) at sheetWords) ⌝ }
 {
@@ -20,18 +20,20 @@ fn sheet_ok(mem: &[u32], at: usize) -> bool
     checking::words_ok(&mem[at..end])
 }
 
+// Whether a hull is well formed: its edit number, then its sheet.
 fn hull_ok(mem: &[u32], hull: usize) -> bool
     requires { ⌜ (length (now mem) ≡ registerWords) × (hull < mostHulls) ⌝ }
     ensures { λ r. ⌜ r ≡ hullOk (now (mem .entry)) hull ⌝ }
 {
     let at = keeping::hull_at(hull);
     if mem[at] <= MOST_EDITS {
-        sheet_ok(mem, at + 1)
+        words_at_ok(mem, at + 1)
     } else {
         false
     }
 }
 
+// The same of the first hulls, so many of them.
 fn hulls_ok(mem: &[u32], hulls: usize) -> bool
     requires { ⌜ (length (now mem) ≡ registerWords) × (hulls ≤ mostHulls) ⌝ }
     ensures { λ r. ⌜ r ≡ each hulls (hullOk (now (mem .entry))) ⌝ }
@@ -47,6 +49,7 @@ fn hulls_ok(mem: &[u32], hulls: usize) -> bool
     true
 }
 
+// Whether a desk is well formed: it holds no draft, or one of a hull that is there, of an edit number not above the hull's, with a sheet within limits.
 fn draft_ok(mem: &[u32], desk: usize) -> bool
     requires { ⌜ (length (now mem) ≡ registerWords) × (count (now mem) ≤ mostHulls) × (desk < desks) ⌝ }
     ensures { λ r. ⌜ r ≡ draftOk (now (mem .entry)) desk ⌝ }
@@ -66,9 +69,10 @@ fn draft_ok(mem: &[u32], desk: usize) -> bool
     if mem[edits] < mem[at + 2] {
         return false;
     }
-    sheet_ok(mem, at + 3)
+    words_at_ok(mem, at + 3)
 }
 
+// The same of every desk.
 fn drafts_ok(mem: &[u32]) -> bool
     requires { ⌜ (length (now mem) ≡ registerWords) × (count (now mem) ≤ mostHulls) ⌝ }
     ensures { λ r. ⌜ r ≡ each desks (draftOk (now (mem .entry))) ⌝ }

@@ -17,6 +17,7 @@ use sheet::SHEET_WORDS;
 
 // ---- places
 
+// Where a hull starts: its edit number, and then its sheet.
 pub fn hull_at(hull: usize) -> usize
     requires { ⌜ hull ≤ mostHulls ⌝ }
     ensures { λ r. ⌜ r ≡ hullAt hull ⌝ }
@@ -24,6 +25,7 @@ pub fn hull_at(hull: usize) -> usize
     HULLS + HULL_WORDS * hull
 }
 
+// Where a desk starts: whether it holds a draft, its hull, the hull's edit number at the open, and then the sheet.
 pub fn draft_at(desk: usize) -> usize
     requires { ⌜ desk ≤ desks ⌝ }
     ensures { λ r. ⌜ r ≡ draftAt desk ⌝ }

@@ -19,7 +19,7 @@ use Rattle.sheet.proofs.Most.{fitLimit}
 
 -- ---- one number changed among many
 
-pub hold-set : (ls : List Limit) (last : ℕ) (ns : List ℕ) (k w : ℕ) → k < length ls → ((before : ℕ) → holds (getD ls k fitLimit) before w ≡ true) → opens (drop (suc k) ls) ≡ true
+hold-set : (ls : List Limit) (last : ℕ) (ns : List ℕ) (k w : ℕ) → k < length ls → ((before : ℕ) → holds (getD ls k fitLimit) before w ≡ true) → opens (drop (suc k) ls) ≡ true
     → allHold ls last ns ≡ true → allHold ls last (set ns k w) ≡ true
 unfolding allHold
 hold-set [] last ns k w l f o h = absurd (omega arith)

@@ -1,4 +1,4 @@
--- Parts of the memory: what stands in one after a write there, and that a write elsewhere leaves it. Assumes nothing.
+-- Words and parts of the memory: what stands in one after a write there, and that a write elsewhere leaves a word. Assumes nothing.
 use mathlib.Core.Path.{_≡_, refl, sym, ap, _∙_}
 use mathlib.Core.Logic.{_⊎_, inl, inr}
 use mathlib.Core.List.{List, [], _∷_}
@@ -53,16 +53,12 @@ part-same m o a b n h k e =
     ext-getD 0 (part m a n) (part o b n) (part-length m a n h ∙ sym (part-length o b n k))
     (λ (i : ℕ) (l : i < length (part m a n)). let j : i < n = omega (arith, part-length m a n h) in part-word m a n i j ∙ e i j ∙ sym (part-word o b n i j))
 
--- a part that was written, and one that was not
-pub part-written : (m : List ℕ) (at : ℕ) (xs : List ℕ) → at + length xs ≤ length m → part (sets m at xs) at (length xs) ≡ xs
+-- a part that was written
+part-written : (m : List ℕ) (at : ℕ) (xs : List ℕ) → at + length xs ≤ length m → part (sets m at xs) at (length xs) ≡ xs
 part-written m at xs h =
     let n : at + length xs ≤ length (sets m at xs) = omega (arith, length-sets m at xs) in
     ext-getD 0 (part (sets m at xs) at (length xs)) xs (part-length (sets m at xs) at (length xs) n)
     (λ (i : ℕ) (l : i < length (part (sets m at xs) at (length xs))). let j : i < length xs = omega (arith, part-length (sets m at xs) at (length xs) n) in part-word (sets m at xs) at (length xs) i j ∙ word-inside m at xs i h j)
-
-pub part-outside : (m : List ℕ) (at : ℕ) (xs : List ℕ) (a n : ℕ) → a + n ≤ length m → (a + n ≤ at) ⊎ (at + length xs ≤ a) → part (sets m at xs) a n ≡ part m a n
-part-outside m at xs a n h (inl o) = part-same (sets m at xs) m a a n (omega (arith, length-sets m at xs)) h (λ (j : ℕ) (l : j < n). word-outside m at xs (a + j) (inl (omega arith)))
-part-outside m at xs a n h (inr o) = part-same (sets m at xs) m a a n (omega (arith, length-sets m at xs)) h (λ (j : ℕ) (l : j < n). word-outside m at xs (a + j) (inr (omega arith)))
 
 -- a part of what was written, and a part with one word set
 pub part-inside : (m : List ℕ) (at : ℕ) (xs : List ℕ) (a n : ℕ) → at + length xs ≤ length m → a + n ≤ length xs → part (sets m at xs) (at + a) n ≡ part xs a n

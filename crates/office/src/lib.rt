@@ -20,6 +20,7 @@ pub struct WbAnswer {
     pub third: u32,
 }
 
+// An answer of the crates below, as C reads it.
 fn face(answer: Answer) -> WbAnswer
     ensures { λ r. ⌜ r ≡ faced answer ⌝ }
 {

@@ -91,6 +91,7 @@ fn print(input: &[u8]) {
     }
 }
 
+// Reads the input to its end, and prints what is to be printed of it. After a failed read, which has been said, nothing is printed.
 fn main() {
     let mut room = [0u8; ROOM];
     let Reading::Bytes(end) = read_input(&mut room) else {

@@ -7,7 +7,7 @@ use native.Mathlib.Nat.{mul-le-mul, mul-div-le, le-trans}
 use native.Mathlib.Omega.{arith}
 use lib.Dec.{eqb, ltb}
 use borrow.Author.Tests.{lt-ltb, le-ltb, ltb-true, ltb-false}
-use lib.IntN.{ℤ, pos, subℕ, _+ℤ_, _*ℤ_}
+use lib.IntN.{pos, subℕ, _+ℤ_, _*ℤ_}
 use lib.ListN.{length, getD}
 use Rattle.plates.specs.Whole.{floorDiv, whole}
 use Rattle.plates.specs.Words.{reference, station, aft, well, flooding, bare, fuel, machinery, outboard, declared, fittingsOf}

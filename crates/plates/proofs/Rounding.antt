@@ -35,7 +35,7 @@ pub record Largest (z : ℤ) (d : ℕ) (q : ℤ) : Type 0 where
 of-neg : (n : ℕ) → Differ (negsuc n) 0 (suc n)
 of-neg n = omega arith
 
-pub floor-largest : (z : ℤ) (d : ℕ) → 0 < d → Largest z d (floorDiv z d)
+floor-largest : (z : ℤ) (d : ℕ) → 0 < d → Largest z d (floorDiv z d)
 floor-largest (pos n) d p =
     let low = mul-div-le n d in
     let high = lt-mul-div-succ n p in

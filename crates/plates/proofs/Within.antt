@@ -12,7 +12,7 @@ use native.Mathlib.Nat.{le-trans}
 use Rattle.text.specs.Limit.{Limit, within, holds, allHold}
 use Rattle.text.proofs.Number.{both-hold}
 use Rattle.text.proofs.Limit.{within-high, hold-length}
-use Rattle.sheet.specs.Sheet.{limitsOn, sheetLimits, wordsOk}
+use Rattle.sheet.specs.Sheet.{sheetWords, limitsOn, sheetLimits, wordsOk}
 use Rattle.plates.specs.Words.{station}
 use Rattle.plates.specs.Bounds.{Readings, Weights, Bounds}
 
@@ -54,7 +54,7 @@ same-most zero high k = omega arith
 same-most (suc n) high zero = omega arith
 same-most (suc n) high (suc k) = same-most n high k
 
-weights-keep : (s h : List ℕ) → Keeps s h → length s ≡ 68 → drop 44 h ≡ replicate 24 500000 → Weights (drop 44 s)
+weights-keep : (s h : List ℕ) → Keeps s h → length s ≡ sheetWords → drop 44 h ≡ replicate 24 500000 → Weights (drop 44 s)
 weights-keep s h m n e =
     record {
       few = omega (arith, length-drop 44 s);
@@ -73,22 +73,18 @@ unfolding sheetLimits limitsOn
 within-bounds s e =
     let h : List ℕ = highs (drop 1 sheetLimits) in
     let m : Keeps s h = at-most (drop 1 sheetLimits) 0 s e in
-    let n : length s ≡ 68 = hold-length (drop 1 sheetLimits) 0 s e in
+    let n : length s ≡ sheetWords = hold-length (drop 1 sheetLimits) 0 s e in
     record {
       words = n;
       long = m 0;
       reference-most = m 1;
       wide = m 2;
-      flat-most = m 4;
-      remote-most = m 5;
       aft-most = m 34;
       well-most = m 35;
       flooding-most = m 36;
       bare-most = m 37;
       fuel-most = m 38;
       machinery-most = m 39;
-      outboard-most = m 40;
-      declared-most = m 41;
       positions-most = m 42;
       stations = one-of-four s (readings-keep s h m 6 refl) (readings-keep s h m 13 refl) (readings-keep s h m 20 refl) (readings-keep s h m 27 refl);
       fittings = weights-keep s h m n refl;

@@ -3,7 +3,8 @@ use Prim.Native.Nat.{ℕ, _≤_, _<_}
 use mathlib.Core.Path.{_≡_}
 use mathlib.Core.List.{List, []}
 use lib.ListN.{length, getD}
-use Rattle.plates.specs.Words.{hullLength, reference, transomWidth, flat, remote, station, fittingsOf, aft, well, flooding, bare, fuel, machinery, outboard, declared, positions}
+use Rattle.sheet.specs.Sheet.{sheetWords}
+use Rattle.plates.specs.Words.{hullLength, reference, transomWidth, station, fittingsOf, aft, well, flooding, bare, fuel, machinery, positions}
 
 -- a station's seven readings
 pub record Readings (l : List ℕ) : Type 0 where
@@ -29,20 +30,16 @@ pub record Weights (ws : List ℕ) : Type 0 where
   pub light : (k : ℕ) → getD ws k 0 ≤ 500000
 
 pub record Bounds (s : List ℕ) : Type 0 where
-  pub words : length s ≡ 68
+  pub words : length s ≡ sheetWords
   pub long : hullLength s ≤ 6000
   pub reference-most : reference s ≤ 6000
   pub wide : transomWidth s ≤ 3000
-  pub flat-most : flat s ≤ 1
-  pub remote-most : remote s ≤ 1
   pub aft-most : aft s ≤ 5000000
   pub well-most : well s ≤ 5000000
   pub flooding-most : flooding s ≤ 5000000
   pub bare-most : bare s ≤ 2000000
   pub fuel-most : fuel s ≤ 500000
   pub machinery-most : machinery s ≤ 500000
-  pub outboard-most : outboard s ≤ 1
-  pub declared-most : declared s ≤ 200000
   pub positions-most : positions s ≤ 24
   pub stations : (i : ℕ) → i < 4 → Readings (station s i)
   pub fittings : Weights (fittingsOf s)

@@ -12,7 +12,7 @@ use Rattle.text.proofs.Stores.{putBack, rest-part}
 use Rattle.text.proofs.Laid.{laid-more, laid-part}
 use Rattle.sheet.specs.declared.RowsRead.the-variants.{Rows, NoRows}
 use Rattle.sheet.specs.Lines.{mostRows}
-use Rattle.sheet.specs.Sheet.{textWords}
+use Rattle.sheet.specs.Sheet.{sheetWords, textWords}
 use Rattle.sheet.specs.Reading.{readSheet}
 use Rattle.sheet.specs.Engines.{readEngines, Rowed}
 use Rattle.sheet.proofs.Written.{laid-length}
@@ -53,14 +53,14 @@ module _ (t : List ℕ) (h : length t ≤ mostInput) {end : ℕ} (q : end ≡ sh
   sheet-printed p = sym (printed-fault t h (sym (rw q at (p .answer))))
 
   module _ {k : ℕ} {o : List ℕ} (p : Reads (readSheet (take end t)) (replicate textWords 0) (Taken k) o) where
-    words : take 68 (drop 1 o) ≡ drop 1 (readSheet (take end t) .numbers)
+    words : take sheetWords (drop 1 o) ≡ drop 1 (readSheet (take end t) .numbers)
     words =
         let e = sheet-stored (take end t) o k p in
         let n : length o ≡ textWords = ap length e ∙ sheet-count (take end t) k (sym (p .answer)) in
-        take-all 68 (drop 1 o) (omega (arith, length-drop 1 o)) ∙ ap (drop 1) e
+        take-all sheetWords (drop 1 o) (omega (arith, length-drop 1 o)) ∙ ap (drop 1) e
 
-    pub words-bounds : Bounds (take 68 (drop 1 o))
+    pub words-bounds : Bounds (take sheetWords (drop 1 o))
     words-bounds = rw words (read-bounds (take end t) k (sym (p .answer)))
 
-    pub rows-printed : rowsPrinted (take 68 (drop 1 o)) (take (length t - end) (drop end t)) ≡ printed t
+    pub rows-printed : rowsPrinted (take sheetWords (drop 1 o)) (take (length t - end) (drop end t)) ≡ printed t
     rows-printed = rw (words, rest-part t end, q) (sym (printed-rows t h (sym (rw q at (p .answer)))))

@@ -23,10 +23,8 @@ use Rattle.sheet.proofs.Engines.{Paired, Row, columns-even, none, paired-append
 pub record State (t a₀ b₀ a b : List ℕ) (rows at next : ℕ) : Type 0 where
   pub so : List ℕ
   pub paired : Paired so
-  pub rows-in : rows ≤ mostRows
   pub at-in : at ≤ length t
   pub many : length (powersOf so) ≡ rows
-  pub next-in : next ≤ 200001
   pub powers : a ≡ sets a₀ 0 (powersOf so)
   pub weights : b ≡ sets b₀ 0 (weightsOf so)
   pub so-far : readRows mostRows 1 t ≡ after so at (readRows (mostRows - rows) next (drop at t))
@@ -36,10 +34,8 @@ start t a b =
     record {
       so = [];
       paired = none;
-      rows-in = omega arith;
       at-in = omega arith;
       many = refl;
-      next-in = omega arith;
       powers = refl;
       weights = refl;
       so-far = sym (after-nothing (readRows mostRows 1 t));
@@ -87,7 +83,7 @@ module _ {t a₀ b₀ a b : List ℕ} {rows at next : ℕ} (s : State t a₀ b�
       taken = sym ended ∙ v
 
       -- the row's two numbers stand in the pair that was lent for them
-      pub read-row : Row next pair
+      read-row : Row next pair
       read-row =
           let f = row-numbers next (drop at t) len taken in
           record { n = f .n; w = f .w; are = p .stored ∙ rw (rest-part t at, f .are); n-low = f .n-low; n-high = f .n-high; w-low = f .w-low; w-high = f .w-high }
@@ -142,10 +138,8 @@ module _ {t a₀ b₀ a b : List ℕ} {rows at next : ℕ} (s : State t a₀ b�
           record {
             so = s .so ++ ns;
             paired = paired-append (s .paired) (row none);
-            rows-in = omega arith;
             at-in = omega arith;
             many = many₁;
-            next-in = omega (arith, power-high);
             powers = powers₁;
             weights = weights₁;
             so-far = s .so-far ∙ ap (after (s .so) at) (followed ∙ ap (after ns len) e) ∙ after-after (s .so) ns at len rest ∙ rw f;

@@ -83,7 +83,7 @@ module _ {t o₀ o : List ℕ} {read at next : ℕ} (s : State t o₀ o read at 
       taken = sym ended ∙ v
 
       -- the line's two numbers stand in the pair that was lent for them
-      pub pair : Fit next fit
+      pair : Fit next fit
       pair =
           let f = fit-numbers next (drop at t) len taken in
           let q : fit ≡ f .n ∷ f .w ∷ [] = p .stored ∙ rw (rest-part t at, f .are) in

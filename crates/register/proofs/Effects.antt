@@ -1,7 +1,7 @@
 -- What a call that is accepted makes of the memory and leaves of it, slot by slot; and that a refused one leaves every word. Assumes nothing.
 use mathlib.Core.Path.{_≡_, refl, sym, _∙_}
 use mathlib.Core.Bool.{Bool, true, false, cond, true≢false}
-use mathlib.Core.List.{List, _∷_}
+use mathlib.Core.List.{List}
 use Prim.Native.Nat.{ℕ, _+_}
 use native.Mathlib.Omega.{arith}
 use borrow.Author.Tests.{ne-eqb}
@@ -10,11 +10,11 @@ use lib.ListN.{length}
 use Rattle.text.specs.declared.LineRead.{LineRead}
 use Rattle.text.specs.declared.LineRead.the-variants.{Taken, Fault}
 use Rattle.sheet.specs.declared.Answer.{Answer}
-use Rattle.sheet.specs.declared.Answer.the-variants.{Refused, Done, Count, Plate}
+use Rattle.sheet.specs.declared.Answer.the-variants.{Refused, Done, Count}
 use Rattle.sheet.specs.Reading.{readSheet}
 use Rattle.sheet.specs.Calls.{writeAnswer}
 use Rattle.sheet.proofs.Refused.{isRefusal, none-refused, write-refused}
-use Rattle.memory.specs.Layout.{registerWords, count, edit, hullSheet, draftHull}
+use Rattle.memory.specs.Layout.{registerWords, count, edit, draftHull}
 use Rattle.memory.specs.Updates.{freshWords, entered, opened, fitted, replaced, dropped, saved}
 use Rattle.memory.proofs.Sound.{sound}
 use Rattle.memory.proofs.Fittings.{words-length}

@@ -15,7 +15,7 @@ use Rattle.register.specs.Refusals.{deskRefusal, orNext}
 use Rattle.register.specs.Drafts.{openRefusal, putOwn, putRefusal, takeOwn, takeRefusal, saveOwn, saveRefusal}
 
 -- nothing refused of two: nothing of the first, nothing of the next
-pub both-pass : (first next : ℕ) → orNext first next ≡ 0 → (first ≡ 0) × (next ≡ 0)
+both-pass : (first next : ℕ) → orNext first next ≡ 0 → (first ≡ 0) × (next ≡ 0)
 both-pass first next z = go (eqb first 0) refl z
   where
     go : (t : Bool) → eqb first 0 ≡ t → _≡_ {A = ℕ} (cond t next first) 0 → (first ≡ 0) × (next ≡ 0)
@@ -144,7 +144,6 @@ module _ (m : List ℕ) (d : ℕ) where
 
   pub record SaveGoes : Type 0 where
     pub desk-passes : deskRefusal m d ≡ 0
-    pub current : edit m (draftHull m d) ≡ opening m d
     pub unspent : edit m (draftHull m d) ≡ mostEdits → ⊥
 
   pub save-goes : saveRefusal m d ≡ 0 → SaveGoes
@@ -155,6 +154,6 @@ module _ (m : List ℕ) (d : ℕ) where
       p = both-pass (deskRefusal m d) (saveOwn m d) z
 
       go : (t u : Bool) → eqb (edit m (draftHull m d)) (opening m d) ≡ t → eqb (edit m (draftHull m d)) mostEdits ≡ u → _≡_ {A = ℕ} (cond t (cond u 9 0) 8) 0 → SaveGoes
-      go true false e n y = record { desk-passes = p .0; current = eqb-true (edit m (draftHull m d)) (opening m d) e; unspent = eqb-false (edit m (draftHull m d)) mostEdits n }
+      go true false e n y = record { desk-passes = p .0; unspent = eqb-false (edit m (draftHull m d)) mostEdits n }
       go true true e n y = absurd (omega arith)
       go false u e n y = absurd (omega arith)

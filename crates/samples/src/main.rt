@@ -47,6 +47,7 @@ fn show(label: &[u8], form: &[u8], loads: &[u8]) {
     print(&page[..at]);
 }
 
+// Shows the printed sheet and then the cases, each under its label.
 fn main() {
     let remote = b"FORM\t4500\t4000\t1200\t500\t0\t1\n";
     let flat = b"FORM\t4500\t4000\t1200\t500\t1\t0\n";

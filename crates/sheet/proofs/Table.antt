@@ -4,7 +4,7 @@ use mathlib.Core.List.{List}
 use Prim.Native.Nat.{ℕ}
 use lib.ListN.{length}
 use Rattle.text.specs.Limit.{limitsOf}
-use Rattle.sheet.specs.Sheet.{limitRows, sheetLimits, limitsOn}
+use Rattle.sheet.specs.Sheet.{textWords, limitRows, sheetLimits, limitsOn}
 
 table-limits : limitsOf limitRows ≡ sheetLimits
 unfolding limitRows sheetLimits limitsOn
@@ -14,6 +14,6 @@ table-limits = refl
 pub rows-limits : {rows : List (List ℕ)} → rows ≡ limitRows → limitsOf rows ≡ sheetLimits
 rows-limits e = ap limitsOf e ∙ table-limits
 
-pub rows-long : {rows : List (List ℕ)} → rows ≡ limitRows → length rows ≡ 69
+pub rows-long : {rows : List (List ℕ)} → rows ≡ limitRows → length rows ≡ textWords
 unfolding limitRows sheetLimits limitsOn
 rows-long e = ap length e

@@ -2,7 +2,7 @@
 use mathlib.Core.Path.{_≡_, refl, sym, ap, _∙_}
 use mathlib.Core.Bool.{Bool, true, false}
 use mathlib.Core.List.{List, [], _∷_, _++_, append-nil}
-use Prim.Native.Nat.{ℕ, _+_, _-_, _≤_, _<_}
+use Prim.Native.Nat.{ℕ, _-_, _≤_, _<_}
 use native.Mathlib.Omega.{arith}
 use borrow.Author.Tests.{lt-ltb, le-ltb, ltb-true, ltb-false, eqb-true, eqb-false}
 use lib.Dec.{eqb, ltb}
@@ -75,7 +75,7 @@ pub rest-extent : (t : List ℕ) → extent (readRest t .ended) ≤ length t
 unfolding readRest
 rest-extent t = followed-extent (readFits fittings 1 t) readEnd t (fits-extent fittings 1 t) end-extent
 
-pub rest-count : (t : List ℕ) (k : ℕ) → readRest t .ended ≡ Taken k → length (readRest t .numbers) ≡ fittings
+rest-count : (t : List ℕ) (k : ℕ) → readRest t .ended ≡ Taken k → length (readRest t .numbers) ≡ fittings
 unfolding readRest
 rest-count t k e =
     let p = followed-parts (readFits fittings 1 t) readEnd t k e in

@@ -1,10 +1,8 @@
--- A sheet's words without its HULL number: they are within the limits of a sheet, and with a hull's number before them they are a sheet again. Assumes nothing.
+-- A sheet's words without its HULL number: they are within the limits of a sheet. Assumes nothing.
 use mathlib.Core.Path.{_≡_, refl, sym, _∙_}
 use mathlib.Core.Bool.{true, true≢false}
 use mathlib.Core.List.{List, [], _∷_}
-use Prim.Native.Nat.{ℕ, _≤_}
-use native.Mathlib.Omega.{arith}
-use borrow.Author.Tests.{le-leb}
+use Prim.Native.Nat.{ℕ}
 use lib.ListN.{drop}
 use Rattle.text.specs.Limit.{holds, ranging, allHold}
 use Rattle.text.proofs.Number.{both-hold}
@@ -19,7 +17,3 @@ pub words-of : (s : List ℕ) → sheetOk s ≡ true → wordsOk (drop 1 s) ≡ 
 unfolding sheetLimits limitsOn allHold
 words-of [] h = absurd (true≢false (sym h))
 words-of (n ∷ ns) h = hold-free (drop 1 sheetLimits) 0 n ns opens-words ∙ both-hold (holds (ranging 0 15) 0 n) (allHold (drop 1 sheetLimits) n ns) h .1
-
-pub words-under : (n : ℕ) (ns : List ℕ) → n ≤ 15 → wordsOk ns ≡ true → sheetOk (n ∷ ns) ≡ true
-unfolding sheetLimits limitsOn allHold
-words-under n ns h w = rw (le-leb 0 n (omega arith), le-leb n 15 h) (hold-free (drop 1 sheetLimits) n 0 ns opens-words ∙ w)

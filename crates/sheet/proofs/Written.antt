@@ -108,20 +108,19 @@ pub fit-some : (n w : ℕ) → (w ≡ 0 → ⊥) → fitText n w ≡ lineText (f
 unfolding fitText
 fit-some n w e = rw (ne-eqb w 0 e, fitText)
 
-pub fits-next : (ws : List ℕ) (i : ℕ) → i < length ws → fitsText (i + 1) (drop i ws) ≡ fitText (i + 1) (getD ws i 0) ++ fitsText (i + 1 + 1) (drop (i + 1) ws)
+fits-next : (ws : List ℕ) (i : ℕ) → i < length ws → fitsText (i + 1) (drop i ws) ≡ fitText (i + 1) (getD ws i 0) ++ fitsText (i + 1 + 1) (drop (i + 1) ws)
 unfolding fitsText
 fits-next ws i h = rw (drop-more ws i h, add-one (i + 1))
 
 -- i weights are passed, and their fittings are written up to the place `at`
 pub record FitState (ws o₀ o : List ℕ) (line i at : ℕ) : Type 0 where
   pub so : List ℕ
-  pub i-in : i ≤ length ws
   pub numbered : line ≡ i + 1
   pub laid : Laid so o₀ 0 at o
   pub so-far : fitsText 1 ws ≡ so ++ fitsText (i + 1) (drop i ws)
 
 pub fit-start : (ws o : List ℕ) → FitState ws o o 1 0 0
-fit-start ws o = record { so = []; i-in = omega arith; numbered = refl; laid = laid-none o 0; so-far = refl }
+fit-start ws o = record { so = []; numbered = refl; laid = laid-none o 0; so-far = refl }
 
 module _ {ws o₀ o : List ℕ} {line i at : ℕ} (p : FitState ws o₀ o line i at) where
   pub fit-done : length ws ≤ i → Laid (fitsText 1 ws) o₀ 0 at o
@@ -140,7 +139,6 @@ module _ {ws o₀ o : List ℕ} {line i at : ℕ} (p : FitState ws o₀ o line i
     fit-step q =
         record {
           so = p .so ++ fitText line (getD ws i 0);
-          i-in = omega arith;
           numbered = omega (arith, p .numbered);
           laid = laid-more (p .laid) q;
           so-far = p .so-far ∙ ap (λ (z : List ℕ). p .so ++ z) (fits-next ws i h) ∙ rw (p .numbered) (sym (append-assoc (p .so) (fitText (i + 1) (getD ws i 0)) (fitsText (i + 1 + 1) (drop (i + 1) ws))));

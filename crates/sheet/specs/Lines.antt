@@ -8,15 +8,15 @@ use Rattle.text.specs.Quoted.{bytes}
 use Rattle.text.specs.Limit.{Limit, ranging, rangingCapped, rangingOrNone}
 use Rattle.text.specs.Line.{Line}
 
-abbrev pub line : String → List Limit → Line
+abbrev line : String → List Limit → Line
 line tag limits = record { tag = bytes tag; limits = limits }
 
 -- length; reference length, not above length; transom width; transom height; flat bottom; remote steering
-abbrev pub formLimits : List Limit
+abbrev formLimits : List Limit
 formLimits = ranging 2000 6000 ∷ rangingCapped 2000 6000 ∷ ranging 500 3000 ∷ ranging 200 900 ∷ ranging 0 1 ∷ ranging 0 1 ∷ []
 
 -- B, then q r s t u v
-abbrev pub stationLimits : List Limit
+abbrev stationLimits : List Limit
 stationLimits = ranging 0 4000 ∷ replicate 6 (ranging 0 2500)
 
 -- the lines from HULL to SEAT

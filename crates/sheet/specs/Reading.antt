@@ -1,6 +1,6 @@
 -- 01, The sheet: reading it. Line after line from the top; FIT lines "until the line that must be END"; nothing after END's line feed.
 -- A line that begins as FIT does is judged as FIT while fewer than 24 are read, and as END after that, so that a 25th gives 2 at its tag. Assumes nothing: these are definitions.
-use Prim.Native.Nat.{ℕ, zero, suc, _+_, _-_}
+use Prim.Native.Nat.{ℕ, zero, suc, _-_}
 use mathlib.Core.Bool.{true, false, cond}
 use mathlib.Core.List.{List, [], _∷_, _++_}
 use lib.Dec.{ltb}

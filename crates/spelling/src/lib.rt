@@ -65,6 +65,7 @@ pub fn agreement(tag: &[u8], text: &[u8]) -> usize
     i
 }
 
+// The lesser of two lengths.
 fn shorter(a: usize, b: usize) -> usize
     ensures { λ r. ⌜ r ≡ min a b ⌝ }
 {
@@ -73,6 +74,7 @@ fn shorter(a: usize, b: usize) -> usize
 
 // ---- numbers
 
+// Whether b is a digit.
 fn is_digit(b: u8) -> bool
     ensures { λ r. ⌜ r ≡ isDigit b ⌝ }
 {
@@ -158,6 +160,7 @@ pub fn write_number(out: &mut [u8], n: u64) -> usize
 
 // ---- limits
 
+// Whether n is within a limit, where the number before it is `last`.
 fn is_within(l: Limit, last: u32, n: u64) -> bool
     ensures { λ r. ⌜ r ≡ within (limitOf l) last n ⌝ }
 {
@@ -190,6 +193,7 @@ fn is_none(l: Limit, n: u32) -> bool
     if rule == OR_NONE { n == 0 } else { false }
 }
 
+// Whether n may stand there: within the limit, or a 0 for none.
 fn may_stand(l: Limit, last: u32, n: u32) -> bool
     ensures { λ r. ⌜ r ≡ holds (limitOf l) last n ⌝ }
 {
@@ -304,6 +308,7 @@ fn store_number(out: &mut [u32], at: usize, n: u32)
     }
 }
 
+// Reads a number for each limit of the table from the start of text, stored in out as far as out goes.
 fn read_numbers(table: &[Limit], text: &[u8], out: &mut [u32]) -> LineRead
     ensures { λ r. ⌜ Reads (readNumbers (limitsOf (now (table .entry))) 0 (now (text .entry))) (now (out .entry)) r (now (out .exit)) ⌝ }
 {
@@ -369,6 +374,7 @@ fn write_entry(l: Limit, n: u32, out: &mut [u8], at: usize) -> usize
     at + write_number(&mut out[from..], n as u64)
 }
 
+// Writes numbers by the limits of the table, as far as there are both, from a place on, and answers the place after them.
 fn write_numbers(table: &[Limit], numbers: &[u32], out: &mut [u8], start: usize) -> usize
     requires { ⌜ start < 2 ^ 63 ⌝ }
     ensures { λ r. ⌜ Laid (numbersText (limitsOf (now (table .entry))) (now (numbers .entry))) (now (out .entry)) start r (now (out .exit)) ⌝ }

@@ -62,7 +62,7 @@ rest-place n i (b ∷ s) at v = go (isDigit b && leb n nineDigits) v (rest-place
     go true w ih = let h = ih w in omega arith
     go false w ih = let z : i ≡ at = cc in omega arith
 
-pub number-place : (f : List ℕ) (at : ℕ) → numberOf f ≡ Malformed at → at ≤ length f
+number-place : (f : List ℕ) (at : ℕ) → numberOf f ≡ Malformed at → at ≤ length f
 unfolding numberOf
 number-place [] at v = let z : 0 ≡ at = cc in omega arith
 number-place (b ∷ s) at v = go (isDigit b) (eqb b 48) v

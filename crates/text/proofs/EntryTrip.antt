@@ -71,7 +71,7 @@ field-digits-in (suc k) n r h = go (ltb n 10) refl (λ (m : 10 ≤ n). field-dig
         rw (digits-more n m, append-assoc (digitsOf (n / 10)) ((48 + n % 10) ∷ []) r, append-assoc (digitsOf (n / 10)) ((48 + n % 10) ∷ []) (fieldOf r))
         (ih m ∙ ap (λ (x : List ℕ). digitsOf (n / 10) ++ x) (one (48 + n % 10) r (omega arith)))
 
-pub field-digits : (n : ℕ) (r : List ℕ) → fieldOf (digitsOf n ++ r) ≡ digitsOf n ++ fieldOf r
+field-digits : (n : ℕ) (r : List ℕ) → fieldOf (digitsOf n ++ r) ≡ digitsOf n ++ fieldOf r
 field-digits n r = field-digits-in (suc n) n r (omega arith)
 
 no-dash-in : (k n : ℕ) (r : List ℕ) → n < k → begins dash (digitsOf n ++ r) ≡ false
@@ -133,9 +133,6 @@ judged-back : (r : NumberRead) (l : Limit) (last e : ℕ) (t : List ℕ) (n k : 
 judged-back (Malformed at) l last e t n k v w = let z : _≡_ {A = ℕ} 0 1 = cc in absurd (omega arith)
 judged-back (Value m) l last e t n k v w = go (begins e (drop (length (fieldOf t)) t)) refl (within l last m) refl w
   where
-    j : ℕ
-    j = length (fieldOf t)
-
     go : (u : Bool) → begins e (drop (length (fieldOf t)) t) ≡ u → (x : Bool) → within l last m ≡ x → cond u (cond x (Number m (length (fieldOf t) + 1)) (Misread 3 0)) (Misread 2 (length (fieldOf t))) ≡ Number n k → Back l last e t n k
     go true b true i q =
         let z : m ≡ n = cc in

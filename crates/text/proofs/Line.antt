@@ -42,7 +42,7 @@ entry-extent : (r : EntryRead) (rest : ℕ → List ℕ → Reading) (t : List �
 entry-extent (Misread number at) rest t h ih = h
 entry-extent (Number n k) rest t h ih = omega (arith, extent-shift k (rest n (drop k t) .ended), ih n (drop k t), length-drop k t)
 
-pub numbers-extent : (ls : List Limit) (last : ℕ) (t : List ℕ) → extent (readNumbers ls last t .ended) ≤ length t
+numbers-extent : (ls : List Limit) (last : ℕ) (t : List ℕ) → extent (readNumbers ls last t .ended) ≤ length t
 unfolding readNumbers
 numbers-extent [] last t = omega arith
 numbers-extent (l ∷ ls) last t = entry-extent (readEntry l last (ender ls) t) (readNumbers ls) t (entry-reach l last (ender ls) t) (numbers-extent ls)

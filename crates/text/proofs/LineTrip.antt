@@ -27,7 +27,7 @@ use Rattle.text.proofs.EntryTrip.{ender-ends, entry-back, entry-forth, 
 abbrev pub got : ℕ → List ℕ → Reading
 got k ns = record { ended = Taken k; numbers = ns }
 
-pub numbers-forth : (ls : List Limit) (last : ℕ) (ns rest : List ℕ) → narrow ls ≡ true → allHold ls last ns ≡ true
+numbers-forth : (ls : List Limit) (last : ℕ) (ns rest : List ℕ) → narrow ls ≡ true → allHold ls last ns ≡ true
     → readNumbers ls last (numbersText ls ns ++ rest) ≡ got (length (numbersText ls ns)) ns
 unfolding readNumbers numbersText allHold narrow
 numbers-forth [] last [] rest w h = refl
@@ -63,7 +63,7 @@ entered-back l ls last t (Number n j) k v ih e =
       held = rw (b .held, p .held);
     }
 
-pub numbers-back : (ls : List Limit) (last : ℕ) (t : List ℕ) (k : ℕ) → readNumbers ls last t .ended ≡ Taken k
+numbers-back : (ls : List Limit) (last : ℕ) (t : List ℕ) (k : ℕ) → readNumbers ls last t .ended ≡ Taken k
     → BackAll ls last (numbersText ls (readNumbers ls last t .numbers)) t k (readNumbers ls last t .numbers)
 unfolding readNumbers numbersText allHold
 numbers-back [] last t k e =

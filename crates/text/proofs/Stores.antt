@@ -43,11 +43,11 @@ sets-min l i xs = go (leb i (length l)) refl
         sets-out l (min i (length l)) xs (omega arith) ∙ sym (sets-out l i xs (omega arith))
 
 -- the stores into the part from n on, seen from the whole
-pub drop-sets : (l : List ℕ) (n i : ℕ) (xs : List ℕ) → drop n (sets l (n + i) xs) ≡ sets (drop n l) i xs
+drop-sets : (l : List ℕ) (n i : ℕ) (xs : List ℕ) → drop n (sets l (n + i) xs) ≡ sets (drop n l) i xs
 drop-sets l n i [] = refl
 drop-sets l n i (x ∷ xs) = rw (← add-suc n i) (drop-sets (set l (n + i) x) n (suc i) xs ∙ rw (drop-set-add n l i x))
 
-pub take-sets : (l : List ℕ) (n i : ℕ) (xs : List ℕ) → n ≤ i → take n (sets l i xs) ≡ take n l
+take-sets : (l : List ℕ) (n i : ℕ) (xs : List ℕ) → n ≤ i → take n (sets l i xs) ≡ take n l
 take-sets l n i [] h = refl
 take-sets l n i (x ∷ xs) h = take-sets (set l i x) n (suc i) xs (omega arith) ∙ take-set-le n l i x h
 

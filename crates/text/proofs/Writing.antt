@@ -18,7 +18,7 @@ use Rattle.text.proofs.Laid.{laid-none, laid-more, laid-byte}
 
 -- ---- one number
 
-pub length-entry-ten : (l : Limit) (n : ℕ) → n < elevenDigits → length (entryText l n) ≤ 10
+length-entry-ten : (l : Limit) (n : ℕ) → n < elevenDigits → length (entryText l n) ≤ 10
 length-entry-ten l n h = go (isNone l n)
   where
     go : (b : Bool) → length (cond b (dash ∷ []) (digitsOf n)) ≤ 10
@@ -46,7 +46,7 @@ numbers-end table ns k h = rw (limits-end table k h)
 pub numbers-out : (table : List (List ℕ)) (ns : List ℕ) (k : ℕ) → length ns ≤ k → numbersText (limitsOf (drop k table)) (drop k ns) ≡ []
 numbers-out table ns k h = rw (drop-of-length-le ns {i = k} h) (numbers-none (limitsOf (drop k table)))
 
-pub numbers-more : (table : List (List ℕ)) (ns : List ℕ) (k : ℕ) → k < length table → k < length ns
+numbers-more : (table : List (List ℕ)) (ns : List ℕ) (k : ℕ) → k < length table → k < length ns
     → numbersText (limitsOf (drop k table)) (drop k ns)
     ≡ entryText (limitAt table k) (getD ns k 0) ++ (cond (eqb (length table - k - 1) 0) feed tab ∷ numbersText (limitsOf (drop (k + 1) table)) (drop (k + 1) ns))
 unfolding numbersText

@@ -1,5 +1,4 @@
 -- `raised_watts` meets its contract. Assumes nothing.
-use Prim.Native.Nat.{_-_}
 use native.Mathlib.Nat.{mul-le-mul, le-trans, lt-of-le-of-lt, div-le-self}
 use lib.Dec.{lit<}
 use native.Mathlib.Omega.{arith}

@@ -77,11 +77,11 @@ returns-4 c =
     let at-hull-at = c .before .before .before in
     draft-early (start .args .mem .now) (start .args .desk) (at-draft-at .draft-at .ensures) (at-if1 .if1 .left) (at-if2 .if2 .left) (at-number-at .number-at .ensures) (at-number-at2 .number-at2 .ensures) (at-if3 .if3 .left) (at-hull-at .hull-at .ensures) (c .if4 .taken)
 
-add-sheet-ok : tie.Need-add-sheet-ok
-add-sheet-ok c = search needs
+add-words-at-ok : tie.Need-add-words-at-ok
+add-words-at-ok c = search needs
 
-sheet-ok-requires : tie.Need-sheet-ok-requires
-sheet-ok-requires c κs = search needs
+words-at-ok-requires : tie.Need-words-at-ok-requires
+words-at-ok-requires c κs = search needs
 
 returns-5 : tie.Need-returns-5
 returns-5 c =
@@ -93,7 +93,7 @@ returns-5 c =
     let at-number-at2 = c .before .before .before .before .before .before in
     let at-if3 = c .before .before .before .before .before in
     let at-hull-at = c .before .before .before .before in
-    draft-judged (start .args .mem .now) (start .args .desk) (at-draft-at .draft-at .ensures) (at-if1 .if1 .left) (at-if2 .if2 .left) (at-number-at .number-at .ensures) (at-number-at2 .number-at2 .ensures) (at-if3 .if3 .left) (at-hull-at .hull-at .ensures) (c .before .if4 .left) (c .sheet-ok .ensures)
+    draft-judged (start .args .mem .now) (start .args .desk) (at-draft-at .draft-at .ensures) (at-if1 .if1 .left) (at-if2 .if2 .left) (at-number-at .number-at .ensures) (at-number-at2 .number-at2 .ensures) (at-if3 .if3 .left) (at-hull-at .hull-at .ensures) (c .before .if4 .left) (c .words-at-ok .ensures)
 
 pub draft-ok-spec : {M : Type 1} → statement M
 draft-ok-spec =
@@ -117,6 +117,6 @@ draft-ok-spec =
     mul-if4-2
     shared-slice-read-if4-2
     returns-4
-    add-sheet-ok
-    sheet-ok-requires
+    add-words-at-ok
+    words-at-ok-requires
     returns-5)

@@ -13,17 +13,17 @@ mul-if1 c = search needs
 shared-slice-read-if1 : tie.Need-shared-slice-read-if1
 shared-slice-read-if1 c = search needs
 
-add-sheet-ok : tie.Need-add-sheet-ok
-add-sheet-ok c = search needs
+add-words-at-ok : tie.Need-add-words-at-ok
+add-words-at-ok c = search needs
 
-sheet-ok-requires : tie.Need-sheet-ok-requires
-sheet-ok-requires c κs = search needs
+words-at-ok-requires : tie.Need-words-at-ok-requires
+words-at-ok-requires c κs = search needs
 
 returns : tie.Need-returns
 returns c =
     let start = c .before .before .before .before .before in
     let at-hull-at = c .before .before .before in
-    hull-judged (start .args .mem .now) (start .args .hull) (at-hull-at .hull-at .ensures) (c .before .if1 .taken) (c .sheet-ok .ensures)
+    hull-judged (start .args .mem .now) (start .args .hull) (at-hull-at .hull-at .ensures) (c .before .if1 .taken) (c .words-at-ok .ensures)
 
 returns-2 : tie.Need-returns-2
 returns-2 c =
@@ -37,7 +37,7 @@ hull-ok-spec =
     hull-at-requires
     mul-if1
     shared-slice-read-if1
-    add-sheet-ok
-    sheet-ok-requires
+    add-words-at-ok
+    words-at-ok-requires
     returns
     returns-2)

@@ -1,5 +1,5 @@
 -- `is_formed` meets its contract. Assumes nothing.
-use mathlib.Core.Path.{refl, sym, _∙_}
+use mathlib.Core.Path.{sym, _∙_}
 use Rattle.judging.proofs.Checks.{formed-size, formed-many, formed-hulls, formed-judged}
 use native.Mathlib.Omega.{arith}
 use borrow.Author.Needs.{needs}

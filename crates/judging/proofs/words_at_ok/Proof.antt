@@ -1,12 +1,12 @@
--- `sheet_ok` meets its contract. Assumes nothing.
+-- `words_at_ok` meets its contract. Assumes nothing.
 use mathlib.Core.Path.{ap, _∙_}
 use Prim.Native.Nat.{ℕ}
 use native.Mathlib.Nat.{add-sub-cancel-left}
 use Rattle.sheet.specs.Sheet.{sheetWords, wordsOk}
 use Rattle.memory.specs.Layout.{part}
 use borrow.Author.Needs.{needs}
-use Rattle.judging.proofs.sheet_ok.Statement.{statement}
-use Rattle.judging.proofs.sheet_ok.Tie as tie
+use Rattle.judging.proofs.words_at_ok.Statement.{statement}
+use Rattle.judging.proofs.words_at_ok.Tie as tie
 
 add-end : tie.Need-add-end
 add-end c = search needs
@@ -31,8 +31,8 @@ returns c =
     let start = c .before .before .before in
     c .words-ok .ensures ∙ ap (λ (n : ℕ). wordsOk (part (start .args .mem .now) (start .args .at) n)) (add-sub-cancel-left (start .args .at) sheetWords)
 
-pub sheet-ok-spec : {M : Type 1} → statement M
-sheet-ok-spec =
+pub words-at-ok-spec : {M : Type 1} → statement M
+words-at-ok-spec =
     tie.close
     (tie.spec
     add-end
