@@ -59,7 +59,7 @@ extern "C" {
 /* Why a call was refused. */
 typedef enum wb_refusal {
     WB_ACCEPTED = 0,
-    WB_BAD_MEMORY = 1,      /* the register's memory has the wrong size, or holds something outside the limits */
+    WB_BAD_MEMORY = 1,      /* the register's memory is not WB_REGISTER_WORDS long, or a number in it is not one that a register has */
     WB_BROKEN_LINE = 2,     /* a text breaks the line rules */
     WB_OUTSIDE_LIMITS = 3,  /* a number is outside its limits */
     WB_FULL = 4,            /* sixteen hulls are entered */
@@ -68,14 +68,14 @@ typedef enum wb_refusal {
     WB_NO_DRAFT = 7,        /* the desk holds no draft */
     WB_EDITED_SINCE = 8,    /* the hull has been saved since the draft was opened */
     WB_EDITS_SPENT = 9,     /* the hull's edit number is 65,535 */
-    WB_BAD_ROWS = 10,       /* engine slices unequal, empty, over 40 rows, not rising, or a value out of limits */
+    WB_BAD_ROWS = 10,       /* engine rows: none, more than 40, slices of two lengths, powers that do not rise, or a number outside its limits */
     WB_NO_ROW = 11,         /* no engine row reaches the declared power */
     WB_NO_LOAD = 12,        /* the marked load would be below 1 */
-    WB_NO_POWER = 13,       /* an outboard with a flat bottom in the first power row */
+    WB_NO_POWER = 13,       /* a flat-bottomed outboard too small for the power table */
     WB_UNTESTED = 14,       /* tested persons are wanted and missing */
     WB_NO_PERSONS = 15,     /* persons would be below 1 */
-    WB_NO_ROOM = 16,        /* the lent output is shorter than the text, or either of two than the rows */
-    WB_EMPTY_LINE = 17      /* taking off a fitting line that is empty */
+    WB_NO_ROOM = 16,        /* what is lent to write to is too short */
+    WB_EMPTY_LINE = 17      /* there is no fitting on that line */
 } wb_refusal;
 
 /*
@@ -94,7 +94,7 @@ typedef struct wb_station {
     uint32_t b, q, r, s, t, u, v;
 } wb_station;
 
-/* A sheet: its 69 numbers in the order of its text. Lengths are millimetres, weights grams, volumes cubic centimetres, power watts. */
+/* A sheet: its 69 numbers in the order of its text. In millimetres, grams, cubic centimetres and watts. */
 typedef struct wb_sheet {
     uint32_t hull;               /* 0..15 */
     uint32_t length;             /* 2000..6000 */
@@ -113,7 +113,7 @@ typedef struct wb_sheet {
     uint32_t outboard;           /* 0..1; 1: outboard, 0: inboard or stern-drive */
     uint32_t declared;           /* declared power, 0..200000 */
     uint32_t positions;          /* designated positions, 1..24 */
-    uint32_t tested;             /* persons passed by stability tests, 1..24, or 0 if not tested */
+    uint32_t tested;             /* persons for which it was tested, 1..24, or 0 for none */
     uint32_t fitting[WB_FITTINGS]; /* the weight on line i + 1, 1..500000, or 0 if the line is empty */
 } wb_sheet;
 
@@ -179,7 +179,7 @@ wb_answer wb_trial_c(const uint32_t *mem, size_t mem_len, uint32_t desk, const u
                      size_t weights_len);
 
 /*
- * Saves the desk's draft as its hull's sheet, even if nothing differs, and ends the draft. A refused save keeps it. The other hulls and the other
+ * Saves the desk's draft as its hull's sheet, even if nothing differs, and ends the draft; refused, it leaves the draft. The other hulls and the other
  * drafts are left alone, those of the same hull too: their saves are then refused with 8.
  * Answers: first is the hull's edit number, which is one more than before. Refuses: 1, 6, 7; 8, then 9.
  */

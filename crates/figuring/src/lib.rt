@@ -252,7 +252,7 @@ fn rows_right(powers: &[u32], weights: &[u32]) -> bool
     rows_rise(powers, weights)
 }
 
-// The place of the first row whose power is not below the one given, past the rows where there is none.
+// The place of the first row that reaches the power given; past the rows where none does.
 fn row_for(power: u32, powers: &[u32]) -> usize
     ensures { λ r. ⌜ r ≡ rowFor power (now (powers .entry)) ⌝ }
 {

@@ -1,5 +1,5 @@
--- 01, Refusal 1: "register memory has the wrong size, or holds something outside the stated limits (counts, sheets, a draft's hull not entered, an opening number
--- above the hull's)". What stands in the slots of hulls not entered and of desks without a draft is free. Assumes nothing: these are definitions.
+-- 01, Refusal 1: a memory that is well formed is not refused with it. Its size and every number in it that is in use are judged; what stands in the slots of hulls
+-- not entered and of desks without a draft is free. Assumes nothing: these are definitions.
 use Prim.Native.Nat.{ℕ, zero, suc}
 use mathlib.Core.Bool.{Bool, true, _&&_, _||_}
 use mathlib.Core.List.{List}

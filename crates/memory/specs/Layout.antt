@@ -1,5 +1,5 @@
--- 01, What the office does: "A register holds up to 16 hulls .. Each hull has a sheet and an edit number. Each of eight desks may hold one draft: a hull number,
--- the edit number at opening, and a copy of the sheet." Where they stand among the words of the lent memory (docs/REGISTER.md). Assumes nothing: these are definitions.
+-- 01, What the office does: sixteen hulls at most and eight desks, each with a draft or none. What a slot of each has, and where it stands among the words of the
+-- lent memory (docs/REGISTER.md). Assumes nothing: these are definitions.
 use Prim.Native.Nat.{ℕ, _+_, _*_}
 use mathlib.Core.List.{List}
 use lib.ListN.{getD, take, drop}

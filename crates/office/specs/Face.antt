@@ -1,5 +1,4 @@
--- 01, Where each language form belongs: "For an answer that is an enum, a definition gives this paper's number and values for each of its cases. The promises use
--- this definition." A refusal is its number and no figures; an accepted call has refusal 0 and its figures, those that it does not use 0. Assumes nothing: these are definitions.
+-- 01, Where each language form belongs, on answers that are enums: the numbers that each case stands for, as the promises cite them. A refusal is its number and no figures; an accepted call has refusal 0 and its figures, those that it does not use 0. Assumes nothing: these are definitions.
 use Rattle.sheet.specs.declared.Answer.{Answer}
 use Rattle.sheet.specs.declared.Answer.the-variants.{Refused, Done, Count, Plate}
 use Rattle.office.specs.declared.WbAnswer.{WbAnswer}

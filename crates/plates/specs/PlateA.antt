@@ -1,4 +1,4 @@
--- 01, Plate A (003, A2, A3, 2.6.1). The marked load is the nearest whole number, a half upward; the refusals are 12 and then 13. Assumes nothing: these are definitions.
+-- 01, Plate A (003, A2, A3, 2.6.1). Load first, then power, then the two refusals, 12 before 13. Assumes nothing: these are definitions.
 use Prim.Native.Nat.{ℕ, _+_, _-_, _*_}
 use mathlib.Core.Bool.{Bool, _&&_, cond}
 use mathlib.Core.List.{List}
@@ -50,7 +50,7 @@ unfoldable pub beforeWatts : ℕ → ℕ
 beforeWatts p =
     cond (leb p firstRow) 0 (cond (leb p 3300000) 1500 (cond (leb p 3600000) 3000 (cond (leb p 3900000) 4000 (cond (leb p 4200000) 5250 7500))))
 
--- raised to the next multiple of 5000, leaving an exact multiple: a / d watts
+-- a / d watts, up to a multiple of 5000; what is one already stays
 abbrev pub raised : ℕ → ℕ → ℕ
 raised a d = 5000 * ceilDiv a (5000 * d)
 
@@ -61,14 +61,14 @@ formulaWatts s =
     cond (eqb (remote s) 1 && leb 500 (transomHeight s)) (raised (16 * p - 67000000) 1000)
     (cond (eqb (flat s) 1) (raised (4 * p - 11000000) 1000) (raised (13 * p - 40000000) 2000))
 
--- a flat hard-chine bottom with P below 5000000 takes the row before
+-- below the end of the table a flat bottom is marked by the row before its own
 unfoldable pub powerA : List ℕ → ℕ
 powerA s =
     cond (eqb (outboard s) 0) 0
     (cond (ltb tableEnd (factorP s)) (formulaWatts s)
     (cond (eqb (flat s) 1 && ltb (factorP s) tableEnd) (beforeWatts (factorP s)) (rowWatts (factorP s))))
 
--- an outboard with a flat bottom in the first row has no power
+-- a flat outboard that P puts in the first row can be given no power
 abbrev pub noPower : List ℕ → Bool
 noPower s = eqb (outboard s) 1 && (eqb (flat s) 1 && leb (factorP s) firstRow)
 

@@ -1,4 +1,4 @@
--- 01, Plate C (002, 4.3.1 and 4.3.2). Marked load, live load and persons are total; the refusals stand apart, in 01's order: 10, 12, 11, 14, 15.
+-- 01, Plate C (002, 4.3.1 and 4.3.2). Every figure is defined for every sheet; what is refused is judged after, in 01's order: 10, 12, 11, 14, 15.
 -- Engine rows come as two lists of numbers, powers and weights. Assumes nothing: these are definitions.
 use Prim.Native.Nat.{ℕ, suc, _+_, _*_}
 use mathlib.Core.Bool.{Bool, true, false, not, _&&_, cond}
@@ -53,7 +53,7 @@ rowsRight ps ws = eqb (length ps) (length ws) && (leb leastRows (length ps) && (
 abbrev pub wantsRow : List ℕ → Bool
 wantsRow s = eqb (outboard s) 1 && ltb 0 (declared s)
 
--- the place of the first row whose power is not below the declared power; past the rows where there is none
+-- the place of the first row that reaches a power; past the rows where none does
 unfoldable pub rowFor : ℕ → List ℕ → ℕ
 rowFor power [] = 0
 rowFor power (p ∷ ps) = elim (leb power p) [ true ↦ 0 | false ↦ suc (rowFor power ps) ]

@@ -1,5 +1,4 @@
--- 01, Volume and weights: "For a station, its product is B × (q + 4r + 2s + 4t + 2u + 2v)"; "N = reference length × (4Q + 2R + 4S + T)";
--- "Z = N + 180000 × (aft − well − flooding)". Nothing is rounded. Assumes nothing: these are definitions.
+-- 01, Volume and weights: the product of each station, N of the four, and Z, which has aft structure, motor well and flooding chambers too. Nothing is rounded. Assumes nothing: these are definitions.
 use Prim.Native.Nat.{ℕ, _+_, _*_}
 use mathlib.Core.List.{List}
 use lib.ListN.{getD}

@@ -4,7 +4,7 @@ use mathlib.Core.Bool.{Bool, true, cond}
 use lib.Dec.{leb, ltb}
 use lib.IntN.{ℤ, pos, negsuc}
 
--- the largest whole number not above z / d: of -(n + 1) that is -(n / d + 1)
+-- z / d, down to a whole number; negsuc n is one below -n, and so is its quotient
 abbrev pub floorDiv : ℤ → ℕ → ℤ
 floorDiv (pos n) d = pos (n / d)
 floorDiv (negsuc n) d = negsuc (n / d)

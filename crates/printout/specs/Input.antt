@@ -1,5 +1,5 @@
--- 01, Sample sheets: the program's input is a sheet, "through the first END line (`END` and a line feed, nothing else), or to the end if there is none", and then
--- engine lines. "More than 8,192 bytes are INPUT 2, before anything is judged." Assumes nothing: these are definitions.
+-- 01, Sample sheets, on the program's input: a sheet and then engine lines. The sheet goes as far as the first line that is END alone, or all the way. No input has
+-- more than 8,192 bytes. Assumes nothing: these are definitions.
 use Prim.Native.Nat.{ℕ, suc}
 use mathlib.Core.Bool.{Bool, true, false, _&&_}
 use mathlib.Core.List.{List, [], _∷_}

@@ -1,5 +1,5 @@
--- 01, Sample sheets: "It prints plate A, load in kilograms, power in watts; then plate C, load, persons. A refused plate prints REFUSED, its letter, its
--- number. A faulty input prints one line, INPUT and its number: the sheet is judged first". Fields are parted by a tab, each line is ended by a line feed.
+-- 01, Sample sheets, on what the program prints: a line for plate A and one for plate C, or one line for an input at fault, of the sheet before the engine rows.
+-- As in a sheet, tabs part the fields and a line feed ends the line.
 -- Assumes nothing: these are definitions.
 use Prim.Native.Nat.{ℕ}
 use mathlib.Core.Bool.{cond}

@@ -1,4 +1,4 @@
--- 01, Calls on the register: open; put and take off a fitting; replace the draft's sheet; trial plates; save; drop. Assumes nothing: these are definitions.
+-- 01, Calls on the register, those of a desk: it opens a hull, works on the draft, tries its plates, saves or drops it. Assumes nothing: these are definitions.
 use Prim.Native.Nat.{ℕ, _+_}
 use mathlib.Core.Bool.{_&&_, cond}
 use mathlib.Core.List.{List}

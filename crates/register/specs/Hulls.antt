@@ -1,4 +1,4 @@
--- 01, Calls on the register: fresh start; new hull from text; plate A and C of a hull; write a hull's sheet. Assumes nothing: these are definitions.
+-- 01, Calls on the register, those that name a hull or none: fresh start, a new hull, its plates, its text. Assumes nothing: these are definitions.
 use Prim.Native.Nat.{ℕ}
 use mathlib.Core.Bool.{cond}
 use mathlib.Core.List.{List, _∷_}
@@ -14,7 +14,7 @@ use Rattle.memory.specs.Formed.{formed}
 use Rattle.memory.specs.Updates.{freshWords, entered}
 use Rattle.register.specs.Refusals.{hullRefusal, orRefused, orKept, sheetOf, onText}
 
--- ---- fresh start: "refuses only a wrong size"
+-- ---- fresh start: 1 for a wrong size, whatever the words are
 
 abbrev pub freshRefusal : List ℕ → ℕ
 freshRefusal m = cond (eqb (length m) registerWords) 0 1

@@ -1,4 +1,5 @@
--- 01, Refusal numbers: "Checks run: 1, 6, 5, 7, then the call's own." A refusal is its number, and 0 stands for none. A refused call changes nothing.
+-- 01, Refusal numbers, the order of the checks: the memory, the desk, the hull, the draft, and then what only this call asks. A refusal is its number, and 0 stands for
+-- none. A refused call changes nothing.
 -- Assumes nothing: these are definitions.
 use Prim.Native.Nat.{ℕ}
 use mathlib.Core.Bool.{cond}

@@ -1,4 +1,4 @@
--- 01, The sheet: "Engine rows come as text lines ENG, power, weight, 1 to 40 of them (none or more gives 2)", to the text's last byte. Assumes nothing: these are definitions.
+-- 01, The sheet, on engine rows: ENG lines up to the last byte of a text of their own, one at least and forty at most. Assumes nothing: these are definitions.
 use Prim.Native.Nat.{ℕ, zero, suc}
 use mathlib.Core.Bool.{Bool, true, false, _&&_, cond}
 use mathlib.Core.List.{List, [], _∷_, _++_}

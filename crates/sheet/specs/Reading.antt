@@ -1,4 +1,4 @@
--- 01, The sheet: reading it. Line after line from the top; FIT lines "until the line that must be END"; nothing after END's line feed.
+-- 01, The sheet: reading it. Line after line from the top; FIT lines as long as they come, then END, then nothing.
 -- A line that begins as FIT does is judged as FIT while fewer than 24 are read, and as END after that, so that a 25th gives 2 at its tag. Assumes nothing: these are definitions.
 use Prim.Native.Nat.{ℕ, zero, suc, _-_}
 use mathlib.Core.Bool.{true, false, cond}

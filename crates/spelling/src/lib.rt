@@ -24,7 +24,7 @@ use text::PLAIN;
 // The most digits that a number has.
 const MOST_DIGITS: usize = 10;
 
-// The part of text before its first tab or line feed, or all of it: the caller's own bytes.
+// The first field of text: up to a tab, a line feed or the end, and still the caller's own bytes.
 pub fn find_field(text: &[u8]) -> &[u8]
     ensures { λ r. ⌜ now r ≡ fieldOf (now (text .entry)) ⌝ }
 {

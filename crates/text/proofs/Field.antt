@@ -41,7 +41,7 @@ pub field-more : (b : ℕ) (t : List ℕ) → (eqb b tab || eqb b feed) ≡ fals
 unfolding fieldOf
 field-more b t e = rw (e, fieldOf)
 
--- the field is what was passed and the field of what is left
+-- a field goes on with the field of the rest
 abbrev pub Walked : List ℕ → ℕ → Type 0
 Walked t i = fieldOf t ≡ take i t ++ fieldOf (drop i t)
 

@@ -1,4 +1,4 @@
--- What is written reads back, and what is read is what would be written: numbers, and a line, of any form. Assumes nothing.
+-- From numbers to a line's text and back, and from a text that reads to its numbers and back, whatever the form of the line. Assumes nothing.
 use mathlib.Core.Path.{_≡_, refl, sym, _∙_}
 use mathlib.Core.Bool.{Bool, true, false, true≢false}
 use mathlib.Core.List.{List, [], _∷_, _++_, append-assoc}
@@ -73,7 +73,7 @@ numbers-back (l ∷ ls) last t k e = entered-back l ls last t (readEntry l last 
 
 -- ---- a line
 
--- for every form, what is written reads back
+-- of every form: the text of numbers gives those numbers
 pub line-forth : (l : Line) (ns rest : List ℕ) → narrow (l .limits) ≡ true → allHold (l .limits) 0 ns ≡ true → readLine l (lineText l ns ++ rest) ≡ got (length (lineText l ns)) ns
 line-forth l ns rest w h =
     let x : List ℕ = numbersText (l .limits) ns in

@@ -94,7 +94,7 @@ in-more : (k n : ℕ) → 10 ≤ n → digitsIn (suc k) n ≡ digitsIn k (n / 10
 unfolding digitsIn
 in-more k n h = rw (le-ltb n 10 h, digitsIn)
 
--- any bound above n gives the same digits
+-- how many digits there may be does not matter, if they are enough
 in-enough : (k j n : ℕ) → n < k → n < j → digitsIn k n ≡ digitsIn j n
 in-enough zero j n h l = absurd (omega arith)
 in-enough (suc k) zero n h l = absurd (omega arith)

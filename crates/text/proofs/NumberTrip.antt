@@ -20,7 +20,7 @@ value-past : (t : Bool) (r : NumberRead) (at m : ℕ) → (elim t [ true ↦ r |
 value-past true r at m e = (refl, e)
 value-past false r at m e = let z : _≡_ {A = ℕ} 0 1 = cc in absurd (omega arith)
 
--- digits read after n are those that stand after n's
+-- after the digits of n come those that the rest gives
 rest-back : (n i : ℕ) (s : List ℕ) (m : ℕ) → 0 < n → restOf n i s ≡ Value m → digitsOf n ++ s ≡ digitsOf m
 unfolding restOf
 rest-back n i [] m h e =
@@ -56,7 +56,7 @@ read-writes (b ∷ s) n e = go (eqb b 48) refl (value-past (isDigit b) _ 0 n e)
         let d : 48 + (b - 48) ≡ b = omega arith in
         rw (digits-small (b - 48) (omega arith), d) at (rest-back (b - 48) 1 s n (omega arith) (rw w at (p .1)))
 
--- ---- what is written reads back, whatever stands after it
+-- ---- the digits of a number give the number, with anything after them
 
 rest-forth : (k n : ℕ) (s : List ℕ) → n < k → 0 < n → n < elevenDigits → numberOf (digitsOf n ++ s) ≡ restOf n (length (digitsOf n)) s
 unfolding numberOf restOf

@@ -1,11 +1,11 @@
--- 01, The sheet: "fields parted by one tab, each line ended by one line feed". What a field is, and how a text begins. Assumes nothing: these are definitions.
+-- 01, The sheet, how fields and lines are parted: what a field is, and how a text begins. Assumes nothing: these are definitions.
 use Prim.Native.Nat.{ℕ, suc}
 use mathlib.Core.Bool.{Bool, true, false, _||_}
 use mathlib.Core.List.{List, [], _∷_}
 use lib.Dec.{eqb}
 use Rattle.text.specs.Quoted.{tab, feed}
 
--- the bytes before the first tab or line feed
+-- all bytes up to a tab or a line feed
 unfoldable pub fieldOf : List ℕ → List ℕ
 fieldOf [] = []
 fieldOf (b ∷ t) = elim (eqb b tab || eqb b feed) [ true ↦ [] | false ↦ b ∷ fieldOf t ]

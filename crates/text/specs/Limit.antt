@@ -1,5 +1,5 @@
--- 01, The sheet: the limits of a number, as the table gives them: "low..high", "not above" the number before it, or "`-`" where there is none.
--- The reader, the writer and the register's check go by these alone. Assumes nothing: these are definitions.
+-- 01, The sheet, the table's limits of a number: a low and a high end; for some, that it is not above the number before; for some, that there may be none, written `-`.
+-- Whatever reads, writes or checks a number goes by these alone. Assumes nothing: these are definitions.
 use Prim.Native.Nat.{ℕ}
 use mathlib.Core.Bool.{Bool, true, false, _&&_, _||_, cond}
 use mathlib.Core.List.{List, [], _∷_, map}

@@ -1,6 +1,6 @@
 -- 01, The sheet: one record a line. A line is its literal bytes and then numbers, each ended by a tab but the last, which is ended by the line feed.
--- "At a number, form, with the tab or line feed that must end it, is judged before limits": 2 for the form, then 3 for the limits.
--- A refusal carries its place beside its number: of the first byte at fault, or for a limit of the field's first byte; 01 wants the number alone.
+-- Of each number the form comes first, the byte after it included, and the limits second: 2, then 3.
+-- Beside its number a refusal has a place, that of the first faulty byte, and where a limit is broken the start of the number; 01 wants the number alone.
 -- Assumes nothing: these are definitions.
 use Prim.Native.Nat.{ℕ, _+_}
 use mathlib.Core.Path.{_≡_}

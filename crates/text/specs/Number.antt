@@ -1,4 +1,4 @@
--- 01, The sheet: "A number is 1 to 10 decimal digits without a leading zero, except `0` itself, written with the highest digit first."
+-- 01, The sheet, on numbers: ten digits at most, the highest first, and no `0` in front of another digit.
 -- A field that is no number has a first byte at fault: the first that no number could have at its place, or the field's end where it stops too early.
 -- Assumes nothing: these are definitions.
 use Prim.Native.Nat.{ℕ, zero, suc, _+_, _-_, _*_, _/_, _%_}
