@@ -4,6 +4,7 @@ use Prim.Native.Nat.{ℕ, _≤_, _<_}
 use native.Mathlib.Omega.{arith}
 use native.Mathlib.Nat.{le-refl}
 use mathlib.Core.Path.{_≡_, refl, sym, ap, _∙_}
+use mathlib.Core.Bool.{and-false}
 use mathlib.Core.List.{List, [], _∷_, map}
 use mathlib.Core.Option.{Option, none, some}
 use lib.Dec.{eqb}
@@ -13,7 +14,7 @@ use Rattle.history.specs.Calls.{Work, Call, openHull, work, save, Reply,
 use Rattle.history.specs.Runs.{Event, _⇒_, call}
 use Rattle.history.specs.History.{block, role}
 use Rattle.history.specs.Told.{Opening, opening, isSaveOf, savesOf, redo}
-use Rattle.history.proofs.Tools.{at-or, self, refused, none≢some, some-inj}
+use Rattle.history.proofs.Tools.{at-or, self, none≢some, some-inj}
 use Rattle.history.proofs.Model.{Draft, State, workSays, but, store, opens, edited, fresh, stateOf, eventsOf}
 use Rattle.history.proofs.Rules.{Steps, enters, unread, full, opened, unknown, open-high, works, work-idle, work-high, saves, spent, stale, save-idle, save-high, drops, drop-idle, drop-high, asks, unasked, each}
 use Rattle.history.proofs.Replay.{Drafts, drafts, high-none}
@@ -114,8 +115,8 @@ tells-step s past w (unread n at p e) z f = same _ f (λ h. refl) (λ d. refl)
 tells-step s past w (full p) z f = same _ f (λ h. refl) (λ d. refl)
 tells-step s past w (opened {d = g} {h} p q) z f =
     record { edits = f .edits; drafts = at-or g _ (rw (self, block, opening) (drawn-opened s past g h (says (Count (s .register .hull h .edits))) w (f .edits h))) (λ d n. rw (n, block, opening) (f .drafts d)); unentered = f .unentered }
-tells-step s past w (unknown {d = g} p q) z f = same _ f (λ h. refl) (λ d. rw (refused (eqb d g), block, opening))
-tells-step s past w (open-high {d = g} p) z f = same _ f (λ h. refl) (λ d. rw (refused (eqb d g), block, opening))
+tells-step s past w (unknown {d = g} p q) z f = same _ f (λ h. refl) (λ d. rw (and-false (eqb d g), block, opening))
+tells-step s past w (open-high {d = g} p) z f = same _ f (λ h. refl) (λ d. rw (and-false (eqb d g), block, opening))
 tells-step s past w (works {d = g} {w = x} y p q) z f =
     record {
       edits = f .edits;
@@ -130,8 +131,8 @@ tells-step s past w (stale {d = g} y p q u) z f = unsaved g 8 f
 tells-step s past w (save-idle {d = g} p q) z f = unsaved g 7 f
 tells-step s past w (save-high {d = g} p) z f = unsaved g 6 f
 tells-step s past w (drops {d = g} y p q) z f = record { edits = f .edits; drafts = at-or g _ (rw (self, block, opening)) (λ d n. rw (n, block, opening) (f .drafts d)); unentered = f .unentered }
-tells-step s past w (drop-idle {d = g} p q) z f = same _ f (λ h. refl) (λ d. rw (refused (eqb d g), block, opening))
-tells-step s past w (drop-high {d = g} p) z f = same _ f (λ h. refl) (λ d. rw (refused (eqb d g), block, opening))
+tells-step s past w (drop-idle {d = g} p q) z f = same _ f (λ h. refl) (λ d. rw (and-false (eqb d g), block, opening))
+tells-step s past w (drop-high {d = g} p) z f = same _ f (λ h. refl) (λ d. rw (and-false (eqb d g), block, opening))
 tells-step s past w (asks p) z f = same _ f (λ h. refl) (λ d. refl)
 tells-step s past w (unasked p) z f = same _ f (λ h. refl) (λ d. refl)
 

@@ -4,7 +4,7 @@ use Prim.Native.Nat.{ℕ, _≤_, _<_}
 use native.Mathlib.Omega.{arith}
 use native.Mathlib.Nat.{le-refl}
 use mathlib.Core.Path.{_≡_, refl, sym, ap, _∙_}
-use mathlib.Core.Bool.{true}
+use mathlib.Core.Bool.{true, and-false}
 use mathlib.Core.List.{List, [], _∷_, _++_, map}
 use mathlib.Core.Option.{Option, none, some}
 use mathlib.Core.Logic.{inl, inr}
@@ -17,7 +17,7 @@ use Rattle.memory.proofs.Same.{same-or-not}
 use Rattle.history.specs.Calls.{Work, Call, openHull, work, Reply, says}
 use Rattle.history.specs.Runs.{Event, _⇒_, call}
 use Rattle.history.specs.History.{block, role}
-use Rattle.history.proofs.Tools.{at-or, self, refused, none≢some, some-inj}
+use Rattle.history.proofs.Tools.{at-or, self, none≢some, some-inj}
 use Rattle.history.proofs.Blocks.{saveless}
 use Rattle.history.proofs.Model.{Draft, Register, State, Outcome, workSays, store, opens, edited, fresh, stateOf, eventsOf}
 use Rattle.history.proofs.Rules.{Steps, enters, unread, full, opened, unknown, open-high, works, work-idle, work-high, saves, spent, stale, save-idle, save-high, drops, drop-idle, drop-high, asks, unasked, sound, each}
@@ -100,8 +100,8 @@ ready-step s past (unread n at p e) f = f
 ready-step s past (full p) f = f
 ready-step s past (opened {d = g} {h} p q) f =
     at-or g _ (λ x e. let u : opens (s .register) h ≡ x = some-inj (rw self at e) in rw (self, block, ← u) (opened-ready (s .register) g h p q)) (λ d n x e. rw (n, block) (f d x (rw n at e)))
-ready-step s past (unknown {d = g} p q) f = λ d x e. rw (refused (eqb d g), block) (f d x e)
-ready-step s past (open-high {d = g} p) f = λ d x e. rw (refused (eqb d g), block) (f d x e)
+ready-step s past (unknown {d = g} p q) f = λ d x e. rw (and-false (eqb d g), block) (f d x e)
+ready-step s past (open-high {d = g} p) f = λ d x e. rw (and-false (eqb d g), block) (f d x e)
 ready-step s past (works {d = g} {w} y p q) f =
     at-or g _ (λ x e. let u : edited w y ≡ x = some-inj (rw self at e) in rw (self, block, ← u) (worked-ready w (f g y q))) (λ d n x e. rw (n, block) (f d x (rw n at e)))
 ready-step s past (work-idle {d = g} p q) f = at-or g _ (λ x e. absurd (none≢some (sym q ∙ e))) (λ d n x e. rw (n, block) (f d x e))

@@ -65,7 +65,7 @@ saves-runs {R} {es} {d} {x} {b} r u l g =
       register = rw (calls-append b es, state-by (map call b ++ cs) rule, same);
     }
 
--- ---- every rule
+-- ---- every rule. What is asked of a hull changes no register, so the list would run so without it too.
 
 serial-step : (s : State) (past : List Event) {c : Call} {t : State} {r : Reply} → Steps s c t r → Drafts s past → RunsTo (s .register) (serial past) → RunsTo (t .register) (serial ((c ⇒ r) ∷ past))
 unfolding serial spot
@@ -86,8 +86,8 @@ serial-step s past (save-high p) f g = g
 serial-step s past (drops y p q) f g = g
 serial-step s past (drop-idle p q) f g = g
 serial-step s past (drop-high p) f g = g
-serial-step s past (asks {h} {q} p) f g = asks-runs g h q p
-serial-step s past (unasked {h} {q} p) f g = unasked-runs g h q p
+serial-step s past (asks {h} {q} p) f g = search (g, asks-runs g h q p)
+serial-step s past (unasked {h} {q} p) f g = search (g, unasked-runs g h q p)
 
 -- run from fresh, the serial list gives the same hulls and edit numbers, and the replies that its calls had
 pub serial-runs : (cs : List Call) → RunsTo (stateOf cs .register) (serial (eventsOf cs))

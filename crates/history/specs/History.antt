@@ -23,13 +23,13 @@ role d (save e ⇒ r) = cond (eqb d e) (cond (accepted r) itsEnd itsCall) elsewh
 role d (drop e ⇒ r) = cond (eqb d e && accepted r) itsEnd elsewhere
 role d (ask h q ⇒ r) = elsewhere
 
--- the open and the calls of desk d's draft. (A desk that holds none has here the calls that were refused for want of one. Its next draft's block ends at its own open,
--- so no save takes them.)
+-- the open of desk d's draft and the calls on it. (Of a desk that holds none it is the work and the saves that were refused since its last. The block of its next
+-- draft goes back to that draft's open and no further, so none of them is ever taken.)
 unfoldable pub block : ℕ → List Event → List Event
 block d [] = []
 block d (e ∷ past) = elim (role d e) [ itsOpen ↦ e ∷ [] | itsCall ↦ e ∷ block d past | itsEnd ↦ [] | elsewhere ↦ block d past ]
 
--- where an event stands in the serial list: where it was, by itself; where it was, with the block of desk d before it; or nowhere, but perhaps in a block
+-- where an event stands in the serial list: at its own place, alone; at its own place, after the block of a desk's draft; or at none, unless it is in a block
 pub data Spot : Type 0 where
   alone : Spot
   withBlock : ℕ → Spot

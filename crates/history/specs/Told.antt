@@ -13,13 +13,8 @@ use Rattle.history.specs.History.{itsOpen, itsCall, itsEnd, elsewhere, r
 
 -- ---- drafts and saves
 
--- the opening of desk d's draft: its hull, and the history before it; none where the desk's last accepted open was followed by an accepted save or drop
-pub record Opening : Type 0 where
-  pub hull : ℕ
-  pub before : List Event
-
 -- the hull that an open names; 0 for any other call
-abbrev pub hullOf : Event → ℕ
+abbrev hullOf : Event → ℕ
 hullOf (newHull t ⇒ r) = 0
 hullOf (openHull d h ⇒ r) = h
 hullOf (work d w ⇒ r) = 0
@@ -27,12 +22,17 @@ hullOf (save d ⇒ r) = 0
 hullOf (drop d ⇒ r) = 0
 hullOf (ask h q ⇒ r) = 0
 
+-- the opening of desk d's draft: its hull, and the history before it; none where the desk's last accepted open was followed by an accepted save or drop
+pub record Opening : Type 0 where
+  pub hull : ℕ
+  pub before : List Event
+
 unfoldable pub opening : ℕ → List Event → Option Opening
 opening d [] = none
 opening d (e ∷ past) = elim (role d e) [ itsOpen ↦ some (record { hull = hullOf e; before = past }) | itsCall ↦ opening d past | itsEnd ↦ none | elsewhere ↦ opening d past ]
 
 -- whether a draft that was opened so, or none, is of hull h
-abbrev pub isOf : ℕ → Option Opening → Bool
+abbrev isOf : ℕ → Option Opening → Bool
 isOf h none = false
 isOf h (some o) = eqb h (o .hull)
 
@@ -76,7 +76,7 @@ worked tryPlateA s = s
 worked (tryPlateC ps ws) s = s
 
 -- the sheet s after an event: accepted work is done on it, and nothing else changes it
-abbrev pub did : Event → List ℕ → List ℕ
+abbrev did : Event → List ℕ → List ℕ
 did (newHull t ⇒ r) s = s
 did (openHull d h ⇒ r) s = s
 did (work d w ⇒ r) s = cond (accepted r) (worked w s) s
