@@ -4,16 +4,14 @@ use Prim.Native.Nat.{ℕ}
 use mathlib.Core.Path.{_≡_, refl, ap, _∙_}
 use mathlib.Core.Bool.{Bool, true, false, cond, _&&_}
 use mathlib.Core.List.{List, [], _∷_, _++_}
-use mathlib.Core.Option.{Option, none, some}
+use mathlib.Core.Option.{some}
 use lib.Dec.{eqb}
 use borrow.Author.Tests.{eqb-true}
 use Rattle.history.specs.Calls.{Work, newHull, openHull, work, save, drop, ask, Reply}
 use Rattle.history.specs.Runs.{Event, _⇒_, accepted}
-use Rattle.history.specs.History.{block}
+use Rattle.history.specs.History.{Role, itsOpen, itsCall, itsEnd, elsewhere, role, block}
 use Rattle.history.specs.Told.{Opening, opening}
-use Rattle.history.proofs.Tools.{none≢some, some-inj}
-
--- ---- the whole block
+use Rattle.history.proofs.Tools.{self, none≢some, some-inj}
 
 -- the work and the saves of desk d among the events: with its drop, which ends it, these are the calls on a draft that it holds
 unfoldable pub callsBy : ℕ → List Event → List Event
@@ -34,6 +32,51 @@ stays d ((work g w ⇒ r) ∷ es) = stays d es
 stays d ((save g ⇒ r) ∷ es) = cond (eqb d g && accepted r) false (stays d es)
 stays d ((drop g ⇒ r) ∷ es) = cond (eqb d g && accepted r) false (stays d es)
 stays d ((ask h q ⇒ r) ∷ es) = stays d es
+
+-- ---- what is known of an event by its role
+
+pub data Known (d : ℕ) : Event → Role → Type 0 where
+  an-open : {h : ℕ} {r : Reply} → accepted r ≡ true → Known d (openHull d h ⇒ r) itsOpen
+  some-work : {w : Work} {r : Reply} → Known d (work d w ⇒ r) itsCall
+  vain-save : {r : Reply} → accepted r ≡ false → Known d (save d ⇒ r) itsCall
+  an-end : {e : Event} → Known d e itsEnd
+  another : (e : Event) → ((es : List Event) → stays d (e ∷ es) ≡ stays d es) → ((es : List Event) → callsBy d (e ∷ es) ≡ callsBy d es) → Known d e elsewhere
+
+-- an event of desk g: t says whether g is d, and a whether the call was accepted
+module _ (d g : ℕ) (r : Reply) where
+  known-open : (h : ℕ) (t a : Bool) → eqb d g ≡ t → accepted r ≡ a → Known d (openHull g h ⇒ r) (cond (t && a) itsOpen elsewhere)
+  unfolding callsBy stays
+  known-open h true true p q = rw (← eqb-true d g p) (an-open q)
+  known-open h true false p q = another (openHull g h ⇒ r) (λ es. rw (p, q)) (λ es. refl)
+  known-open h false a p q = another (openHull g h ⇒ r) (λ es. rw p) (λ es. refl)
+
+  known-work : (w : Work) (t : Bool) → eqb d g ≡ t → Known d (work g w ⇒ r) (cond t itsCall elsewhere)
+  unfolding callsBy stays
+  known-work w true p = rw (← eqb-true d g p) some-work
+  known-work w false p = another (work g w ⇒ r) (λ es. refl) (λ es. rw p)
+
+  known-save : (t a : Bool) → eqb d g ≡ t → accepted r ≡ a → Known d (save g ⇒ r) (cond t (cond a itsEnd itsCall) elsewhere)
+  unfolding callsBy stays
+  known-save true true p q = an-end
+  known-save true false p q = rw (← eqb-true d g p) (vain-save q)
+  known-save false a p q = another (save g ⇒ r) (λ es. rw p) (λ es. rw p)
+
+  known-drop : (t a : Bool) → eqb d g ≡ t → accepted r ≡ a → Known d (drop g ⇒ r) (cond (t && a) itsEnd elsewhere)
+  unfolding callsBy stays
+  known-drop true true p q = an-end
+  known-drop true false p q = another (drop g ⇒ r) (λ es. rw (p, q)) (λ es. refl)
+  known-drop false a p q = another (drop g ⇒ r) (λ es. rw p) (λ es. refl)
+
+pub known : (d : ℕ) (e : Event) → Known d e (role d e)
+unfolding role callsBy stays
+known d (newHull t ⇒ r) = another (newHull t ⇒ r) (λ es. refl) (λ es. refl)
+known d (openHull g h ⇒ r) = known-open d g r h (eqb d g) (accepted r) refl refl
+known d (work g w ⇒ r) = known-work d g r w (eqb d g) refl
+known d (save g ⇒ r) = known-save d g r (eqb d g) (accepted r) refl refl
+known d (drop g ⇒ r) = known-drop d g r (eqb d g) (accepted r) refl refl
+known d (ask h q ⇒ r) = another (ask h q ⇒ r) (λ es. refl) (λ es. refl)
+
+-- ---- the whole block
 
 -- b is the block of the draft that desk d opened as o says: past is what came since, the accepted open, and what was before
 pub record Whole (d : ℕ) (past : List Event) (o : Opening) (b : List Event) : Type 0 where
@@ -67,44 +110,22 @@ module _ {d : ℕ} {past : List Event} {o : Opening} {b : List Event} (e : Event
         is = rw (c (w .newer)) (ap (λ (es : List Event). e ∷ es) (w .is));
       }
 
-module _ (d g : ℕ) (r : Reply) (past : List Event) (o : Opening) (O : Option Opening) (b : List Event) (before : O ≡ some o → Whole d past o b) where
-  opens-whole : (h : ℕ) (t a : Bool) → eqb d g ≡ t → accepted r ≡ a → cond t (cond a (some (record { hull = h; before = past })) O) O ≡ some o
-      → Whole d ((openHull g h ⇒ r) ∷ past) o (cond t (cond a ((openHull g h ⇒ r) ∷ []) b) b)
-  unfolding callsBy stays
-  opens-whole h true true p q e =
-      let u : _≡_ {A = Opening} (record { hull = h; before = past }) o = some-inj e in
-      let v : d ≡ g = eqb-true d g p in
-      rw (← u, v) (record { newer = []; its-reply = r; splits = refl; made-it = q; held-since = refl; is = refl })
-  opens-whole h true false p q e = passed (openHull g h ⇒ r) (before e) (λ es. rw (p, q) refl) (λ es. refl)
-  opens-whole h false a p q e = passed (openHull g h ⇒ r) (before e) (λ es. rw p refl) (λ es. refl)
-
-  saves-whole : (t a : Bool) → eqb d g ≡ t → accepted r ≡ a → cond t (cond a none O) O ≡ some o → Whole d ((save g ⇒ r) ∷ past) o (cond t (cond a [] ((save g ⇒ r) ∷ b)) b)
-  unfolding callsBy stays
-  saves-whole true true p q e = absurd (none≢some e)
-  saves-whole true false p q e = joined (save g ⇒ r) (before e) (λ es. rw (p, q) refl) (λ es. rw p refl)
-  saves-whole false a p q e = passed (save g ⇒ r) (before e) (λ es. rw p refl) (λ es. rw p refl)
-
-  drops-whole : (t a : Bool) → eqb d g ≡ t → accepted r ≡ a → cond t (cond a none O) O ≡ some o → Whole d ((drop g ⇒ r) ∷ past) o (cond t (cond a [] b) b)
-  unfolding callsBy stays
-  drops-whole true true p q e = absurd (none≢some e)
-  drops-whole true false p q e = passed (drop g ⇒ r) (before e) (λ es. rw (p, q) refl) (λ es. refl)
-  drops-whole false a p q e = passed (drop g ⇒ r) (before e) (λ es. rw p refl) (λ es. refl)
-
-  works-whole : (w : Work) (t : Bool) → eqb d g ≡ t → O ≡ some o → Whole d ((work g w ⇒ r) ∷ past) o (cond t ((work g w ⇒ r) ∷ b) b)
-  unfolding callsBy stays
-  works-whole w true p e = joined (work g w ⇒ r) (before e) (λ es. refl) (λ es. rw p refl)
-  works-whole w false p e = passed (work g w ⇒ r) (before e) (λ es. refl) (λ es. rw p refl)
+whole-step : {d : ℕ} {e : Event} {s : Role} (past : List Event) (o : Opening) → Known d e s → role d e ≡ s → opening d (e ∷ past) ≡ some o
+    → (opening d past ≡ some o → Whole d past o (block d past)) → Whole d (e ∷ past) o (block d (e ∷ past))
+unfolding block opening callsBy stays
+whole-step past o (an-open {h} {r} a) p q f =
+    let u : _≡_ {A = Opening} (record { hull = h; before = past }) o = some-inj (rw (p, opening) at q) in
+    rw (p, block, ← u) (record { newer = []; its-reply = r; splits = refl; made-it = a; held-since = refl; is = refl })
+whole-step past o some-work p q f = rw (p, block) (joined _ (f (rw (p, opening) at q)) (λ es. refl) (λ es. rw self))
+whole-step past o (vain-save a) p q f = rw (p, block) (joined _ (f (rw (p, opening) at q)) (λ es. rw (self, a)) (λ es. rw self))
+whole-step past o an-end p q f = absurd (none≢some (rw (p, opening) at q))
+whole-step past o (another e s c) p q f = rw (p, block) (passed _ (f (rw (p, opening) at q)) s c)
 
 -- Where the history says that the desk holds a draft, its block is the draft's own open and every call on the draft since.
 pub block-whole : (d : ℕ) (past : List Event) (o : Opening) → opening d past ≡ some o → Whole d past o (block d past)
-unfolding block opening callsBy stays
-block-whole d [] o e = absurd (none≢some e)
-block-whole d ((newHull t ⇒ r) ∷ past) o e = passed (newHull t ⇒ r) (block-whole d past o e) (λ es. refl) (λ es. refl)
-block-whole d ((openHull g h ⇒ r) ∷ past) o e = opens-whole d g r past o (opening d past) (block d past) (block-whole d past o) h (eqb d g) (accepted r) refl refl e
-block-whole d ((work g w ⇒ r) ∷ past) o e = works-whole d g r past o (opening d past) (block d past) (block-whole d past o) w (eqb d g) refl e
-block-whole d ((save g ⇒ r) ∷ past) o e = saves-whole d g r past o (opening d past) (block d past) (block-whole d past o) (eqb d g) (accepted r) refl refl e
-block-whole d ((drop g ⇒ r) ∷ past) o e = drops-whole d g r past o (opening d past) (block d past) (block-whole d past o) (eqb d g) (accepted r) refl refl e
-block-whole d ((ask h q ⇒ r) ∷ past) o e = passed (ask h q ⇒ r) (block-whole d past o e) (λ es. refl) (λ es. refl)
+unfolding opening
+block-whole d [] o q = absurd (none≢some q)
+block-whole d (e ∷ past) o q = whole-step past o (known d e) refl q (block-whole d past o)
 
 -- ---- saves in a block
 

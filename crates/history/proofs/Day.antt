@@ -27,8 +27,8 @@ use Rattle.register.specs.Hulls.{roomRefusal}
 use Rattle.register.specs.Drafts.{openRefusal, putRefusal, takeRefusal, saveRefusal}
 use Rattle.history.specs.Calls.{put, takeOff, tryPlateA, tryPlateC, plateA, write, newHull, openHull, work, save, drop, ask, says, reply, next}
 use Rattle.history.specs.Runs.{Event, _⇒_, call}
-use Rattle.history.specs.History.{block, serial}
-use Rattle.history.specs.Told.{savesOf, opening, quietSince}
+use Rattle.history.specs.History.{role, block, spot, serial}
+use Rattle.history.specs.Told.{opening, isSaveOf, savesOf, quietSince}
 use Rattle.history.specs.InOrder.{transcript, order}
 
 stations : List ℕ
@@ -84,7 +84,7 @@ a-day = refl
 
 -- its serial list is this one
 a-day-in-order : order day ≡ serial-day
-unfolding order serial block day serial-day
+unfolding order serial spot block role day serial-day
 a-day-in-order = refl
 
 -- and that list, run from fresh, has the same replies
@@ -94,10 +94,10 @@ a-day-again = refl
 
 -- what the day's history tells: hull 0 has had two accepted saves, though five were tried
 a-day-counted : savesOf 0 (reverse day) ≡ 2
-unfolding savesOf opening day
+unfolding savesOf isSaveOf opening role day
 a-day-counted = refl
 
 -- when desk 0 came to save first, after nine calls, desk 1 had saved
 a-day-late : quietSince 0 0 (reverse (take 9 day)) ≡ false
-unfolding quietSince opening day
+unfolding quietSince isSaveOf opening role day
 a-day-late = refl

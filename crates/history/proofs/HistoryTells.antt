@@ -1,18 +1,20 @@
--- The state of a run is what its history tells: the edit numbers are counts of accepted saves, and each desk's draft is its hull's sheet at the opening with the
--- block's work done on it. Assumes nothing.
+-- The state of a run is what its history tells: the edit numbers are counts of accepted saves, and the block of a desk, redone on its hull's sheet at the opening,
+-- makes the desk's draft. Assumes nothing.
 use Prim.Native.Nat.{ℕ, _≤_, _<_}
 use native.Mathlib.Omega.{arith}
 use native.Mathlib.Nat.{le-refl}
 use mathlib.Core.Path.{_≡_, refl, sym, ap, _∙_}
+use mathlib.Core.Bool.{and-false}
 use mathlib.Core.List.{List, [], _∷_, map}
 use mathlib.Core.Option.{Option, none, some}
+use lib.Dec.{eqb}
 use borrow.Author.Tests.{ne-eqb}
 use Rattle.sheet.specs.declared.Answer.the-variants.{Refused, Count}
 use Rattle.history.specs.Calls.{Work, Call, openHull, work, save, Reply, says}
 use Rattle.history.specs.Runs.{Event, _⇒_, call}
-use Rattle.history.specs.History.{block}
-use Rattle.history.specs.Told.{Opening, opening, savesOf, redo}
-use Rattle.history.proofs.Tools.{at-or, self, either, none≢some, some-inj}
+use Rattle.history.specs.History.{block, role}
+use Rattle.history.specs.Told.{Opening, opening, isSaveOf, savesOf, redo}
+use Rattle.history.proofs.Tools.{at-or, self, none≢some, some-inj}
 use Rattle.history.proofs.Model.{Draft, State, workSays, but, store, opens, edited, fresh, stateOf, eventsOf}
 use Rattle.history.proofs.Rules.{Steps, enters, unread, full, opened, unknown, open-high, works, work-idle, work-high, saves, spent, stale, save-idle, save-high, drops, drop-idle, drop-high, asks, unasked, each}
 use Rattle.history.proofs.Replay.{Drafts, drafts, high-none}
@@ -73,36 +75,36 @@ drawn-save b (some o) d r = refl
 
 -- ---- every rule
 
--- an event that changes neither the state nor what is told
+-- an event that leaves both as they were
 same : {s : State} {past : List Event} (e : Event) → Tells s past → ((h : ℕ) → savesOf h (e ∷ past) ≡ savesOf h past) → ((d : ℕ) → toldDraft d (e ∷ past) ≡ toldDraft d past) → Tells s (e ∷ past)
 same e f p q = record { edits = λ h. f .edits h ∙ sym (p h); drafts = λ d. f .drafts d ∙ sym (q d); unentered = λ h l. p h ∙ f .unentered h l }
 
 -- work by a desk that holds no draft
 idle : {s : State} {past : List Event} (g : ℕ) (w : Work) (r : Reply) → Tells s past → s .draft g ≡ none → Tells s ((work g w ⇒ r) ∷ past)
-unfolding block opening savesOf
+unfolding block opening savesOf isSaveOf role
 idle {s} {past} g w r f q =
     let e : opening g past ≡ none = drawn-none (block g past) (opening g past) (sym (f .drafts g) ∙ q) in
-    same _ f (λ h. refl) (at-or g _ (rw e) (λ d n. rw n))
+    same _ f (λ h. refl) (at-or g _ (rw (self, block, opening, e)) (λ d n. rw (n, block, opening)))
 
 tells-saves : (s : State) (past : List Event) (g : ℕ) (y : Draft) (n : ℕ) → s .draft g ≡ some y → y .hull < s .register .entered → Tells s past
     → Tells (record { register = store (s .register) y; draft = but (s .draft) g none }) ((save g ⇒ says (Count n)) ∷ past)
-unfolding block opening savesOf
+unfolding block opening savesOf isSaveOf role
 tells-saves s past g y n q k f =
     let z : From (block g past) (opening g past) y = drawn (block g past) (opening g past) y (sym (f .drafts g) ∙ q) in
     let u : z .from .hull ≡ y .hull = ap (λ (x : Draft). x .hull) (z .draft) in
     record {
       edits = rw (z .is, u) (at-or (y .hull) _ (rw (self, f .edits (y .hull))) (λ h n. rw n (f .edits h)));
-      drafts = at-or g _ (rw self) (λ d n. rw n (f .drafts d));
+      drafts = at-or g _ (rw (self, block, opening)) (λ d n. rw (n, block, opening) (f .drafts d));
       unentered = λ h l. rw (z .is, u, ne-eqb h (y .hull) (λ e. omega arith)) (f .unentered h l);
     }
 
 -- a save that was refused
 unsaved : {s : State} {past : List Event} (g n : ℕ) → Tells s past → Tells s ((save g ⇒ says (Refused n)) ∷ past)
-unfolding block opening savesOf
-unsaved {s} {past} g n f = same _ f (λ h. refl) (at-or g _ (rw self (drawn-save (block g past) (opening g past) g (says (Refused n)))) (λ d n. rw n))
+unfolding block opening savesOf isSaveOf role
+unsaved {s} {past} g n f = same _ f (λ h. refl) (at-or g _ (rw (self, block, opening) (drawn-save (block g past) (opening g past) g (says (Refused n)))) (λ d n. rw (n, block, opening)))
 
 tells-step : (s : State) (past : List Event) {c : Call} {t : State} {r : Reply} → stateOf (map call past) ≡ s → Steps s c t r → Drafts s past → Tells s past → Tells t ((c ⇒ r) ∷ past)
-unfolding block opening savesOf redo
+unfolding block opening savesOf isSaveOf role redo
 tells-step s past w (enters k p e) z f =
     record {
       edits = at-or (s .register .entered) _ (rw (self, f .unentered (s .register .entered) (le-refl _))) (λ h n. rw n (f .edits h));
@@ -112,13 +114,13 @@ tells-step s past w (enters k p e) z f =
 tells-step s past w (unread n at p e) z f = same _ f (λ h. refl) (λ d. refl)
 tells-step s past w (full p) z f = same _ f (λ h. refl) (λ d. refl)
 tells-step s past w (opened {d = g} {h} p q) z f =
-    record { edits = f .edits; drafts = at-or g _ (rw self (drawn-opened s past g h (says (Count (s .register .hull h .edits))) w (f .edits h))) (λ d n. rw n (f .drafts d)); unentered = f .unentered }
-tells-step s past w (unknown {d = g} p q) z f = same _ f (λ h. refl) (λ d. simp either)
-tells-step s past w (open-high {d = g} p) z f = same _ f (λ h. refl) (λ d. simp either)
+    record { edits = f .edits; drafts = at-or g _ (rw (self, block, opening) (drawn-opened s past g h (says (Count (s .register .hull h .edits))) w (f .edits h))) (λ d n. rw (n, block, opening) (f .drafts d)); unentered = f .unentered }
+tells-step s past w (unknown {d = g} p q) z f = same _ f (λ h. refl) (λ d. rw (and-false (eqb d g), block, opening))
+tells-step s past w (open-high {d = g} p) z f = same _ f (λ h. refl) (λ d. rw (and-false (eqb d g), block, opening))
 tells-step s past w (works {d = g} {w = x} y p q) z f =
     record {
       edits = f .edits;
-      drafts = at-or g _ (rw self (sym (drawn-worked (block g past) (opening g past) y g x (sym (f .drafts g) ∙ q)))) (λ d n. rw n (f .drafts d));
+      drafts = at-or g _ (rw (self, block, opening) (sym (drawn-worked (block g past) (opening g past) y g x (sym (f .drafts g) ∙ q)))) (λ d n. rw (n, block, opening) (f .drafts d));
       unentered = f .unentered;
     }
 tells-step s past w (work-idle {d = g} {w = x} p q) z f = idle g x _ f q
@@ -128,9 +130,9 @@ tells-step s past w (spent {d = g} y p q u l) z f = unsaved g 9 f
 tells-step s past w (stale {d = g} y p q u) z f = unsaved g 8 f
 tells-step s past w (save-idle {d = g} p q) z f = unsaved g 7 f
 tells-step s past w (save-high {d = g} p) z f = unsaved g 6 f
-tells-step s past w (drops {d = g} y p q) z f = record { edits = f .edits; drafts = at-or g _ (rw self) (λ d n. rw n (f .drafts d)); unentered = f .unentered }
-tells-step s past w (drop-idle {d = g} p q) z f = same _ f (λ h. refl) (λ d. simp either)
-tells-step s past w (drop-high {d = g} p) z f = same _ f (λ h. refl) (λ d. simp either)
+tells-step s past w (drops {d = g} y p q) z f = record { edits = f .edits; drafts = at-or g _ (rw (self, block, opening)) (λ d n. rw (n, block, opening) (f .drafts d)); unentered = f .unentered }
+tells-step s past w (drop-idle {d = g} p q) z f = same _ f (λ h. refl) (λ d. rw (and-false (eqb d g), block, opening))
+tells-step s past w (drop-high {d = g} p) z f = same _ f (λ h. refl) (λ d. rw (and-false (eqb d g), block, opening))
 tells-step s past w (asks p) z f = same _ f (λ h. refl) (λ d. refl)
 tells-step s past w (unasked p) z f = same _ f (λ h. refl) (λ d. refl)
 

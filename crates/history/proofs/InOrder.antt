@@ -1,4 +1,4 @@
--- DEMAND 3 in the order of time: calls and histories oldest first. Assumes nothing.
+-- DEMAND 3 with the oldest call first. Assumes nothing.
 use Prim.Native.Nat.{ℕ, _<_}
 use mathlib.Core.Path.{_≡_, refl, sym, ap, _∙_}
 use mathlib.Core.Bool.{true}
@@ -15,7 +15,7 @@ use Rattle.history.specs.Demand.{Due, SaveDoes, Gives}
 use Rattle.history.specs.InOrder.{transcript, lastly, order, GivesInOrder, DemandInOrder}
 use Rattle.history.proofs.Theorems.{save-iff, save-does, edits-count, serial-gives}
 
--- ---- a run newest first is the run oldest first
+-- ---- the two ways to write a run
 
 module _ (m : List ℕ) where
   history-turned : (cs past : List Call) → history m (reverseAux cs past) ≡ reverseAux (transcript (after m past) cs) (history m past)

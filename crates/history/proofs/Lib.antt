@@ -1,7 +1,7 @@
 -- The theorems.
 pub mod Tools
-pub mod Quiet
 pub mod Blocks
+pub mod Quiet
 pub mod Order
 pub mod Once
 pub mod Model

@@ -1,16 +1,16 @@
--- The serial list takes no call of the history twice, and none that is not there: of any list of events. Assumes nothing.
+-- Every call of the serial list is one of the history, and stands there once: of any list of events. Assumes nothing.
 use Prim.Native.Nat.{ℕ, zero, suc, _+_, _≤_, _<_}
 use native.Mathlib.Omega.{arith}
 use native.Mathlib.Nat.{le-refl}
 use mathlib.Core.Path.{_≡_, refl}
-use mathlib.Core.Bool.{Bool, true, false, cond}
+use mathlib.Core.Bool.{Bool, true, false}
 use mathlib.Core.List.{List, [], _∷_, _++_}
 use mathlib.Core.Logic.{inl, inr}
 use lib.Dec.{eqb}
 use borrow.Author.Tests.{ne-eqb}
 use Rattle.history.specs.Calls.{newHull, openHull, work, save, drop, ask, Reply}
 use Rattle.history.specs.Runs.{Event, _⇒_, accepted}
-use Rattle.history.specs.History.{block, serial}
+use Rattle.history.specs.History.{Role, itsOpen, itsCall, itsEnd, elsewhere, role, block, spot, serial}
 use Rattle.history.proofs.Tools.{self, below}
 
 -- ---- whatever events weigh, the serial list weighs no more than the history
@@ -62,16 +62,21 @@ module _ (w : Event → ℕ) where
   held : List Event → ℕ → ℕ
   held past d = weight w (block d past)
 
-  -- an open or a drop, by whether it was accepted
-  weigh-open : (a : Bool) (e : Event) (b : List Event) → weight w (cond a (e ∷ []) b) ≤ w e + weight w b
-  unfolding weight
-  weigh-open true e b = omega arith
-  weigh-open false e b = omega arith
+  -- an event adds no more than itself to a block
+  weigh : (d : ℕ) (e : Event) (past : List Event) → held (e ∷ past) d ≤ w e + held past d
+  unfolding held weight block
+  weigh d e past = go (role d e) refl
+    where
+      go : (s : Role) → role d e ≡ s → weight w (block d (e ∷ past)) ≤ w e + weight w (block d past)
+      go itsOpen p = rw (p, block) (omega arith)
+      go itsCall p = rw (p, block) (omega arith)
+      go itsEnd p = rw (p, block) (omega arith)
+      go elsewhere p = rw (p, block) (omega arith)
 
-  weigh-drop : (a : Bool) (c : ℕ) (b : List Event) → weight w (cond a [] b) ≤ c + weight w b
-  unfolding weight
-  weigh-drop true c b = omega arith
-  weigh-drop false c b = omega arith
+  -- and where it is desk g's, to no block but that one
+  blocks-grow : (e : Event) (g : ℕ) (past : List Event) (n : ℕ) → ((d : ℕ) → eqb d g ≡ false → role d e ≡ elsewhere) → sumBelow (held (e ∷ past)) n ≤ w e + sumBelow (held past) n
+  unfolding held block
+  blocks-grow e g past n o = sum-grows (held past) (held (e ∷ past)) g (λ d p. rw (o d p, block)) (w e) n (weigh g e past)
 
   -- the serial list, and the blocks of the desks below n
   Within : List Event → ℕ → Type 0
@@ -79,41 +84,30 @@ module _ (w : Event → ℕ) where
 
   -- a save, by whether it was accepted
   saved-within : (g : ℕ) (r : Reply) (past : List Event) (n : ℕ) → ((j : ℕ) → Within past j) → (a : Bool) → accepted r ≡ a → Within ((save g ⇒ r) ∷ past) n
-  unfolding Within held weight serial block
+  unfolding Within held weight serial block role spot
   saved-within g r past n h true e =
       let k : ℕ → ℕ = held ((save g ⇒ r) ∷ past) in
-      let z : k g ≡ 0 = rw (self, e) refl in
-      let a = sum-beyond (held past) k g (λ d o. rw o) (n + suc g) (omega arith) in
+      let z : k g ≡ 0 = rw (self, e, block) in
+      let a = sum-beyond (held past) k g (λ d o. rw (o, block)) (n + suc g) (omega arith) in
       let b = sum-more k n (suc g) in
       let c = weight-append w (block g past) (serial past) in
       let i = h (n + suc g) in
-      let q : weight w (serial ((save g ⇒ r) ∷ past)) ≡ w (save g ⇒ r) + weight w (block g past ++ serial past) = rw e refl in
+      let q : weight w (serial ((save g ⇒ r) ∷ past)) ≡ w (save g ⇒ r) + weight w (block g past ++ serial past) = rw (e, serial) in
       omega arith
   saved-within g r past n h false e =
-      let k : ℕ → ℕ = held ((save g ⇒ r) ∷ past) in
-      let z : k g ≡ w (save g ⇒ r) + held past g = rw (self, e) refl in
-      let a = sum-grows (held past) k g (λ d o. rw o) (w (save g ⇒ r)) n (omega arith) in
+      let a = blocks-grow (save g ⇒ r) g past n (λ d o. rw o) in
       let i = h n in
-      let q : weight w (serial ((save g ⇒ r) ∷ past)) ≡ weight w (serial past) = rw e refl in
+      let q : weight w (serial ((save g ⇒ r) ∷ past)) ≡ weight w (serial past) = rw (e, serial) in
       omega arith
 
   within : (past : List Event) (n : ℕ) → Within past n
-  unfolding Within held weight serial block
+  unfolding Within held weight serial block role spot
   within [] n = omega (arith, sum-none n)
   within ((newHull t ⇒ r) ∷ past) n = let h = within past n in omega arith
-  within ((openHull g k ⇒ r) ∷ past) n =
-      let h = within past n in
-      let a = sum-grows (held past) (held ((openHull g k ⇒ r) ∷ past)) g (λ d o. rw o) (w (openHull g k ⇒ r)) n (rw self (weigh-open (accepted r) (openHull g k ⇒ r) (block g past))) in
-      omega arith
-  within ((work g x ⇒ r) ∷ past) n =
-      let h = within past n in
-      let a = sum-grows (held past) (held ((work g x ⇒ r) ∷ past)) g (λ d o. rw o) (w (work g x ⇒ r)) n (rw self (omega arith)) in
-      omega arith
+  within ((openHull g k ⇒ r) ∷ past) n = let h = within past n in let a = blocks-grow (openHull g k ⇒ r) g past n (λ d o. rw o) in omega arith
+  within ((work g x ⇒ r) ∷ past) n = let h = within past n in let a = blocks-grow (work g x ⇒ r) g past n (λ d o. rw o) in omega arith
   within ((save g ⇒ r) ∷ past) n = saved-within g r past n (within past) (accepted r) refl
-  within ((drop g ⇒ r) ∷ past) n =
-      let h = within past n in
-      let a = sum-grows (held past) (held ((drop g ⇒ r) ∷ past)) g (λ d o. rw o) (w (drop g ⇒ r)) n (rw self (weigh-drop (accepted r) (w (drop g ⇒ r)) (block g past))) in
-      omega arith
+  within ((drop g ⇒ r) ∷ past) n = let h = within past n in let a = blocks-grow (drop g ⇒ r) g past n (λ d o. rw o) in omega arith
   within ((ask h q ⇒ r) ∷ past) n = let h = within past n in omega arith
 
   -- Each call of a history is taken at most once.

@@ -4,10 +4,11 @@ use Prim.Native.Nat.{ℕ, _≤_, _<_}
 use native.Mathlib.Omega.{arith}
 use native.Mathlib.Nat.{le-refl}
 use mathlib.Core.Path.{_≡_, refl, sym, ap, _∙_}
-use mathlib.Core.Bool.{true}
+use mathlib.Core.Bool.{true, and-false}
 use mathlib.Core.List.{List, [], _∷_, _++_, map}
 use mathlib.Core.Option.{Option, none, some}
 use mathlib.Core.Logic.{inl, inr}
+use lib.Dec.{eqb}
 use borrow.Author.Tests.{eq-eqb, ne-eqb}
 use Rattle.sheet.specs.declared.Answer.the-variants.{Count}
 use Rattle.memory.specs.Layout.{desks}
@@ -15,8 +16,8 @@ use Rattle.memory.specs.Formed.{mostEdits}
 use Rattle.memory.proofs.Same.{same-or-not}
 use Rattle.history.specs.Calls.{Work, Call, openHull, work, Reply, says}
 use Rattle.history.specs.Runs.{Event, _⇒_, call}
-use Rattle.history.specs.History.{block}
-use Rattle.history.proofs.Tools.{at-or, self, either, none≢some, some-inj}
+use Rattle.history.specs.History.{block, role}
+use Rattle.history.proofs.Tools.{at-or, self, none≢some, some-inj}
 use Rattle.history.proofs.Blocks.{saveless}
 use Rattle.history.proofs.Model.{Draft, Register, State, Outcome, workSays, store, opens, edited, fresh, stateOf, eventsOf}
 use Rattle.history.proofs.Rules.{Steps, enters, unread, full, opened, unknown, open-high, works, work-idle, work-high, saves, spent, stale, save-idle, save-high, drops, drop-idle, drop-high, asks, unasked, sound, each}
@@ -93,28 +94,28 @@ abbrev pub Drafts : State → List Event → Type 0
 Drafts s past = (d : ℕ) (x : Draft) → s .draft d ≡ some x → Ready (s .register) d x (block d past)
 
 ready-step : (s : State) (past : List Event) {c : Call} {t : State} {r : Reply} → Steps s c t r → Drafts s past → Drafts t ((c ⇒ r) ∷ past)
-unfolding block
+unfolding block role
 ready-step s past (enters k p e) f = λ d x e. let z = f d x e in kept _ z (omega arith) (rw (ne-eqb (x .hull) (s .register .entered) (omega (arith, z .hull))))
 ready-step s past (unread n at p e) f = f
 ready-step s past (full p) f = f
 ready-step s past (opened {d = g} {h} p q) f =
-    at-or g _ (λ x e. let u : opens (s .register) h ≡ x = some-inj (rw self at e) in rw (self, ← u) (opened-ready (s .register) g h p q)) (λ d n x e. rw n (f d x (rw n at e)))
-ready-step s past (unknown {d = g} p q) f = λ d x e. rw either (f d x e)
-ready-step s past (open-high {d = g} p) f = λ d x e. rw either (f d x e)
+    at-or g _ (λ x e. let u : opens (s .register) h ≡ x = some-inj (rw self at e) in rw (self, block, ← u) (opened-ready (s .register) g h p q)) (λ d n x e. rw (n, block) (f d x (rw n at e)))
+ready-step s past (unknown {d = g} p q) f = λ d x e. rw (and-false (eqb d g), block) (f d x e)
+ready-step s past (open-high {d = g} p) f = λ d x e. rw (and-false (eqb d g), block) (f d x e)
 ready-step s past (works {d = g} {w} y p q) f =
-    at-or g _ (λ x e. let u : edited w y ≡ x = some-inj (rw self at e) in rw (self, ← u) (worked-ready w (f g y q))) (λ d n x e. rw n (f d x (rw n at e)))
-ready-step s past (work-idle {d = g} p q) f = at-or g _ (λ x e. absurd (none≢some (sym q ∙ e))) (λ d n x e. rw n (f d x e))
-ready-step s past (work-high {d = g} p) f = at-or g _ (λ x e. let z = f g x e in absurd (omega (arith, z .desk))) (λ d n x e. rw n (f d x e))
-ready-step s past (saves {d = g} y p q u l) f = at-or g _ (λ x e. absurd (none≢some (rw self at e))) (λ d n x e. rw n (store-ready y (f d x (rw n at e))))
+    at-or g _ (λ x e. let u : edited w y ≡ x = some-inj (rw self at e) in rw (self, block, ← u) (worked-ready w (f g y q))) (λ d n x e. rw (n, block) (f d x (rw n at e)))
+ready-step s past (work-idle {d = g} p q) f = at-or g _ (λ x e. absurd (none≢some (sym q ∙ e))) (λ d n x e. rw (n, block) (f d x e))
+ready-step s past (work-high {d = g} p) f = at-or g _ (λ x e. let z = f g x e in absurd (omega (arith, z .desk))) (λ d n x e. rw (n, block) (f d x e))
+ready-step s past (saves {d = g} y p q u l) f = at-or g _ (λ x e. absurd (none≢some (rw self at e))) (λ d n x e. rw (n, block) (store-ready y (f d x (rw n at e))))
 ready-step s past (spent {d = g} y p q u l) f =
-    at-or g _ (λ x e. let v : y ≡ x = some-inj (sym q ∙ e) in let z = f g x e in rw self (lost _ _ z (le-refl _) (λ a b. b (rw v at l)) (z .grown))) (λ d n x e. rw n (f d x e))
+    at-or g _ (λ x e. let v : y ≡ x = some-inj (sym q ∙ e) in let z = f g x e in rw (self, block) (lost _ _ z (le-refl _) (λ a b. b (rw v at l)) (z .grown))) (λ d n x e. rw (n, block) (f d x e))
 ready-step s past (stale {d = g} y p q u) f =
-    at-or g _ (λ x e. let v : y ≡ x = some-inj (sym q ∙ e) in let z = f g x e in rw self (lost _ _ z (le-refl _) (λ a b. (rw v at u) a) (z .grown))) (λ d n x e. rw n (f d x e))
-ready-step s past (save-idle {d = g} p q) f = at-or g _ (λ x e. absurd (none≢some (sym q ∙ e))) (λ d n x e. rw n (f d x e))
-ready-step s past (save-high {d = g} p) f = at-or g _ (λ x e. let z = f g x e in absurd (omega (arith, z .desk))) (λ d n x e. rw n (f d x e))
-ready-step s past (drops {d = g} y p q) f = at-or g _ (λ x e. absurd (none≢some (rw self at e))) (λ d n x e. rw n (f d x (rw n at e)))
-ready-step s past (drop-idle {d = g} p q) f = at-or g _ (λ x e. absurd (none≢some (sym q ∙ e))) (λ d n x e. rw n (f d x e))
-ready-step s past (drop-high {d = g} p) f = at-or g _ (λ x e. let z = f g x e in absurd (omega (arith, z .desk))) (λ d n x e. rw n (f d x e))
+    at-or g _ (λ x e. let v : y ≡ x = some-inj (sym q ∙ e) in let z = f g x e in rw (self, block) (lost _ _ z (le-refl _) (λ a b. (rw v at u) a) (z .grown))) (λ d n x e. rw (n, block) (f d x e))
+ready-step s past (save-idle {d = g} p q) f = at-or g _ (λ x e. absurd (none≢some (sym q ∙ e))) (λ d n x e. rw (n, block) (f d x e))
+ready-step s past (save-high {d = g} p) f = at-or g _ (λ x e. let z = f g x e in absurd (omega (arith, z .desk))) (λ d n x e. rw (n, block) (f d x e))
+ready-step s past (drops {d = g} y p q) f = at-or g _ (λ x e. absurd (none≢some (rw self at e))) (λ d n x e. rw (n, block) (f d x (rw n at e)))
+ready-step s past (drop-idle {d = g} p q) f = at-or g _ (λ x e. absurd (none≢some (sym q ∙ e))) (λ d n x e. rw (n, block) (f d x e))
+ready-step s past (drop-high {d = g} p) f = at-or g _ (λ x e. let z = f g x e in absurd (omega (arith, z .desk))) (λ d n x e. rw (n, block) (f d x e))
 ready-step s past (asks p) f = f
 ready-step s past (unasked p) f = f
 

@@ -1,4 +1,4 @@
--- The ways through a step, one rule each: which facts of the state lead to which state and reply. What is proved of each rule holds of every step. Assumes nothing.
+-- A step as rules: each has its conditions on the state, and the state and reply that it makes. Some rule fits every step. Assumes nothing.
 use Prim.Native.Nat.{ℕ, suc, _≤_, _<_}
 use mathlib.Core.Path.{_≡_, refl}
 use mathlib.Core.List.{List}
@@ -103,6 +103,6 @@ total s (save d) = elim (below d desks) [ inl p ↦ save-some s d p (s .draft d)
 total s (drop d) = elim (below d desks) [ inl p ↦ drop-some s d p (s .draft d) refl | inr p ↦ by (drop-high p) ]
 total s (ask h q) = elim (below h (s .register .entered)) [ inl p ↦ by (asks p) | inr p ↦ by (unasked p) ]
 
--- to prove something of a step, prove it of each rule
+-- what every rule has, every step has
 pub each : (s : State) (c : Call) (P : State → Reply → Type 0) → ((t : State) (r : Reply) → Steps s c t r → P t r) → P (step s c .state) (step s c .reply)
 each s c P f = let o = total s c in rw (sound s (o .rule)) (f (o .state) (o .reply) (o .rule))

@@ -1,4 +1,4 @@
--- When a save is accepted, and what it then does, in the model: as the history alone tells. Assumes nothing.
+-- Saves in the model, by the history alone: those that are due are taken, and no others. Assumes nothing.
 use Prim.Native.Nat.{ℕ, suc, _≤_, _<_}
 use native.Mathlib.Omega.{arith}
 use mathlib.Core.Path.{_≡_, sym, ap, _∙_}

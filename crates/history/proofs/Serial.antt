@@ -9,12 +9,12 @@ use Rattle.memory.specs.Layout.{mostHulls}
 use Rattle.memory.specs.Formed.{mostEdits}
 use Rattle.history.specs.Calls.{Ask, Call, newHull, save, ask, Reply, says}
 use Rattle.history.specs.Runs.{Event, _⇒_, call}
-use Rattle.history.specs.History.{serial}
+use Rattle.history.specs.History.{spot, serial}
 use Rattle.history.proofs.Model.{Draft, Register, State, askSays, askRefused, enter, store, stateOf, eventsOf}
 use Rattle.history.proofs.Rules.{Steps, enters, unread, full, opened, unknown, open-high, works, work-idle, work-high, saves, spent, stale, save-idle, save-high, drops, drop-idle, drop-high, asks, unasked, each}
 use Rattle.history.proofs.Replay.{state-by, events-by, Replays, Ready, Drafts, drafts}
 
--- the calls of the events es run to the register R, with the replies that es has
+-- from fresh, the calls in es end with the register R, and are answered as es says
 pub record RunsTo (R : Register) (es : List Event) : Type 0 where
   pub replies : eventsOf (map call es) ≡ es
   pub register : stateOf (map call es) .register ≡ R
@@ -65,10 +65,10 @@ saves-runs {R} {es} {d} {x} {b} r u l g =
       register = rw (calls-append b es, state-by (map call b ++ cs) rule, same);
     }
 
--- ---- every rule
+-- ---- every rule. What is asked of a hull changes no register, so the list would run so without it too.
 
 serial-step : (s : State) (past : List Event) {c : Call} {t : State} {r : Reply} → Steps s c t r → Drafts s past → RunsTo (s .register) (serial past) → RunsTo (t .register) (serial ((c ⇒ r) ∷ past))
-unfolding serial
+unfolding serial spot
 serial-step s past (enters {t} k p e) f g = enters-runs g t k p e
 serial-step s past (unread {t} n at p e) f g = unread-runs g t n at p e
 serial-step s past (full {t} p) f g = full-runs g t p
@@ -86,8 +86,8 @@ serial-step s past (save-high p) f g = g
 serial-step s past (drops y p q) f g = g
 serial-step s past (drop-idle p q) f g = g
 serial-step s past (drop-high p) f g = g
-serial-step s past (asks {h} {q} p) f g = asks-runs g h q p
-serial-step s past (unasked {h} {q} p) f g = unasked-runs g h q p
+serial-step s past (asks {h} {q} p) f g = search (g, asks-runs g h q p)
+serial-step s past (unasked {h} {q} p) f g = search (g, unasked-runs g h q p)
 
 -- run from fresh, the serial list gives the same hulls and edit numbers, and the replies that its calls had
 pub serial-runs : (cs : List Call) → RunsTo (stateOf cs .register) (serial (eventsOf cs))

@@ -2,7 +2,7 @@
 use Prim.Native.Nat.{ℕ, _≤_, _<_}
 use native.Mathlib.Omega.{arith}
 use mathlib.Core.Path.{_≡_, refl, sym, subst}
-use mathlib.Core.Bool.{Bool, true, false, cond}
+use mathlib.Core.Bool.{Bool, true, false}
 use mathlib.Core.Option.{none, some}
 use mathlib.Core.Logic.{_⊎_, inl, inr}
 use lib.Dec.{ltb, eqb}
@@ -22,10 +22,6 @@ below a b = go (ltb a b) refl
 -- what holds of e and of each other number holds of each number
 pub at-or : (e : ℕ) (P : ℕ → Type 0) → P e → ((d : ℕ) → eqb d e ≡ false → P d) → (d : ℕ) → P d
 at-or e P p q d = elim (same-or-not d e) [ inl h ↦ subst P (sym h) p | inr h ↦ q d (ne-eqb d e h) ]
-
-pub either : {A : Type 0} (b : Bool) (x : A) → cond b x x ≡ x
-either true x = refl
-either false x = refl
 
 pub none≢some : {A : Type 0} {x : A} → none ≡ some x → ⊥
 none≢some e = let z : _≡_ {A = ℕ} 0 1 = cc in omega arith

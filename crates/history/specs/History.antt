@@ -1,29 +1,49 @@
--- 00, demand 3: "Take each accepted save, its open and the calls on that draft between them, trial plates among them, as one block at the save's place. Keep every
--- new-hull, plate and writing call on a hull at its own place and leave out the rest." Histories are newest first. Assumes nothing: these are definitions.
+-- 00, demand 3 (b): an accepted save stands with the open and the calls of its draft as one block, where the save was; new hulls, plates and texts stand where they
+-- were. Histories are newest first. Assumes nothing: these are definitions.
 use Prim.Native.Nat.{ℕ}
-use mathlib.Core.Bool.{cond}
+use mathlib.Core.Bool.{cond, _&&_}
 use mathlib.Core.List.{List, [], _∷_, _++_}
 use lib.Dec.{eqb}
 use Rattle.history.specs.Calls.{newHull, openHull, work, save, drop, ask}
 use Rattle.history.specs.Runs.{Event, _⇒_, accepted}
 
--- the calls on desk d's draft: its own open is the accepted one that made it, and the desk's work and refused saves since belong to it. An accepted save or drop
--- ends it. (Of a desk without a draft this is what it tried in vain since; an accepted open begins anew, so that is never taken.)
+-- what an event is to the draft of desk d: its open, the accepted one that made it; a call on it, be it a trial or a refused save; its end, an accepted save or drop;
+-- or nothing to it, as every call of another desk, a refused open or drop, and all that is asked of hulls
+pub data Role : Type 0 where
+  itsOpen : Role
+  itsCall : Role
+  itsEnd : Role
+  elsewhere : Role
+
+unfoldable pub role : ℕ → Event → Role
+role d (newHull t ⇒ r) = elsewhere
+role d (openHull e h ⇒ r) = cond (eqb d e && accepted r) itsOpen elsewhere
+role d (work e w ⇒ r) = cond (eqb d e) itsCall elsewhere
+role d (save e ⇒ r) = cond (eqb d e) (cond (accepted r) itsEnd itsCall) elsewhere
+role d (drop e ⇒ r) = cond (eqb d e && accepted r) itsEnd elsewhere
+role d (ask h q ⇒ r) = elsewhere
+
+-- the open of desk d's draft and the calls on it. (Of a desk that holds none it is the work and the saves that were refused since its last. The block of its next
+-- draft goes back to that draft's open and no further, so none of them is ever taken.)
 unfoldable pub block : ℕ → List Event → List Event
 block d [] = []
-block d ((newHull t ⇒ r) ∷ past) = block d past
-block d ((openHull e h ⇒ r) ∷ past) = cond (eqb d e) (cond (accepted r) ((openHull e h ⇒ r) ∷ []) (block d past)) (block d past)
-block d ((work e w ⇒ r) ∷ past) = cond (eqb d e) ((work e w ⇒ r) ∷ block d past) (block d past)
-block d ((save e ⇒ r) ∷ past) = cond (eqb d e) (cond (accepted r) [] ((save e ⇒ r) ∷ block d past)) (block d past)
-block d ((drop e ⇒ r) ∷ past) = cond (eqb d e) (cond (accepted r) [] (block d past)) (block d past)
-block d ((ask h q ⇒ r) ∷ past) = block d past
+block d (e ∷ past) = elim (role d e) [ itsOpen ↦ e ∷ [] | itsCall ↦ e ∷ block d past | itsEnd ↦ [] | elsewhere ↦ block d past ]
+
+-- where an event stands in the serial list: at its own place, alone; at its own place, after the block of a desk's draft; or at none, unless it is in a block
+pub data Spot : Type 0 where
+  alone : Spot
+  withBlock : ℕ → Spot
+  nowhere : Spot
+
+unfoldable pub spot : Event → Spot
+spot (newHull t ⇒ r) = alone
+spot (openHull d h ⇒ r) = nowhere
+spot (work d w ⇒ r) = nowhere
+spot (save d ⇒ r) = cond (accepted r) (withBlock d) nowhere
+spot (drop d ⇒ r) = nowhere
+spot (ask h q ⇒ r) = alone
 
 -- the list of demand 3
 unfoldable pub serial : List Event → List Event
 serial [] = []
-serial ((newHull t ⇒ r) ∷ past) = (newHull t ⇒ r) ∷ serial past
-serial ((openHull d h ⇒ r) ∷ past) = serial past
-serial ((work d w ⇒ r) ∷ past) = serial past
-serial ((save d ⇒ r) ∷ past) = cond (accepted r) ((save d ⇒ r) ∷ (block d past ++ serial past)) (serial past)
-serial ((drop d ⇒ r) ∷ past) = serial past
-serial ((ask h q ⇒ r) ∷ past) = (ask h q ⇒ r) ∷ serial past
+serial (e ∷ past) = elim (spot e) [ alone ↦ e ∷ serial past | withBlock d ↦ e ∷ (block d past ++ serial past) | nowhere ↦ serial past ]

@@ -1,4 +1,4 @@
--- 00, demand 3, once more in the order of time: calls and histories oldest first. Assumes nothing: these are definitions.
+-- 00, demand 3, once more with the oldest call first. Assumes nothing: these are definitions.
 use Prim.Native.Nat.{ℕ, _<_}
 use mathlib.Core.Path.{_≡_}
 use mathlib.Core.Bool.{true}

@@ -1,5 +1,5 @@
--- 00, demand 3: "From a fresh register, its memory lent whole to each call and untouched between calls". A run is its calls, newest first; its history is the same
--- calls, each with its reply. Assumes nothing: these are definitions.
+-- 00, demand 3: a run starts from a fresh register, and each call gets the whole memory as the last one left it. A run is its calls, newest first; its history is the
+-- same calls, each with its reply. Assumes nothing: these are definitions.
 use Prim.Native.Nat.{ℕ}
 use mathlib.Core.Bool.{Bool, true, false}
 use mathlib.Core.List.{List, [], _∷_}

@@ -1,6 +1,5 @@
--- What a history tells by itself, with no memory in sight: the draft that a desk holds, the accepted saves of a hull, the sheets. 01, Calls on the register: "A draft
--- starts as its hull's sheet at the opening; an accepted put makes its line the one given, an accepted take off empties its line, an accepted replace makes the sheet
--- that of its text, and no other call changes a draft's sheet." Histories are newest first. Assumes nothing: these are definitions.
+-- What a history tells by itself, with no memory in sight: the draft that a desk holds, the accepted saves of a hull, and the sheet that work makes of a sheet. 01,
+-- Calls on the register. Histories are newest first. Assumes nothing: these are definitions.
 use Prim.Native.Nat.{ℕ, suc, _+_}
 use mathlib.Core.Bool.{Bool, true, false, _&&_, cond}
 use mathlib.Core.List.{List, [], _∷_}
@@ -10,8 +9,18 @@ use lib.ListN.{set}
 use Rattle.register.specs.Refusals.{sheetOf}
 use Rattle.history.specs.Calls.{Work, put, takeOff, replace, tryPlateA, tryPlateC, newHull, openHull, work, save, drop, ask}
 use Rattle.history.specs.Runs.{Event, _⇒_, accepted}
+use Rattle.history.specs.History.{itsOpen, itsCall, itsEnd, elsewhere, role}
 
 -- ---- drafts and saves
+
+-- the hull that an open names; 0 for any other call
+abbrev hullOf : Event → ℕ
+hullOf (newHull t ⇒ r) = 0
+hullOf (openHull d h ⇒ r) = h
+hullOf (work d w ⇒ r) = 0
+hullOf (save d ⇒ r) = 0
+hullOf (drop d ⇒ r) = 0
+hullOf (ask h q ⇒ r) = 0
 
 -- the opening of desk d's draft: its hull, and the history before it; none where the desk's last accepted open was followed by an accepted save or drop
 pub record Opening : Type 0 where
@@ -20,37 +29,37 @@ pub record Opening : Type 0 where
 
 unfoldable pub opening : ℕ → List Event → Option Opening
 opening d [] = none
-opening d ((newHull t ⇒ r) ∷ past) = opening d past
-opening d ((openHull e h ⇒ r) ∷ past) = cond (eqb d e) (cond (accepted r) (some (record { hull = h; before = past })) (opening d past)) (opening d past)
-opening d ((work e w ⇒ r) ∷ past) = opening d past
-opening d ((save e ⇒ r) ∷ past) = cond (eqb d e) (cond (accepted r) none (opening d past)) (opening d past)
-opening d ((drop e ⇒ r) ∷ past) = cond (eqb d e) (cond (accepted r) none (opening d past)) (opening d past)
-opening d ((ask h q ⇒ r) ∷ past) = opening d past
+opening d (e ∷ past) = elim (role d e) [ itsOpen ↦ some (record { hull = hullOf e; before = past }) | itsCall ↦ opening d past | itsEnd ↦ none | elsewhere ↦ opening d past ]
 
 -- whether a draft that was opened so, or none, is of hull h
-abbrev pub isOf : ℕ → Option Opening → Bool
+abbrev isOf : ℕ → Option Opening → Bool
 isOf h none = false
 isOf h (some o) = eqb h (o .hull)
+
+-- whether the event is an accepted save of hull h, after that past
+unfoldable pub isSaveOf : ℕ → Event → List Event → Bool
+isSaveOf h (newHull t ⇒ r) past = false
+isSaveOf h (openHull d k ⇒ r) past = false
+isSaveOf h (work d w ⇒ r) past = false
+isSaveOf h (save d ⇒ r) past = accepted r && isOf h (opening d past)
+isSaveOf h (drop d ⇒ r) past = false
+isSaveOf h (ask k q ⇒ r) past = false
 
 -- how many saves of hull h were accepted
 unfoldable pub savesOf : ℕ → List Event → ℕ
 savesOf h [] = 0
-savesOf h ((newHull t ⇒ r) ∷ past) = savesOf h past
-savesOf h ((openHull d k ⇒ r) ∷ past) = savesOf h past
-savesOf h ((work d w ⇒ r) ∷ past) = savesOf h past
-savesOf h ((save d ⇒ r) ∷ past) = cond (accepted r && isOf h (opening d past)) (suc (savesOf h past)) (savesOf h past)
-savesOf h ((drop d ⇒ r) ∷ past) = savesOf h past
-savesOf h ((ask k q ⇒ r) ∷ past) = savesOf h past
+savesOf h (e ∷ past) = cond (isSaveOf h e past) (suc (savesOf h past)) (savesOf h past)
 
 -- whether hull h has had no accepted save since desk d's last accepted open
 unfoldable pub quietSince : ℕ → ℕ → List Event → Bool
 quietSince d h [] = true
-quietSince d h ((newHull t ⇒ r) ∷ past) = quietSince d h past
-quietSince d h ((openHull e k ⇒ r) ∷ past) = cond (eqb d e && accepted r) true (quietSince d h past)
-quietSince d h ((work e w ⇒ r) ∷ past) = quietSince d h past
-quietSince d h ((save e ⇒ r) ∷ past) = cond (accepted r && isOf h (opening e past)) false (quietSince d h past)
-quietSince d h ((drop e ⇒ r) ∷ past) = quietSince d h past
-quietSince d h ((ask k q ⇒ r) ∷ past) = quietSince d h past
+quietSince d h (e ∷ past) =
+    elim (role d e) [
+      | itsOpen ↦ true
+      | itsCall ↦ cond (isSaveOf h e past) false (quietSince d h past)
+      | itsEnd ↦ cond (isSaveOf h e past) false (quietSince d h past)
+      | elsewhere ↦ cond (isSaveOf h e past) false (quietSince d h past)
+    ]
 
 -- ---- sheets
 
@@ -66,12 +75,16 @@ worked (replace t) s = sheetOf t
 worked tryPlateA s = s
 worked (tryPlateC ps ws) s = s
 
+-- the sheet s after an event: accepted work is done on it, and nothing else changes it
+abbrev did : Event → List ℕ → List ℕ
+did (newHull t ⇒ r) s = s
+did (openHull d h ⇒ r) s = s
+did (work d w ⇒ r) s = cond (accepted r) (worked w s) s
+did (save d ⇒ r) s = s
+did (drop d ⇒ r) s = s
+did (ask h q ⇒ r) s = s
+
 -- the sheet s after the work of a block, oldest first
 unfoldable pub redo : List Event → List ℕ → List ℕ
 redo [] s = s
-redo ((newHull t ⇒ r) ∷ b) s = redo b s
-redo ((openHull d h ⇒ r) ∷ b) s = redo b s
-redo ((work d w ⇒ r) ∷ b) s = cond (accepted r) (worked w (redo b s)) (redo b s)
-redo ((save d ⇒ r) ∷ b) s = redo b s
-redo ((drop d ⇒ r) ∷ b) s = redo b s
-redo ((ask h q ⇒ r) ∷ b) s = redo b s
+redo (e ∷ b) s = did e (redo b s)
