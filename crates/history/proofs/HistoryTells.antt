@@ -16,7 +16,7 @@ use Rattle.history.specs.History.{block, role}
 use Rattle.history.specs.Told.{Opening, opening, isSaveOf, savesOf, redo}
 use Rattle.history.proofs.Tools.{at-or, self, none≢some, some-inj}
 use Rattle.history.proofs.Model.{Draft, State, workSays, but, store, opens, edited, fresh, stateOf, eventsOf}
-use Rattle.history.proofs.Rules.{Steps, enters, unread, full, opened, unknown, open-high, works, work-idle, work-high, saves, spent, stale, save-idle, save-high, drops, drop-idle, drop-high, asks, unasked, each}
+use Rattle.history.proofs.Rules.{Way, new-enters, new-unread, new-full, open-done, open-unknown, open-high, work-done, work-idle, work-high, save-done, save-spent, save-stale, save-idle, save-high, drop-done, drop-idle, drop-high, ask-done, ask-unknown, by-ways}
 use Rattle.history.proofs.Replay.{Drafts, drafts, high-none}
 
 -- ---- what is told
@@ -103,21 +103,21 @@ unsaved : {s : State} {past : List Event} (g n : ℕ) → Tells s past → Tells
 unfolding block opening savesOf isSaveOf role
 unsaved {s} {past} g n f = same _ f (λ h. refl) (at-or g _ (rw (self, block, opening) (drawn-save (block g past) (opening g past) g (says (Refused n)))) (λ d n. rw (n, block, opening)))
 
-tells-step : (s : State) (past : List Event) {c : Call} {t : State} {r : Reply} → stateOf (map call past) ≡ s → Steps s c t r → Drafts s past → Tells s past → Tells t ((c ⇒ r) ∷ past)
+tells-step : (s : State) (past : List Event) {c : Call} {t : State} {r : Reply} → stateOf (map call past) ≡ s → Way s c t r → Drafts s past → Tells s past → Tells t ((c ⇒ r) ∷ past)
 unfolding block opening savesOf isSaveOf role redo
-tells-step s past w (enters k p e) z f =
+tells-step s past w (new-enters k p e) z f =
     record {
       edits = at-or (s .register .entered) _ (rw (self, f .unentered (s .register .entered) (le-refl _))) (λ h n. rw n (f .edits h));
       drafts = f .drafts;
       unentered = λ h l. f .unentered h (omega arith);
     }
-tells-step s past w (unread n at p e) z f = same _ f (λ h. refl) (λ d. refl)
-tells-step s past w (full p) z f = same _ f (λ h. refl) (λ d. refl)
-tells-step s past w (opened {d = g} {h} p q) z f =
+tells-step s past w (new-unread n at p e) z f = same _ f (λ h. refl) (λ d. refl)
+tells-step s past w (new-full p) z f = same _ f (λ h. refl) (λ d. refl)
+tells-step s past w (open-done {d = g} {h} p q) z f =
     record { edits = f .edits; drafts = at-or g _ (rw (self, block, opening) (drawn-opened s past g h (says (Count (s .register .hull h .edits))) w (f .edits h))) (λ d n. rw (n, block, opening) (f .drafts d)); unentered = f .unentered }
-tells-step s past w (unknown {d = g} p q) z f = same _ f (λ h. refl) (λ d. rw (and-false (eqb d g), block, opening))
+tells-step s past w (open-unknown {d = g} p q) z f = same _ f (λ h. refl) (λ d. rw (and-false (eqb d g), block, opening))
 tells-step s past w (open-high {d = g} p) z f = same _ f (λ h. refl) (λ d. rw (and-false (eqb d g), block, opening))
-tells-step s past w (works {d = g} {w = x} y p q) z f =
+tells-step s past w (work-done {d = g} {w = x} y p q) z f =
     record {
       edits = f .edits;
       drafts = at-or g _ (rw (self, block, opening) (sym (drawn-worked (block g past) (opening g past) y g x (sym (f .drafts g) ∙ q)))) (λ d n. rw (n, block, opening) (f .drafts d));
@@ -125,16 +125,16 @@ tells-step s past w (works {d = g} {w = x} y p q) z f =
     }
 tells-step s past w (work-idle {d = g} {w = x} p q) z f = idle g x _ f q
 tells-step s past w (work-high {d = g} {w = x} p) z f = idle g x _ f (high-none s past g p z)
-tells-step s past w (saves {d = g} y p q u l) z f = tells-saves s past g y _ q (z g y q .hull) f
-tells-step s past w (spent {d = g} y p q u l) z f = unsaved g 9 f
-tells-step s past w (stale {d = g} y p q u) z f = unsaved g 8 f
+tells-step s past w (save-done {d = g} y p q u l) z f = tells-saves s past g y _ q (z g y q .hull) f
+tells-step s past w (save-spent {d = g} y p q u l) z f = unsaved g 9 f
+tells-step s past w (save-stale {d = g} y p q u) z f = unsaved g 8 f
 tells-step s past w (save-idle {d = g} p q) z f = unsaved g 7 f
 tells-step s past w (save-high {d = g} p) z f = unsaved g 6 f
-tells-step s past w (drops {d = g} y p q) z f = record { edits = f .edits; drafts = at-or g _ (rw (self, block, opening)) (λ d n. rw (n, block, opening) (f .drafts d)); unentered = f .unentered }
+tells-step s past w (drop-done {d = g} y p q) z f = record { edits = f .edits; drafts = at-or g _ (rw (self, block, opening)) (λ d n. rw (n, block, opening) (f .drafts d)); unentered = f .unentered }
 tells-step s past w (drop-idle {d = g} p q) z f = same _ f (λ h. refl) (λ d. rw (and-false (eqb d g), block, opening))
 tells-step s past w (drop-high {d = g} p) z f = same _ f (λ h. refl) (λ d. rw (and-false (eqb d g), block, opening))
-tells-step s past w (asks p) z f = same _ f (λ h. refl) (λ d. refl)
-tells-step s past w (unasked p) z f = same _ f (λ h. refl) (λ d. refl)
+tells-step s past w (ask-done p) z f = same _ f (λ h. refl) (λ d. refl)
+tells-step s past w (ask-unknown p) z f = same _ f (λ h. refl) (λ d. refl)
 
 -- ---- every run
 
@@ -147,4 +147,4 @@ pub history-tells : (cs : List Call) → Tells (stateOf cs) (eventsOf cs)
 unfolding stateOf eventsOf fresh block opening savesOf
 history-tells [] = record { edits = λ h. refl; drafts = λ d. refl; unentered = λ h l. refl }
 history-tells (c ∷ cs) =
-    each (stateOf cs) c (λ t r. Tells t ((c ⇒ r) ∷ eventsOf cs)) (λ t r p. tells-step (stateOf cs) (eventsOf cs) (ap stateOf (its-calls cs)) p (drafts cs) (history-tells cs))
+    by-ways (stateOf cs) c (λ t r. Tells t ((c ⇒ r) ∷ eventsOf cs)) (λ t r p. tells-step (stateOf cs) (eventsOf cs) (ap stateOf (its-calls cs)) p (drafts cs) (history-tells cs))

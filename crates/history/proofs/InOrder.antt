@@ -75,7 +75,7 @@ module _ (m : List ℕ) (z : length m ≡ registerWords) where
   unfolding after
   save-does-in-order cs d = rw (← newest-last m cs, ← newest-first m cs) (λ u. rw (oldest-last m (map call (u .draft .before))) (save-does m z (reverse cs) d u))
 
-  -- At any time the edit number of every hull is its count of accepted saves.
+  -- Edit numbers count accepted saves.
   pub edits-count-in-order : (cs : List Call) (h : ℕ) → h < count (lastly (freshMemory m) cs) → edit (lastly (freshMemory m) cs) h ≡ savesOf h (reverse (transcript (freshMemory m) cs))
   edits-count-in-order cs h = rw (← newest-last m cs, ← newest-first m cs) (edits-count m z (reverse cs) h)
 

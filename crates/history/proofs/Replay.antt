@@ -20,17 +20,17 @@ use Rattle.history.specs.History.{block, role}
 use Rattle.history.proofs.Tools.{at-or, self, none≢some, some-inj}
 use Rattle.history.proofs.Blocks.{saveless}
 use Rattle.history.proofs.Model.{Draft, Register, State, Outcome, workSays, store, opens, edited, fresh, stateOf, eventsOf}
-use Rattle.history.proofs.Rules.{Steps, enters, unread, full, opened, unknown, open-high, works, work-idle, work-high, saves, spent, stale, save-idle, save-high, drops, drop-idle, drop-high, asks, unasked, sound, each}
+use Rattle.history.proofs.Rules.{Way, new-enters, new-unread, new-full, open-done, open-unknown, open-high, work-done, work-idle, work-high, save-done, save-spent, save-stale, save-idle, save-high, drop-done, drop-idle, drop-high, ask-done, ask-unknown, way-taken, by-ways}
 
 -- ---- a rule, as what it adds to a run
 
-pub state-by : (cs : List Call) {c : Call} {t : State} {r : Reply} → Steps (stateOf cs) c t r → stateOf (c ∷ cs) ≡ t
+pub state-by : (cs : List Call) {c : Call} {t : State} {r : Reply} → Way (stateOf cs) c t r → stateOf (c ∷ cs) ≡ t
 unfolding stateOf
-state-by cs p = ap (λ (o : Outcome). o .state) (sound (stateOf cs) p)
+state-by cs p = ap (λ (o : Outcome). o .state) (way-taken (stateOf cs) p)
 
-pub events-by : (cs : List Call) {c : Call} {t : State} {r : Reply} → Steps (stateOf cs) c t r → eventsOf (c ∷ cs) ≡ (c ⇒ r) ∷ eventsOf cs
+pub events-by : (cs : List Call) {c : Call} {t : State} {r : Reply} → Way (stateOf cs) c t r → eventsOf (c ∷ cs) ≡ (c ⇒ r) ∷ eventsOf cs
 unfolding eventsOf
-events-by cs {c} p = ap (λ (o : Outcome). (c ⇒ o .reply) ∷ eventsOf cs) (sound (stateOf cs) p)
+events-by cs {c} p = ap (λ (o : Outcome). (c ⇒ o .reply) ∷ eventsOf cs) (way-taken (stateOf cs) p)
 
 -- ---- a block run again
 
@@ -61,7 +61,7 @@ lost Q c r l never g = record { desk = r .desk; hull = omega (arith, r .hull); g
 opened-replays : (R : Register) (d h : ℕ) (cs : List Call) → d < desks → h < stateOf cs .register .entered → stateOf cs .register .hull h ≡ R .hull h
     → Replays d (opens R h) ((openHull d h ⇒ says (Count (R .hull h .edits))) ∷ []) cs
 opened-replays R d h cs p l e =
-    record { replies = rw (events-by cs (opened p l), e); register = rw (state-by cs (opened p l)); draft = rw (state-by cs (opened p l), self, e) }
+    record { replies = rw (events-by cs (open-done p l), e); register = rw (state-by cs (open-done p l)); draft = rw (state-by cs (open-done p l), self, e) }
 
 opened-ready : (R : Register) (d h : ℕ) → d < desks → h < R .entered → Ready R d (opens R h) ((openHull d h ⇒ says (Count (R .hull h .edits))) ∷ [])
 unfolding saveless
@@ -71,9 +71,9 @@ opened-ready R d h p q = record { desk = p; hull = q; grown = le-refl _; clean =
 worked-replays : {d : ℕ} {x : Draft} {b : List Event} {cs : List Call} (w : Work) → d < desks → Replays d x b cs → Replays d (edited w x) ((work d w ⇒ workSays w (x .sheet)) ∷ b) cs
 worked-replays {x} {b} {cs} w p r =
     record {
-      replies = rw (events-by (map call b ++ cs) (works {w = w} x p (r .draft)), r .replies);
-      register = rw (state-by (map call b ++ cs) (works {w = w} x p (r .draft))) (r .register);
-      draft = rw (state-by (map call b ++ cs) (works {w = w} x p (r .draft)), self);
+      replies = rw (events-by (map call b ++ cs) (work-done {w = w} x p (r .draft)), r .replies);
+      register = rw (state-by (map call b ++ cs) (work-done {w = w} x p (r .draft))) (r .register);
+      draft = rw (state-by (map call b ++ cs) (work-done {w = w} x p (r .draft)), self);
     }
 
 worked-ready : {R : Register} {d : ℕ} {x : Draft} {b : List Event} (w : Work) → Ready R d x b → Ready R d (edited w x) ((work d w ⇒ workSays w (x .sheet)) ∷ b)
@@ -93,36 +93,36 @@ store-ready {R} {x} {b} y r =
 abbrev pub Drafts : State → List Event → Type 0
 Drafts s past = (d : ℕ) (x : Draft) → s .draft d ≡ some x → Ready (s .register) d x (block d past)
 
-ready-step : (s : State) (past : List Event) {c : Call} {t : State} {r : Reply} → Steps s c t r → Drafts s past → Drafts t ((c ⇒ r) ∷ past)
+ready-step : (s : State) (past : List Event) {c : Call} {t : State} {r : Reply} → Way s c t r → Drafts s past → Drafts t ((c ⇒ r) ∷ past)
 unfolding block role
-ready-step s past (enters k p e) f = λ d x e. let z = f d x e in kept _ z (omega arith) (rw (ne-eqb (x .hull) (s .register .entered) (omega (arith, z .hull))))
-ready-step s past (unread n at p e) f = f
-ready-step s past (full p) f = f
-ready-step s past (opened {d = g} {h} p q) f =
+ready-step s past (new-enters k p e) f = λ d x e. let z = f d x e in kept _ z (omega arith) (rw (ne-eqb (x .hull) (s .register .entered) (omega (arith, z .hull))))
+ready-step s past (new-unread n at p e) f = f
+ready-step s past (new-full p) f = f
+ready-step s past (open-done {d = g} {h} p q) f =
     at-or g _ (λ x e. let u : opens (s .register) h ≡ x = some-inj (rw self at e) in rw (self, block, ← u) (opened-ready (s .register) g h p q)) (λ d n x e. rw (n, block) (f d x (rw n at e)))
-ready-step s past (unknown {d = g} p q) f = λ d x e. rw (and-false (eqb d g), block) (f d x e)
+ready-step s past (open-unknown {d = g} p q) f = λ d x e. rw (and-false (eqb d g), block) (f d x e)
 ready-step s past (open-high {d = g} p) f = λ d x e. rw (and-false (eqb d g), block) (f d x e)
-ready-step s past (works {d = g} {w} y p q) f =
+ready-step s past (work-done {d = g} {w} y p q) f =
     at-or g _ (λ x e. let u : edited w y ≡ x = some-inj (rw self at e) in rw (self, block, ← u) (worked-ready w (f g y q))) (λ d n x e. rw (n, block) (f d x (rw n at e)))
 ready-step s past (work-idle {d = g} p q) f = at-or g _ (λ x e. absurd (none≢some (sym q ∙ e))) (λ d n x e. rw (n, block) (f d x e))
 ready-step s past (work-high {d = g} p) f = at-or g _ (λ x e. let z = f g x e in absurd (omega (arith, z .desk))) (λ d n x e. rw (n, block) (f d x e))
-ready-step s past (saves {d = g} y p q u l) f = at-or g _ (λ x e. absurd (none≢some (rw self at e))) (λ d n x e. rw (n, block) (store-ready y (f d x (rw n at e))))
-ready-step s past (spent {d = g} y p q u l) f =
+ready-step s past (save-done {d = g} y p q u l) f = at-or g _ (λ x e. absurd (none≢some (rw self at e))) (λ d n x e. rw (n, block) (store-ready y (f d x (rw n at e))))
+ready-step s past (save-spent {d = g} y p q u l) f =
     at-or g _ (λ x e. let v : y ≡ x = some-inj (sym q ∙ e) in let z = f g x e in rw (self, block) (lost _ _ z (le-refl _) (λ a b. b (rw v at l)) (z .grown))) (λ d n x e. rw (n, block) (f d x e))
-ready-step s past (stale {d = g} y p q u) f =
+ready-step s past (save-stale {d = g} y p q u) f =
     at-or g _ (λ x e. let v : y ≡ x = some-inj (sym q ∙ e) in let z = f g x e in rw (self, block) (lost _ _ z (le-refl _) (λ a b. (rw v at u) a) (z .grown))) (λ d n x e. rw (n, block) (f d x e))
 ready-step s past (save-idle {d = g} p q) f = at-or g _ (λ x e. absurd (none≢some (sym q ∙ e))) (λ d n x e. rw (n, block) (f d x e))
 ready-step s past (save-high {d = g} p) f = at-or g _ (λ x e. let z = f g x e in absurd (omega (arith, z .desk))) (λ d n x e. rw (n, block) (f d x e))
-ready-step s past (drops {d = g} y p q) f = at-or g _ (λ x e. absurd (none≢some (rw self at e))) (λ d n x e. rw (n, block) (f d x (rw n at e)))
+ready-step s past (drop-done {d = g} y p q) f = at-or g _ (λ x e. absurd (none≢some (rw self at e))) (λ d n x e. rw (n, block) (f d x (rw n at e)))
 ready-step s past (drop-idle {d = g} p q) f = at-or g _ (λ x e. absurd (none≢some (sym q ∙ e))) (λ d n x e. rw (n, block) (f d x e))
 ready-step s past (drop-high {d = g} p) f = at-or g _ (λ x e. let z = f g x e in absurd (omega (arith, z .desk))) (λ d n x e. rw (n, block) (f d x e))
-ready-step s past (asks p) f = f
-ready-step s past (unasked p) f = f
+ready-step s past (ask-done p) f = f
+ready-step s past (ask-unknown p) f = f
 
 pub drafts : (cs : List Call) → Drafts (stateOf cs) (eventsOf cs)
 unfolding stateOf eventsOf fresh
 drafts [] = λ d x e. absurd (none≢some e)
-drafts (c ∷ cs) = each (stateOf cs) c (λ t r. Drafts t ((c ⇒ r) ∷ eventsOf cs)) (λ t r p. ready-step (stateOf cs) (eventsOf cs) p (drafts cs))
+drafts (c ∷ cs) = by-ways (stateOf cs) c (λ t r. Drafts t ((c ⇒ r) ∷ eventsOf cs)) (λ t r p. ready-step (stateOf cs) (eventsOf cs) p (drafts cs))
 
 -- a desk above 7 holds none
 pub high-none : (s : State) (past : List Event) (g : ℕ) → desks ≤ g → Drafts s past → s .draft g ≡ none

@@ -14,7 +14,7 @@ use Rattle.history.specs.Told.{Opening, opening, savesOf, quietSince}
 use Rattle.history.specs.Demand.{Due}
 use Rattle.history.proofs.Blocks.{saveless}
 use Rattle.history.proofs.Model.{Draft, State, but, store, step, stateOf, eventsOf}
-use Rattle.history.proofs.Rules.{editsOf, Steps, saves, spent, stale, save-idle, save-high, each}
+use Rattle.history.proofs.Rules.{editsOf, Way, save-done, save-spent, save-stale, save-idle, save-high, by-ways}
 use Rattle.history.proofs.Replay.{Drafts, drafts}
 use Rattle.history.proofs.Quiet.{still-quiet, quiet-still}
 use Rattle.history.proofs.HistoryTells.{draftOf, draftFrom, Tells, From, drawn, history-tells}
@@ -25,28 +25,28 @@ use Rattle.history.proofs.HistoryTells.{draftOf, draftFrom, Tells, From
 abbrev Few : State → Type 0
 Few s = (h : ℕ) → h < s .register .entered → s .register .hull h .edits ≤ mostEdits
 
-due : (s : State) (past : List Event) (d : ℕ) {t : State} {r : Reply} → Steps s (save d) t r → Tells s past → ((x : Draft) → s .draft d ≡ some x → editsOf s x ≤ mostEdits) → accepted r ≡ true → Due d past
-due s past d (saves y p q u n) f few a =
+due : (s : State) (past : List Event) (d : ℕ) {t : State} {r : Reply} → Way s (save d) t r → Tells s past → ((x : Draft) → s .draft d ≡ some x → editsOf s x ≤ mostEdits) → accepted r ≡ true → Due d past
+due s past d (save-done y p q u n) f few a =
     let z : From (block d past) (opening d past) y = drawn (block d past) (opening d past) y (sym (f .drafts d) ∙ q) in
     let o : Opening = z .from in
     let h : o .hull ≡ y .hull = ap (λ (x : Draft). x .hull) (z .draft) in
     let k : savesOf (o .hull) (o .before) ≡ y .opening = ap (λ (x : Draft). x .opening) (z .draft) in
     let e : editsOf s y ≡ savesOf (o .hull) past = rw h (f .edits (y .hull)) in
     record { draft = o; holds = z .is; quiet = still-quiet d (o .hull) past o (z .is) (sym e ∙ u ∙ sym k); room = omega (arith, few y q, n, e) }
-due s past d (spent y p q u n) f few a = absurd (false≢true a)
-due s past d (stale y p q u) f few a = absurd (false≢true a)
+due s past d (save-spent y p q u n) f few a = absurd (false≢true a)
+due s past d (save-stale y p q u) f few a = absurd (false≢true a)
 due s past d (save-idle p q) f few a = absurd (false≢true a)
 due s past d (save-high p) f few a = absurd (false≢true a)
 
 pub save-only : (cs : List Call) (d : ℕ) → Few (stateOf cs) → accepted (step (stateOf cs) (save d) .reply) ≡ true → Due d (eventsOf cs)
 save-only cs d few =
-    each (stateOf cs) (save d) (λ t r. accepted r ≡ true → Due d (eventsOf cs))
+    by-ways (stateOf cs) (save d) (λ t r. accepted r ≡ true → Due d (eventsOf cs))
     (λ t r p. due (stateOf cs) (eventsOf cs) d p (history-tells cs) (λ x q. few (x .hull) (drafts cs d x q .hull)))
 
 -- ---- where it is due, the rule that it takes
 
 pub record Saved (s : State) (past : List Event) (d : ℕ) (o : Opening) : Type 0 where
-  pub rule : Steps s (save d) (record { register = store (s .register) (draftOf (block d past) o); draft = but (s .draft) d none }) (says (Count (suc (editsOf s (draftOf (block d past) o)))))
+  pub rule : Way s (save d) (record { register = store (s .register) (draftOf (block d past) o); draft = but (s .draft) d none }) (says (Count (suc (editsOf s (draftOf (block d past) o)))))
   pub count : editsOf s (draftOf (block d past) o) ≡ savesOf (o .hull) past
   pub known : o .hull < s .register .entered
 
@@ -57,16 +57,16 @@ save-taken cs d o e q l =
     let y : Draft = draftOf (block d past) o in
     let x : stateOf cs .draft d ≡ some y = f .drafts d ∙ ap (draftFrom (block d past)) e in
     let n : editsOf (stateOf cs) y ≡ savesOf (o .hull) past = f .edits (o .hull) in
-    record { rule = saves y (drafts cs d y x .desk) x (n ∙ quiet-still d (o .hull) past o e q) (λ k. omega (arith, n, k)); count = n; known = drafts cs d y x .hull }
+    record { rule = save-done y (drafts cs d y x .desk) x (n ∙ quiet-still d (o .hull) past o e q) (λ k. omega (arith, n, k)); count = n; known = drafts cs d y x .hull }
 
 -- ---- no refused save among the calls taken
 
-clean : (s : State) (past : List Event) (d : ℕ) {t : State} {r : Reply} → Steps s (save d) t r → Drafts s past → accepted r ≡ true → saveless (block d past) ≡ true
-clean s past d (saves x p q u n) f a = f d x q .clean u n
-clean s past d (spent x p q u n) f a = absurd (false≢true a)
-clean s past d (stale x p q u) f a = absurd (false≢true a)
+clean : (s : State) (past : List Event) (d : ℕ) {t : State} {r : Reply} → Way s (save d) t r → Drafts s past → accepted r ≡ true → saveless (block d past) ≡ true
+clean s past d (save-done x p q u n) f a = f d x q .clean u n
+clean s past d (save-spent x p q u n) f a = absurd (false≢true a)
+clean s past d (save-stale x p q u) f a = absurd (false≢true a)
 clean s past d (save-idle p q) f a = absurd (false≢true a)
 clean s past d (save-high p) f a = absurd (false≢true a)
 
 pub taken-clean : (cs : List Call) (d : ℕ) → accepted (step (stateOf cs) (save d) .reply) ≡ true → saveless (block d (eventsOf cs)) ≡ true
-taken-clean cs d = each (stateOf cs) (save d) (λ t r. accepted r ≡ true → saveless (block d (eventsOf cs)) ≡ true) (λ t r p. clean (stateOf cs) (eventsOf cs) d p (drafts cs))
+taken-clean cs d = by-ways (stateOf cs) (save d) (λ t r. accepted r ≡ true → saveless (block d (eventsOf cs)) ≡ true) (λ t r p. clean (stateOf cs) (eventsOf cs) d p (drafts cs))

@@ -17,7 +17,7 @@ use Rattle.history.specs.Demand.{Due, SaveDoes, Gives, Demand}
 use Rattle.history.proofs.Tools.{self}
 use Rattle.history.proofs.Blocks.{Whole, block-whole, saveless}
 use Rattle.history.proofs.Model.{Register, State, Outcome, stateOf, eventsOf}
-use Rattle.history.proofs.Rules.{sound}
+use Rattle.history.proofs.Rules.{way-taken}
 use Rattle.history.proofs.Replay.{state-by}
 use Rattle.history.proofs.Serial.{serial-runs}
 use Rattle.history.proofs.Shown.{shown-few, there-few}
@@ -30,7 +30,7 @@ module _ (m : List ℕ) (z : length m ≡ registerWords) where
   pub run-formed : (cs : List Call) → formed (after m cs) ≡ true
   run-formed cs = run-shows m z cs .ok
 
-  -- The edit number of every hull is its count of accepted saves.
+  -- Edit numbers count accepted saves.
   pub edits-count : (cs : List Call) (h : ℕ) → h < count (after m cs) → edit (after m cs) h ≡ savesOf h (history m cs)
   edits-count cs h l =
       let S = run-shows m z cs in
@@ -53,7 +53,7 @@ module _ (m : List ℕ) (z : length m ≡ registerWords) where
       let k = shown-few S (y .known) in
       let next = state-by cs (y .rule) in
       record {
-        answer = ap (λ (r : Reply). r .answer) (run-replies m z cs (save d) ∙ ap (λ (x : Outcome). x .reply) (sound (stateOf cs) (y .rule))) ∙ rw (run-history m z cs, y .count) refl;
+        answer = ap (λ (r : Reply). r .answer) (run-replies m z cs (save d) ∙ ap (λ (x : Outcome). x .reply) (way-taken (stateOf cs) (y .rule))) ∙ rw (run-history m z cs, y .count) refl;
         number = rw (run-history m z cs) (T .numbers (o .hull) k ∙ rw (next, self, y .count) refl);
         sheet = rw (run-history m z cs, run-shows m z (map call (o .before)) .sheets (o .hull) k) (T .sheets (o .hull) k ∙ rw (next, self) refl);
         hulls = T .counts ∙ ap (λ (s : State). s .register .entered) next ∙ sym (S .counts);
@@ -69,7 +69,7 @@ module _ (m : List ℕ) (z : length m ≡ registerWords) where
       let room = u .room in
       save-taken cs d (u .draft) (rw e at holds) (rw e at quiet) (rw e at room)
 
-  -- A save is accepted exactly when its desk holds a draft, the hull has had no accepted save since that draft was opened, and it has had fewer than 65,535.
+  -- A save is accepted exactly when the history says that it is due.
   pub save-iff : (cs : List Call) (d : ℕ) → (accepted (reply (after m cs) (save d)) ≡ true) ↔ Due d (history m cs)
   save-iff cs d =
       (λ a. rw (run-history m z cs) (save-only cs d (few cs) (rw (run-replies m z cs (save d)) at a)), λ u. ap taken (save-due-does cs d (u .draft) (due-taken cs d u) .answer))
@@ -90,7 +90,7 @@ module _ (m : List ℕ) (z : length m ≡ registerWords) where
 
   -- ---- (b) the list of demand 3
 
-  -- Run from fresh, the serial list of a history gives the same hulls, the same edit numbers and the same reply to every call kept.
+  -- The serial list of a history, run from fresh: its calls reply as they did, and it leaves the hulls as they were left, edit numbers too.
   pub serial-gives : (cs : List Call) → Gives m (serial (history m cs)) (after m cs)
   serial-gives cs =
       let ks : List Call = map call (serial (eventsOf cs)) in

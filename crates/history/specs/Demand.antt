@@ -14,7 +14,7 @@ use Rattle.history.specs.Runs.{Event, call, after, history, accepted}
 use Rattle.history.specs.History.{block, serial}
 use Rattle.history.specs.Told.{Opening, opening, savesOf, quietSince, redo}
 
--- (a) a save by desk d is due: the desk holds a draft, the hull has had no accepted save since that draft was opened, and has had fewer than 65,535
+-- (a) a save by desk d is due: there is a draft, no save of its hull was accepted after its open, and 65,535 of them were not yet
 pub record Due (d : ℕ) (past : List Event) : Type 0 where
   pub draft : Opening
   pub holds : opening d past ≡ some draft
@@ -24,7 +24,7 @@ pub record Due (d : ℕ) (past : List Event) : Type 0 where
 -- (a) what an accepted save by desk d, of the draft opened as o says, does: by the history and the memory before it, the memory at the opening, its answer, and the
 -- memory after it
 pub record SaveDoes (d : ℕ) (o : Opening) (past : List Event) (opened before : List ℕ) (said : Answer) (saved : List ℕ) : Type 0 where
-  -- it answers the hull's edit number, which is its count of accepted saves
+  -- it answers the edit number that the hull now has, and that counts the accepted saves
   pub answer : said ≡ Count (suc (savesOf (o .hull) past))
   pub number : edit saved (o .hull) ≡ suc (savesOf (o .hull) past)
   -- the hull holds its sheet at the opening with the draft's accepted work done on it, in order, and nothing else
@@ -46,7 +46,7 @@ pub record Gives (m : List ℕ) (es : List Event) (r : List ℕ) : Type 0 where
 
 -- the demand, of a memory that was m before its fresh start, and of any calls after it, newest first
 pub record Demand (m : List ℕ) : Type 0 where
-  -- (a) a save is accepted exactly when it is due, and then does so; and at any time a hull's edit number is its count of accepted saves
+  -- (a) accepted is what is due and nothing else, and it does so; and edit numbers count accepted saves at any time
   pub accepts : (cs : List Call) (d : ℕ) → (accepted (reply (after m cs) (save d)) ≡ true) ↔ Due d (history m cs)
   pub saves : (cs : List Call) (d : ℕ) (u : Due d (history m cs))
       → SaveDoes d (u .draft) (history m cs) (after m (map call (u .draft .before))) (after m cs) (reply (after m cs) (save d) .answer) (after m (save d ∷ cs))

@@ -22,7 +22,7 @@ hullOf (save d ⇒ r) = 0
 hullOf (drop d ⇒ r) = 0
 hullOf (ask h q ⇒ r) = 0
 
--- the opening of desk d's draft: its hull, and the history before it; none where the desk's last accepted open was followed by an accepted save or drop
+-- how desk d's draft was opened: which hull, and what had happened by then; a desk that holds no draft has none
 pub record Opening : Type 0 where
   pub hull : ℕ
   pub before : List Event
@@ -45,7 +45,7 @@ isSaveOf h (save d ⇒ r) past = accepted r && isOf h (opening d past)
 isSaveOf h (drop d ⇒ r) past = false
 isSaveOf h (ask k q ⇒ r) past = false
 
--- how many saves of hull h were accepted
+-- the accepted saves of hull h, counted
 unfoldable pub savesOf : ℕ → List Event → ℕ
 savesOf h [] = 0
 savesOf h (e ∷ past) = cond (isSaveOf h e past) (suc (savesOf h past)) (savesOf h past)
