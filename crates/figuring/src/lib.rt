@@ -1,5 +1,6 @@
 // Plates A and C, worked from the 68 words of a sheet that is within the limits.
 ghost use mathlib.Core.Path.{_≡_};
+ghost use mathlib.Core.Bool.{cond};
 ghost use mathlib.Core.List.{[]};
 ghost use Prim.Native.Nat.{_+_, _*_, _≤_, _<_, min};
 ghost use lib.IntN.{subℕ};
@@ -9,7 +10,7 @@ ghost use Rattle.plates.specs.Words.{aft, well, flooding, fuel, machinery};
 ghost use Rattle.plates.specs.Volume.{product, summed, volumeN, gram};
 ghost use Rattle.plates.specs.Weights.{sum, boatM};
 ghost use Rattle.plates.specs.PlateC.{markedC, rowFits, rising, rowsRight, wantsRow, rowFor, noRow, engineWeight, persons, untested, plateC};
-ghost use Rattle.plates.specs.PlateA.{markedA, factorP, tableEnd, rowWatts, beforeWatts, raised, formulaWatts, powerA, noPower, plateA};
+ghost use Rattle.plates.specs.PlateA.{markedA, factorP, tableEnd, rowOf, rowWatts, beforeWatts, raised, formulaWatts, powerA, noPower, plateA};
 ghost use Rattle.plates.specs.Bounds.{Readings, Stations, Weights, Bounds};
 use sheet::Answer;
 use sheet::ENGINE_POWER_HIGH;
@@ -339,42 +340,36 @@ fn is_untested(sheet: &[u32], gross: u64, engine: u64) -> bool
 // Square millimetres up to which plate A's power goes by the table.
 const TABLE_END: u64 = 5_000_000;
 
-// Watts by the table's row for a power factor.
-fn row_watts(p: u64) -> u64
-    ensures { λ r. ⌜ r ≡ rowWatts p ⌝ }
+const FIRST_ROW: u64 = 2_250_000;
+
+// The row of the power table for a power factor that is not above its end.
+fn table_row(p: u64) -> usize
+    requires { ⌜ p ≤ tableEnd ⌝ }
+    ensures { λ r. ⌜ r ≡ rowOf p ⌝ }
 {
-    if p <= 2_250_000 {
-        1500
+    if p <= FIRST_ROW {
+        0
     } else if p <= 3_300_000 {
-        3000
+        1
     } else if p <= 3_600_000 {
-        4000
+        2
     } else if p <= 3_900_000 {
-        5250
+        3
     } else if p <= 4_200_000 {
-        7500
+        4
     } else {
-        12000
+        5
     }
 }
 
-// Watts by the row before that one, or 0 where there is none.
-fn before_watts(p: u64) -> u64
-    ensures { λ r. ⌜ r ≡ beforeWatts p ⌝ }
+// Watts of the table's row for a power factor, or of the row before it; before the first there is none, and 0 stands for its watts.
+fn row_watts(p: u64, before: bool) -> u64
+    requires { ⌜ p ≤ tableEnd ⌝ }
+    ensures { λ r. ⌜ r ≡ cond before (beforeWatts p) (rowWatts p) ⌝ }
 {
-    if p <= 2_250_000 {
-        0
-    } else if p <= 3_300_000 {
-        1500
-    } else if p <= 3_600_000 {
-        3000
-    } else if p <= 3_900_000 {
-        4000
-    } else if p <= 4_200_000 {
-        5250
-    } else {
-        7500
-    }
+    let watts = [0, 1500, 3000, 4000, 5250, 7500, 12000];
+    let row = table_row(p);
+    if before { watts[row] } else { watts[row + 1] }
 }
 
 // The least multiple of 5000 that is not below watts / scale.
@@ -411,9 +406,9 @@ fn power_a(sheet: &[u32]) -> u64
     } else if TABLE_END < p {
         formula_watts(sheet, p)
     } else if sheet[FLAT] == 1 && p < TABLE_END {
-        before_watts(p)
+        row_watts(p, true)
     } else {
-        row_watts(p)
+        row_watts(p, false)
     }
 }
 
@@ -425,7 +420,7 @@ fn no_power(sheet: &[u32]) -> bool
     let p = wide(sheet[LENGTH]) * wide(sheet[WIDTH]);
     if sheet[OUTBOARD] == 1 {
         if sheet[FLAT] == 1 {
-            p <= 2_250_000
+            p <= FIRST_ROW
         } else {
             false
         }

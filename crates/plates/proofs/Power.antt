@@ -1,14 +1,17 @@
 -- Plate A's power, by the case that the code finds. Assumes nothing.
 use mathlib.Core.Path.{_≡_, refl, sym, ap, _∙_}
 use mathlib.Core.Bool.{Bool, true, false, _&&_, cond}
-use mathlib.Core.List.{List}
-use Prim.Native.Nat.{ℕ, _-_, _*_, _≤_, _<_}
+use mathlib.Core.List.{List, [], _∷_}
+use Prim.Native.Nat.{ℕ, zero, suc, _-_, _*_, _≤_, _<_}
 use native.Mathlib.Nat.{mul-le-mul}
 use native.Mathlib.Omega.{arith}
-use borrow.Author.Tests.{lt-ltb, le-ltb}
+use borrow.Author.Tests.{lt-ltb, le-ltb, le-leb, lt-leb, leb-true, ne-eqb}
+use Rattle.text.proofs.Number.{both-hold}
 use lib.Dec.{eqb, leb, ltb}
+use lib.ListN.{length, getD}
 use Rattle.plates.specs.Words.{hullLength, transomWidth, transomHeight, flat, remote, outboard}
-use Rattle.plates.specs.PlateA.{factorP, tableEnd, rowWatts, beforeWatts, raised, formulaWatts, powerA, noPower}
+use Rattle.plates.specs.PlateC.{rowFor}
+use Rattle.plates.specs.PlateA.{factorP, tableEnd, tableEnds, tableWatts, rowOf, rowWatts, beforeWatts, raised, formulaWatts, powerA, noPower}
 use Rattle.plates.specs.Bounds.{Bounds}
 
 pub first-fails : {a : Bool} (b : Bool) → a ≡ false → (a && b) ≡ false
@@ -58,10 +61,39 @@ pub by-row : (s : List ℕ) {p : ℕ} → p ≡ factorP s → eqb (outboard s) 0
 unfolding powerA
 by-row s {p} e a h b = rw (a, sym (ap (ltb tableEnd) e) ∙ le-ltb tableEnd p h, sym (ap (λ (x : ℕ). eqb (flat s) 1 && ltb x tableEnd) e) ∙ b) (ap rowWatts e)
 
+-- ---- the row of the table
+
+pub row-stops : (p e : ℕ) (ends : List ℕ) → p ≤ e → 0 ≡ rowFor p (e ∷ ends)
+unfolding rowFor
+row-stops p e ends h = rw (le-leb p e h, rowFor) refl
+
+pub row-skips : {k : ℕ} (p e : ℕ) (ends : List ℕ) → e < p → k ≡ rowFor p ends → suc k ≡ rowFor p (e ∷ ends)
+unfolding rowFor
+row-skips p e ends h q = rw (lt-leb p e h, rowFor) (ap suc q)
+
+-- a row that reaches is not passed over
+row-within : (p : ℕ) (ends : List ℕ) (k : ℕ) → k < length ends → p ≤ getD ends k 0 → rowFor p ends ≤ k
+unfolding rowFor
+row-within p [] k h l = absurd (omega arith)
+row-within p (e ∷ ends) zero h l = omega (arith, row-stops p e ends l)
+row-within p (e ∷ ends) (suc k) h l = go (leb p e) (row-within p ends k (omega arith) l)
+  where
+    go : (t : Bool) → rowFor p ends ≤ k → elim t [ true ↦ 0 | false ↦ suc (rowFor p ends) ] ≤ suc k
+    go true i = omega arith
+    go false i = omega arith
+
+pub row-in : (p : ℕ) → p ≤ tableEnd → rowOf p ≤ 5
+row-in p h = row-within p tableEnds 5 (omega arith) h
+
 -- ---- no power, and a power that fits 32 bits
 
 pub first-row : (s : List ℕ) {p : ℕ} → p ≡ factorP s → eqb (outboard s) 1 ≡ true → eqb (flat s) 1 ≡ true → leb p 2250000 ≡ noPower s
-first-row s e a b = rw (a, b) (ap (λ (x : ℕ). leb x 2250000) e)
+unfolding rowFor
+first-row s {p} e a b = rw (a, b, ← e) (go (leb p 2250000) _)
+  where
+    go : (t : Bool) (k : ℕ) → t ≡ eqb (elim t [ true ↦ 0 | false ↦ suc k ]) 0
+    go true k = refl
+    go false k = sym (ne-eqb (suc k) 0 (λ z. omega arith))
 
 either : (t : Bool) {a b n : ℕ} → a ≤ n → b ≤ n → cond t a b ≤ n
 either true h k = h
@@ -71,16 +103,20 @@ formula-most : (s : List ℕ) → factorP s ≤ 18000000 → formulaWatts s ≤ 
 unfolding formulaWatts
 formula-most s h = either (eqb (remote s) 1 && leb 500 (transomHeight s)) (omega arith) (either (eqb (flat s) 1) (omega arith) (omega arith))
 
-row-most : (p : ℕ) → rowWatts p ≤ 300000
-unfolding rowWatts
-row-most p = either (leb p 2250000) (omega arith) (either (leb p 3300000) (omega arith) (either (leb p 3600000) (omega arith) (either (leb p 3900000) (omega arith) (either (leb p 4200000) (omega arith) (omega arith)))))
+abbrev allMost : List ℕ → ℕ → Bool
+allMost [] n = true
+allMost (x ∷ l) n = leb x n && allMost l n
 
-before-most : (p : ℕ) → beforeWatts p ≤ 300000
-unfolding beforeWatts
-before-most p = either (leb p 2250000) (omega arith) (either (leb p 3300000) (omega arith) (either (leb p 3600000) (omega arith) (either (leb p 3900000) (omega arith) (either (leb p 4200000) (omega arith) (omega arith)))))
+getD-most : (l : List ℕ) (n : ℕ) → allMost l n ≡ true → (k : ℕ) → getD l k 0 ≤ n
+getD-most [] n e k = omega arith
+getD-most (x ∷ l) n e zero = leb-true x n (both-hold (leb x n) (allMost l n) e .0)
+getD-most (x ∷ l) n e (suc k) = getD-most l n (both-hold (leb x n) (allMost l n) e .1) k
+
+watts-most : (k : ℕ) → getD tableWatts k 0 ≤ 300000
+watts-most = getD-most tableWatts 300000 refl
 
 pub power-most : (s : List ℕ) → Bounds s → powerA s ≤ 300000
 unfolding powerA
 power-most s b =
     either (eqb (outboard s) 0) (omega arith)
-    (either (ltb tableEnd (factorP s)) (formula-most s (factor-most s b refl refl)) (either (eqb (flat s) 1 && ltb (factorP s) tableEnd) (before-most (factorP s)) (row-most (factorP s))))
+    (either (ltb tableEnd (factorP s)) (formula-most s (factor-most s b refl refl)) (either (eqb (flat s) 1 && ltb (factorP s) tableEnd) (watts-most (rowOf (factorP s))) (watts-most (suc (rowOf (factorP s))))))

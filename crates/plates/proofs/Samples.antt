@@ -30,11 +30,11 @@ further =
     ∷ []
 
 starred : all-stand cases ≡ true
-unfolding all-stand stands cases holds-of answer-c marks agrees refuses second-is seated load power inboard words allHold sheetLimits limitsOn product volumeN netZ sum boatM exactX markedC rising rowsRight rowFor noRow engineWeight liveLoad persons untested plateC inboardX loadX markedA rowWatts beforeWatts formulaWatts powerA plateA
+unfolding all-stand stands cases holds-of answer-c marks agrees refuses second-is seated load power inboard words allHold sheetLimits limitsOn product volumeN netZ sum boatM exactX markedC rising rowsRight rowFor noRow engineWeight liveLoad persons untested plateC inboardX loadX markedA formulaWatts powerA plateA
 starred = refl
 
 our-own : all-stand further ≡ true
-unfolding all-stand stands further holds-of answer-c marks agrees refuses second-is seated load power inboard words allHold sheetLimits limitsOn product volumeN netZ sum boatM exactX markedC rising rowsRight rowFor noRow engineWeight liveLoad persons untested plateC inboardX loadX markedA rowWatts beforeWatts formulaWatts powerA plateA
+unfolding all-stand stands further holds-of answer-c marks agrees refuses second-is seated load power inboard words allHold sheetLimits limitsOn product volumeN netZ sum boatM exactX markedC rising rowsRight rowFor noRow engineWeight liveLoad persons untested plateC inboardX loadX markedA formulaWatts powerA plateA
 our-own = refl
 
 -- ---- what the cases above leave open, since their stations and depths are alike
@@ -50,5 +50,5 @@ ends = 2250000 ∷ 2250001 ∷ 3300000 ∷ 3300001 ∷ 3600000 ∷ 3600001 ∷ 3
 
 rows-right : (map rowWatts ends ≡ 1500 ∷ 3000 ∷ 3000 ∷ 4000 ∷ 4000 ∷ 5250 ∷ 5250 ∷ 7500 ∷ 7500 ∷ 12000 ∷ 12000 ∷ [])
     × (map beforeWatts ends ≡ 0 ∷ 1500 ∷ 1500 ∷ 3000 ∷ 3000 ∷ 4000 ∷ 4000 ∷ 5250 ∷ 5250 ∷ 7500 ∷ 7500 ∷ [])
-unfolding ends rowWatts beforeWatts
+unfolding ends rowFor
 rows-right = (refl, refl)

@@ -1,8 +1,9 @@
 -- 01, Plate A (003, A2, A3, 2.6.1). Load first, then power, then the two refusals, 12 before 13. Assumes nothing: these are definitions.
-use Prim.Native.Nat.{ℕ, _+_, _-_, _*_}
+use Prim.Native.Nat.{ℕ, suc, _+_, _-_, _*_}
 use mathlib.Core.Bool.{Bool, _&&_, cond}
-use mathlib.Core.List.{List}
+use mathlib.Core.List.{List, [], _∷_}
 use lib.Dec.{eqb, leb, ltb}
+use lib.ListN.{getD}
 use lib.IntN.{ℤ, pos, _+ℤ_, _-ℤ_, _*ℤ_}
 use Rattle.sheet.specs.declared.Answer.{Answer}
 use Rattle.sheet.specs.declared.Answer.the-variants.{Refused, Plate}
@@ -10,7 +11,7 @@ use Rattle.plates.specs.Whole.{floorDiv, ceilDiv, isBelow, whole}
 use Rattle.plates.specs.Words.{hullLength, transomWidth, transomHeight, flat, remote, fuel, machinery, outboard}
 use Rattle.plates.specs.Volume.{gram, netZ}
 use Rattle.plates.specs.Weights.{boatM}
-use Rattle.plates.specs.PlateC.{exactX, markedKilo}
+use Rattle.plates.specs.PlateC.{exactX, markedKilo, rowFor}
 
 -- ---- load
 
@@ -37,18 +38,23 @@ factorP s = hullLength s * transomWidth s
 abbrev pub tableEnd : ℕ
 tableEnd = 5000000
 
--- the table: each row up to and including a P, and the watts of the first row that P is not above
-abbrev pub firstRow : ℕ
-firstRow = 2250000
+-- the table: what P each row goes up to, and its watts; before the first row there is none, and 0 stands for its watts
+abbrev pub tableEnds : List ℕ
+tableEnds = 2250000 ∷ 3300000 ∷ 3600000 ∷ 3900000 ∷ 4200000 ∷ tableEnd ∷ []
 
-unfoldable pub rowWatts : ℕ → ℕ
-rowWatts p =
-    cond (leb p firstRow) 1500 (cond (leb p 3300000) 3000 (cond (leb p 3600000) 4000 (cond (leb p 3900000) 5250 (cond (leb p 4200000) 7500 12000))))
+abbrev pub tableWatts : List ℕ
+tableWatts = 0 ∷ 1500 ∷ 3000 ∷ 4000 ∷ 5250 ∷ 7500 ∷ 12000 ∷ []
 
--- the watts of the row before that one; before the first there is none, and 0 stands for it
-unfoldable pub beforeWatts : ℕ → ℕ
-beforeWatts p =
-    cond (leb p firstRow) 0 (cond (leb p 3300000) 1500 (cond (leb p 3600000) 3000 (cond (leb p 3900000) 4000 (cond (leb p 4200000) 5250 7500))))
+-- the first row that P is not above, found as an engine's row is
+abbrev pub rowOf : ℕ → ℕ
+rowOf p = rowFor p tableEnds
+
+-- the watts of that row, and of the row before it
+abbrev pub rowWatts : ℕ → ℕ
+rowWatts p = getD tableWatts (suc (rowOf p)) 0
+
+abbrev pub beforeWatts : ℕ → ℕ
+beforeWatts p = getD tableWatts (rowOf p) 0
 
 -- a / d watts, up to a multiple of 5000; what is one already stays
 abbrev pub raised : ℕ → ℕ → ℕ
@@ -70,7 +76,7 @@ powerA s =
 
 -- a flat outboard that P puts in the first row can be given no power
 abbrev pub noPower : List ℕ → Bool
-noPower s = eqb (outboard s) 1 && (eqb (flat s) 1 && leb (factorP s) firstRow)
+noPower s = eqb (outboard s) 1 && (eqb (flat s) 1 && eqb (rowOf (factorP s)) 0)
 
 -- ---- the plate
 

@@ -14,7 +14,7 @@ use Rattle.sheet.specs.Engines.{readRows, readEngines}
 use Rattle.plates.specs.Volume.{product, volumeN, netZ}
 use Rattle.plates.specs.Weights.{sum, boatM}
 use Rattle.plates.specs.PlateC.{exactX, markedC, rising, rowsRight, rowFor, noRow, engineWeight, liveLoad, persons, untested, plateC}
-use Rattle.plates.specs.PlateA.{inboardX, loadX, markedA, rowWatts, beforeWatts, formulaWatts, powerA, plateA}
+use Rattle.plates.specs.PlateA.{inboardX, loadX, markedA, formulaWatts, powerA, plateA}
 use Rattle.printout.specs.Input.{sheetBytes}
 use Rattle.printout.specs.Printed.{platesText, rowsPrinted, printed}
 
@@ -56,7 +56,7 @@ inputs-right :
     ∷ bytes "INPUT\t2\n" ∷ bytes "INPUT\t3\n"
     ∷ bytes "INPUT\t3\n" ∷ bytes "INPUT\t2\n"
     ∷ []
-unfolding inputs withBoat printed rowsPrinted platesText sheetBytes readSheet readLines readLine agreed readNumbers readEntry fieldOf numberOf restOf readRest readFits readEnd readEngines readRows numbersText digitsOf digitsIn product volumeN netZ sum boatM exactX markedC rising rowsRight rowFor noRow engineWeight liveLoad persons untested plateC inboardX loadX markedA rowWatts beforeWatts formulaWatts powerA plateA
+unfolding inputs withBoat printed rowsPrinted platesText sheetBytes readSheet readLines readLine agreed readNumbers readEntry fieldOf numberOf restOf readRest readFits readEnd readEngines readRows numbersText digitsOf digitsIn product volumeN netZ sum boatM exactX markedC rising rowsRight rowFor noRow engineWeight liveLoad persons untested plateC inboardX loadX markedA formulaWatts powerA plateA
 inputs-right = refl
 
 -- ---- where the sheet ends

@@ -40,11 +40,11 @@ formula-watts-requires c κs =
 shared-slice-read-if3 : tie.Need-shared-slice-read-if3
 shared-slice-read-if3 c = search needs
 
-before-watts-requires : tie.Need-before-watts-requires
-before-watts-requires c κs = search needs
-
 row-watts-requires : tie.Need-row-watts-requires
 row-watts-requires c κs = search needs
+
+row-watts-requires-2 : tie.Need-row-watts-requires-2
+row-watts-requires-2 c κs = search needs
 
 returns : tie.Need-returns
 returns c =
@@ -65,7 +65,7 @@ returns-3 c =
     let at-wide2 = c .before .before .before .before .before .before .before in
     let at-if1 = c .before .before .before .before .before in
     let at-if2 = c .before .before .before .before in
-    c .before-watts .ensures ∙ by-row-before (start .args .sheet .now) (factor-is (start .args .sheet .now) (at-wide .wide .ensures) (at-wide2 .wide2 .ensures)) (ne-eqb _ _ (at-if1 .if1 .left)) (at-if2 .if2 .left) (eq-eqb _ _ (c .before .before .if3 .taken)) (c .before .if4 .taken)
+    c .row-watts .ensures ∙ by-row-before (start .args .sheet .now) (factor-is (start .args .sheet .now) (at-wide .wide .ensures) (at-wide2 .wide2 .ensures)) (ne-eqb _ _ (at-if1 .if1 .left)) (at-if2 .if2 .left) (eq-eqb _ _ (c .before .before .if3 .taken)) (c .before .if4 .taken)
 
 returns-4 : tie.Need-returns-4
 returns-4 c =
@@ -74,7 +74,7 @@ returns-4 c =
     let at-wide2 = c .before .before .before .before .before .before in
     let at-if1 = c .before .before .before .before in
     let at-if2 = c .before .before .before in
-    c .row-watts .ensures ∙ by-row (start .args .sheet .now) (factor-is (start .args .sheet .now) (at-wide .wide .ensures) (at-wide2 .wide2 .ensures)) (ne-eqb _ _ (at-if1 .if1 .left)) (at-if2 .if2 .left) (elim (c .before .if3 .came) [ inl x ↦ second-fails (eqb (flat (start .args .sheet .now)) 1) (x .1 .left) | inr x ↦ first-fails _ (ne-eqb _ _ (x .left)) ])
+    c .row-watts2 .ensures ∙ by-row (start .args .sheet .now) (factor-is (start .args .sheet .now) (at-wide .wide .ensures) (at-wide2 .wide2 .ensures)) (ne-eqb _ _ (at-if1 .if1 .left)) (at-if2 .if2 .left) (elim (c .before .if3 .came) [ inl x ↦ second-fails (eqb (flat (start .args .sheet .now)) 1) (x .1 .left) | inr x ↦ first-fails _ (ne-eqb _ _ (x .left)) ])
 
 pub power-a-spec : {M : Type 1} → statement M
 power-a-spec =
@@ -88,8 +88,8 @@ power-a-spec =
     shared-slice-read-if1
     formula-watts-requires
     shared-slice-read-if3
-    before-watts-requires
     row-watts-requires
+    row-watts-requires-2
     returns
     returns-2
     returns-3

@@ -1,44 +1,48 @@
 -- `row_watts` meets its contract. Assumes nothing.
-use mathlib.Core.Path.{refl}
-use borrow.Author.Tests.{le-leb, lt-leb}
-use Rattle.plates.specs.PlateA.{rowWatts}
+use mathlib.Core.Path.{ap, _∙_}
+use Prim.Native.Nat.{ℕ, suc}
+use native.Mathlib.Numerals.{add-one}
+use native.Mathlib.Omega.{arith}
+use lib.ListN.{getD}
+use borrow.Author.Needs.{needs}
+use Rattle.plates.specs.PlateA.{tableWatts}
+use Rattle.plates.proofs.Power.{row-in}
 use Rattle.figuring.proofs.row_watts.Statement.{statement}
 use Rattle.figuring.proofs.row_watts.Tie as tie
 
+table-row-requires : tie.Need-table-row-requires
+table-row-requires c κs = search needs
+
+mul-result : tie.Need-mul-result
+mul-result c = omega (arith, row-in (c .before .before .args .p) (c .before .before .pre), c .before .table-row .ensures)
+
+array-read-result : tie.Need-array-read-result
+array-read-result c = omega (arith, row-in (c .before .before .args .p) (c .before .before .pre), c .before .table-row .ensures)
+
+add-result : tie.Need-add-result
+add-result c = omega (arith, row-in (c .before .before .args .p) (c .before .before .pre), c .before .table-row .ensures)
+
+mul-result-2 : tie.Need-mul-result-2
+mul-result-2 c = omega (arith, row-in (c .before .before .args .p) (c .before .before .pre), c .before .table-row .ensures)
+
+array-read-result-2 : tie.Need-array-read-result-2
+array-read-result-2 c = omega (arith, row-in (c .before .before .args .p) (c .before .before .pre), c .before .table-row .ensures)
+
 returns : tie.Need-returns
-unfolding rowWatts
-returns c = rw (le-leb _ _ (c .if1 .taken)) refl
+returns c = rw (c .if1 .taken) (ap (λ (k : ℕ). getD tableWatts k 0) (c .before .table-row .ensures))
 
 returns-2 : tie.Need-returns-2
-unfolding rowWatts
-returns-2 c = rw (lt-leb _ _ (c .before .if1 .left), le-leb _ _ (c .if2 .taken)) refl
-
-returns-3 : tie.Need-returns-3
-unfolding rowWatts
-returns-3 c = rw (lt-leb _ _ (c .before .before .if1 .left), lt-leb _ _ (c .before .if2 .left), le-leb _ _ (c .if3 .taken)) refl
-
-returns-4 : tie.Need-returns-4
-unfolding rowWatts
-returns-4 c =
-    let at-if2 = c .before .before in
-    let at-if1 = c .before .before .before in
-    rw (lt-leb _ _ (at-if1 .if1 .left), lt-leb _ _ (at-if2 .if2 .left), lt-leb _ _ (c .before .if3 .left), le-leb _ _ (c .if4 .taken)) refl
-
-returns-5 : tie.Need-returns-5
-unfolding rowWatts
-returns-5 c =
-    let at-if3 = c .before .before in
-    let at-if1 = c .before .before .before .before in
-    let at-if2 = c .before .before .before in
-    rw (lt-leb _ _ (at-if1 .if1 .left), lt-leb _ _ (at-if2 .if2 .left), lt-leb _ _ (at-if3 .if3 .left), lt-leb _ _ (c .before .if4 .left), le-leb _ _ (c .if5 .taken)) refl
-
-returns-6 : tie.Need-returns-6
-unfolding rowWatts
-returns-6 c =
-    let at-if3 = c .before .before in
-    let at-if1 = c .before .before .before .before in
-    let at-if2 = c .before .before .before in
-    rw (lt-leb _ _ (at-if1 .if1 .left), lt-leb _ _ (at-if2 .if2 .left), lt-leb _ _ (at-if3 .if3 .left), lt-leb _ _ (c .before .if4 .left), lt-leb _ _ (c .if5 .left)) refl
+returns-2 c = rw (c .if1 .left) (ap (λ (k : ℕ). getD tableWatts k 0) (add-one _ ∙ ap suc (c .before .table-row .ensures)))
 
 pub row-watts-spec : {M : Type 1} → statement M
-row-watts-spec = tie.close (tie.spec returns returns-2 returns-3 returns-4 returns-5 returns-6)
+row-watts-spec =
+    tie.close
+    (tie.spec
+    table-row-requires
+    mul-result
+    array-read-result
+    add-result
+    mul-result-2
+    array-read-result-2
+    returns
+    returns-2)
