@@ -4,12 +4,12 @@ ghost use Prim.Native.Nat.{_+_, _<_};
 ghost use lib.ListN.{length};
 ghost use Rattle.sheet.specs.Sheet.{sheetWords, textWords, wordsOk, sheetOk};
 ghost use Rattle.checking.specs.Part.{wordRows, stationAt, partOk, WordPart, AlikePart};
-use sheet::FITTINGS;
+use sheet::FITTED;
 use sheet::LIMITS;
 use sheet::SHEET_WORDS;
 use text::Limit;
 
-// Where lines start among the words, after FORM: the four stations, VOL, MASS, and the fittings.
+// Where lines start among the words, after FORM: the four stations, VOL, MASS.
 const STATION_Q: usize = 6;
 
 const STATION_WORDS: usize = 7;
@@ -19,8 +19,6 @@ const STATIONS: usize = 4;
 const VOL: usize = STATION_Q + STATIONS * STATION_WORDS;
 
 const MASS: usize = VOL + 3;
-
-const FITTED: usize = SHEET_WORDS - FITTINGS;
 
 // Whether the words from a place up to an end are within their limits.
 fn part_ok(limits: &[Limit], words: &[u32], at: usize, end: usize) -> bool

@@ -15,6 +15,7 @@ ghost use Rattle.plates.specs.Bounds.{Readings, Stations, Weights, Bounds};
 use sheet::Answer;
 use sheet::ENGINE_POWER_HIGH;
 use sheet::ENGINE_WEIGHT_HIGH;
+use sheet::FITTED;
 use sheet::MOST_ROWS;
 
 // Where the words of a sheet stand.
@@ -52,12 +53,10 @@ const POSITIONS: usize = 42;
 
 const TESTED: usize = 43;
 
-const FITTED: usize = 44;
-
 // Declared watts up to which the gross load of plate C is three tenths, not a fifth.
 const LOW_POWER: u32 = 1500;
 
-// Grams of water times 180000, and a fifth of a kilogram of them.
+// A gram as Z counts it, and what X has for each kilogram of marked load.
 const GRAM: u64 = 180_000;
 
 const MARKED_KILO: u64 = 5 * 1000 * GRAM;

@@ -18,7 +18,8 @@ use Rattle.register.specs.Refusals.{orRefused, sheetOf, onText}
 use Rattle.register.specs.Drafts.{putOwn}
 use Rattle.history.specs.Calls.{Work, put, takeOff, replace, tryPlateA, tryPlateC, Ask, plateA, plateC, write, Call, newHull, openHull, work, save, drop, ask, Reply, says}
 use Rattle.history.specs.Runs.{Event, _⇒_, accepted}
-use Rattle.history.specs.Told.{lineWord, worked}
+use Rattle.sheet.specs.Sheet.{fittingWord}
+use Rattle.history.specs.Told.{worked}
 
 pub record Hull : Type 0 where
   pub sheet : List ℕ
@@ -45,7 +46,7 @@ pub record Outcome : Type 0 where
 
 -- take off: 3 for the line number, then 17 where the line is empty
 abbrev pub takeFrom : List ℕ → ℕ → ℕ
-takeFrom s line = cond (leb 1 line && leb line fittings) (cond (eqb (getD s (lineWord line) 0) 0) 17 0) 3
+takeFrom s line = cond (leb 1 line && leb line fittings) (cond (eqb (getD s (fittingWord line) 0) 0) 17 0) 3
 
 -- work on a draft whose sheet is s: the reply, and the sheet after it
 unfoldable pub workSays : Work → List ℕ → Reply

@@ -6,6 +6,7 @@ use mathlib.Core.List.{List, [], _∷_}
 use mathlib.Core.Option.{Option, none, some}
 use lib.Dec.{eqb}
 use lib.ListN.{set}
+use Rattle.sheet.specs.Sheet.{fittingWord}
 use Rattle.register.specs.Refusals.{sheetOf}
 use Rattle.history.specs.Calls.{Work, put, takeOff, replace, tryPlateA, tryPlateC, newHull, openHull, work, save, drop, ask}
 use Rattle.history.specs.Runs.{Event, _⇒_, accepted}
@@ -54,23 +55,15 @@ savesOf h (e ∷ past) = cond (isSaveOf h e past) (suc (savesOf h past)) (savesO
 unfoldable pub quietSince : ℕ → ℕ → List Event → Bool
 quietSince d h [] = true
 quietSince d h (e ∷ past) =
-    elim (role d e) [
-      | itsOpen ↦ true
-      | itsCall ↦ cond (isSaveOf h e past) false (quietSince d h past)
-      | itsEnd ↦ cond (isSaveOf h e past) false (quietSince d h past)
-      | elsewhere ↦ cond (isSaveOf h e past) false (quietSince d h past)
-    ]
+    let quiet = cond (isSaveOf h e past) false (quietSince d h past) in
+    elim (role d e) [ itsOpen ↦ true | itsCall ↦ quiet | itsEnd ↦ quiet | elsewhere ↦ quiet ]
 
 -- ---- sheets
 
--- the word of a sheet that holds the weight on a fitting line
-abbrev pub lineWord : ℕ → ℕ
-lineWord line = 43 + line
-
 -- the sheet s after a piece of work that was accepted
 abbrev pub worked : Work → List ℕ → List ℕ
-worked (put line weight) s = set s (lineWord line) weight
-worked (takeOff line) s = set s (lineWord line) 0
+worked (put line weight) s = set s (fittingWord line) weight
+worked (takeOff line) s = set s (fittingWord line) 0
 worked (replace t) s = sheetOf t
 worked tryPlateA s = s
 worked (tryPlateC ps ws) s = s

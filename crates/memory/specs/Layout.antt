@@ -3,7 +3,7 @@
 use Prim.Native.Nat.{ℕ, _+_, _*_}
 use mathlib.Core.List.{List}
 use lib.ListN.{getD, take, drop}
-use Rattle.sheet.specs.Sheet.{sheetWords}
+use Rattle.sheet.specs.Sheet.{sheetWords, fittingWord}
 
 abbrev pub mostHulls : ℕ
 mostHulls = 16
@@ -54,6 +54,6 @@ opening m d = getD m (draftAt d + 2) 0
 abbrev pub draftSheet : List ℕ → ℕ → List ℕ
 draftSheet m d = part m (draftAt d + 3) sheetWords
 
--- the word of fitting line 1..24 of a desk's draft: the sheet's fittings are its last words
+-- where the weight on a fitting line of a desk's draft stands
 abbrev pub fittingAt : ℕ → ℕ → ℕ
-fittingAt d line = draftAt d + 3 + (43 + line)
+fittingAt d line = draftAt d + 3 + fittingWord line

@@ -1,5 +1,6 @@
 // What the register's memory is, when it is well formed and how calls change it: definitions in specs/, laws in proofs/, and the layout's numbers for the code,
 // which is the crates judging and keeping.
+use sheet::FITTED;
 use sheet::SHEET_WORDS;
 
 pub const MOST_HULLS: usize = 16;
@@ -20,4 +21,4 @@ pub const REGISTER_WORDS: usize = DRAFTS + DRAFT_WORDS * DESKS;
 pub const MOST_EDITS: u32 = 65_535;
 
 // The words of a sheet before fitting line 1, less one, since lines are counted from 1.
-pub const FITTINGS_BEFORE: usize = 43;
+pub const FITTINGS_BEFORE: usize = FITTED - 1;

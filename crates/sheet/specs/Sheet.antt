@@ -17,6 +17,10 @@ sheetWords = 68
 abbrev pub textWords : ℕ
 textWords = 1 + sheetWords
 
+-- the word that holds the weight on fitting line 1..24: the fittings are the last words
+abbrev pub fittingWord : ℕ → ℕ
+fittingWord line = 43 + line
+
 -- the limits of the numbers on ls, one line after the other
 unfoldable pub limitsOn : List Line → List Limit
 limitsOn [] = []

@@ -14,6 +14,9 @@ pub const FITTINGS: usize = 24;
 
 pub const LINE_WORDS: usize = TEXT_WORDS - FITTINGS;
 
+// Where the fittings start among the words that the register holds.
+pub const FITTED: usize = SHEET_WORDS - FITTINGS;
+
 // The greatest line number and weight of a fitting, and the greatest power and weight of an engine.
 pub const FITTING_LINES: u32 = 24;
 
