@@ -7,5 +7,6 @@ pub mod Within
 pub mod Rounding
 pub mod Persons
 pub mod Engines
+pub mod RowsRead
 pub mod Answers
 pub mod Samples
