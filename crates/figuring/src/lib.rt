@@ -11,7 +11,7 @@ ghost use Rattle.plates.specs.Volume.{product, summed, volumeN, gram};
 ghost use Rattle.plates.specs.Weights.{sum, boatM};
 ghost use Rattle.plates.specs.PlateC.{markedC, rowFits, rising, rowsRight, wantsRow, rowFor, noRow, engineWeight, persons, untested, plateC};
 ghost use Rattle.plates.specs.PlateA.{markedA, factorP, tableEnd, rowOf, rowWatts, beforeWatts, raised, formulaWatts, powerA, noPower, plateA};
-ghost use Rattle.plates.specs.Bounds.{Readings, Stations, Weights, Bounds};
+ghost use Rattle.plates.specs.Bounds.{Readings, Stations, Weights, Bounds, heaviest};
 use sheet::Answer;
 use sheet::ENGINE_POWER_HIGH;
 use sheet::ENGINE_WEIGHT_HIGH;
@@ -164,13 +164,20 @@ fn boat_of(sheet: &[u32]) -> u64
     wide(sheet[BARE]) + fittings_weight(&sheet[FITTED..])
 }
 
-// What takes from the load. The tanks and machinery count so many times.
-fn loss_of(sheet: &[u32], times: u64) -> u64
-    requires { ⌜ Bounds (now sheet) × (times ≤ 5) ⌝ }
-    ensures { λ r. ⌜ r ≡ gram * (well (now (sheet .entry)) + flooding (now (sheet .entry)) + boatM (now (sheet .entry)) + times * (fuel (now (sheet .entry)) + machinery (now (sheet .entry)))) ⌝ }
+// The tanks with fuel and the machinery.
+fn carried_of(sheet: &[u32]) -> u64
+    requires { ⌜ Bounds (now sheet) ⌝ }
+    ensures { λ r. ⌜ r ≡ fuel (now (sheet .entry)) + machinery (now (sheet .entry)) ⌝ }
 {
-    let carried = wide(sheet[FUEL]) + wide(sheet[MACHINERY]);
-    GRAM * (wide(sheet[WELL]) + wide(sheet[FLOODING]) + boat_of(sheet) + times * carried)
+    wide(sheet[FUEL]) + wide(sheet[MACHINERY])
+}
+
+// What takes from the load, of a boat that is taken to weigh so many grams.
+fn loss_of(sheet: &[u32], weight: u64) -> u64
+    requires { ⌜ Bounds (now sheet) × (weight ≤ heaviest) ⌝ }
+    ensures { λ r. ⌜ r ≡ gram * (well (now (sheet .entry)) + flooding (now (sheet .entry)) + weight) ⌝ }
+{
+    GRAM * (wide(sheet[WELL]) + wide(sheet[FLOODING]) + weight)
 }
 
 // The kilograms that plate C marks, or 0 where there are none.
@@ -179,7 +186,7 @@ fn marked_c(sheet: &[u32]) -> u64
     ensures { λ r. ⌜ r ≡ whole (markedC (now (sheet .entry))) ⌝ }
 {
     let gain = gain_of(sheet);
-    let loss = loss_of(sheet, 1);
+    let loss = loss_of(sheet, boat_of(sheet) + carried_of(sheet));
     if LOW_POWER < sheet[DECLARED] {
         whole_part(gain, loss, MARKED_KILO)
     } else {
@@ -187,16 +194,18 @@ fn marked_c(sheet: &[u32]) -> u64
     }
 }
 
-// The kilograms that plate A marks, or 0 where there are none: half a kilogram is added, so that a half goes upward.
+// The kilograms that plate A marks, or 0 where there are none: half a kilogram is added, so that a half goes upward. An inboard's tanks and machinery count five times.
 fn marked_a(sheet: &[u32]) -> u64
     requires { ⌜ Bounds (now sheet) ⌝ }
     ensures { λ r. ⌜ r ≡ whole (markedA (now (sheet .entry))) ⌝ }
 {
     let gain = gain_of(sheet) + HALF_MARKED;
+    let boat = boat_of(sheet);
+    let carried = carried_of(sheet);
     if sheet[OUTBOARD] == 1 {
-        whole_part(gain, loss_of(sheet, 1), MARKED_KILO)
+        whole_part(gain, loss_of(sheet, boat + carried), MARKED_KILO)
     } else {
-        whole_part(gain, loss_of(sheet, 5), MARKED_KILO)
+        whole_part(gain, loss_of(sheet, boat + 5 * carried), MARKED_KILO)
     }
 }
 

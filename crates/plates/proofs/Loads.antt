@@ -7,7 +7,7 @@ use native.Mathlib.Nat.{mul-le-mul, mul-div-le, le-trans}
 use native.Mathlib.Omega.{arith}
 use lib.Dec.{eqb, ltb}
 use borrow.Author.Tests.{lt-ltb, le-ltb, ltb-true, ltb-false}
-use lib.IntN.{pos, subℕ, _+ℤ_, _*ℤ_}
+use lib.IntN.{pos, subℕ, _+ℤ_, _-ℤ_, _*ℤ_}
 use lib.ListN.{length, getD}
 use Rattle.plates.specs.Whole.{floorDiv, whole}
 use Rattle.plates.specs.Words.{reference, station, aft, well, flooding, bare, fuel, machinery, outboard, declared, fittingsOf}
@@ -15,7 +15,7 @@ use Rattle.plates.specs.Volume.{product, summed, volumeN, gram, netZ}
 use Rattle.plates.specs.Weights.{sum, boatM}
 use Rattle.plates.specs.PlateC.{exactX, markedC, lowPower, markedKilo}
 use Rattle.plates.specs.PlateA.{halfMarked, inboardX, loadX, markedA}
-use Rattle.plates.specs.Bounds.{Bounds}
+use Rattle.plates.specs.Bounds.{Bounds, heaviest}
 use Rattle.plates.proofs.Whole.{Differ, of-pos, of-sub, sum-of, less-of, times-of, is-sub}
 use Rattle.plates.proofs.Volume.{product-most}
 
@@ -24,46 +24,49 @@ use Rattle.plates.proofs.Volume.{product-most}
 abbrev pub gain : List ℕ → ℕ
 gain s = volumeN s + gram * aft s
 
--- the tanks and machinery count k times: once, or five times for an inboard's plate A
+-- of a boat that is taken to weigh w grams
 abbrev pub loss : ℕ → List ℕ → ℕ
-loss k s = gram * (well s + flooding s + boatM s + k * (fuel s + machinery s))
+loss w s = gram * (well s + flooding s + w)
 
 net : (s : List ℕ) → Differ (netZ s) (volumeN s + gram * (aft s + 0 + 0)) (0 + gram * (0 + well s + flooding s))
 unfolding netZ
 net s = sum-of (of-pos (volumeN s)) (times-of gram (less-of (less-of (of-pos (aft s)) (of-pos (well s))) (of-pos (flooding s))))
 
-exact-is : (s : List ℕ) → exactX s ≡ subℕ (gain s) (loss 1 s)
+pub net-less : (s : List ℕ) (w : ℕ) → netZ s -ℤ pos gram *ℤ pos w ≡ subℕ (gain s) (loss w s)
+net-less s w = is-sub (gain s) (loss w s) (less-of (net s) (times-of gram (of-pos w))) (omega arith)
+
+exact-is : (s : List ℕ) {w : ℕ} → w ≡ boatM s + (fuel s + machinery s) → exactX s ≡ subℕ (gain s) (loss w s)
 unfolding exactX
-exact-is s = is-sub (gain s) (loss 1 s) (less-of (net s) (times-of gram (of-pos (boatM s + fuel s + machinery s)))) (omega arith)
+exact-is s {w} e = let f : w ≡ boatM s + fuel s + machinery s = omega (arith, e) in rw f (net-less s (boatM s + fuel s + machinery s))
 
-inboard-is : (s : List ℕ) → inboardX s ≡ subℕ (gain s) (loss 5 s)
+inboard-is : (s : List ℕ) {w : ℕ} → w ≡ boatM s + 5 * (fuel s + machinery s) → inboardX s ≡ subℕ (gain s) (loss w s)
 unfolding inboardX
-inboard-is s = is-sub (gain s) (loss 5 s) (less-of (less-of (net s) (times-of gram (of-pos (boatM s)))) (times-of (5 * gram) (of-pos (fuel s + machinery s)))) (omega arith)
+inboard-is s {w} e = is-sub (gain s) (loss w s) (less-of (less-of (net s) (times-of gram (of-pos (boatM s)))) (times-of (5 * gram) (of-pos (fuel s + machinery s)))) (omega (arith, e))
 
--- three times a difference, and a difference with a number added
-thrice : (a b : ℕ) → pos 3 *ℤ subℕ a b ≡ subℕ (3 * a) (3 * b)
-thrice a b = is-sub (3 * a) (3 * b) (times-of 3 (of-sub a b)) (omega arith)
+-- a multiple of a difference, and a difference with a number added
+pub times-sub : (k a b : ℕ) → pos k *ℤ subℕ a b ≡ subℕ (k * a) (k * b)
+times-sub k a b = is-sub (k * a) (k * b) (times-of k (of-sub a b)) refl
 
 added : (a b c : ℕ) → subℕ a b +ℤ pos c ≡ subℕ (a + c) b
 added a b c = is-sub (a + c) b (sum-of (of-sub a b) (of-pos c)) (omega arith)
 
 -- ---- the marked loads, by the case that the code finds
 
-pub marked-high : (s : List ℕ) → lowPower < declared s → whole (floorDiv (subℕ (gain s) (loss 1 s)) markedKilo) ≡ whole (markedC s)
+pub marked-high : (s : List ℕ) {w : ℕ} → w ≡ boatM s + (fuel s + machinery s) → lowPower < declared s → whole (floorDiv (subℕ (gain s) (loss w s)) markedKilo) ≡ whole (markedC s)
 unfolding markedC
-marked-high s h = rw (lt-ltb lowPower (declared s) h, exact-is s) refl
+marked-high s {w} q h = rw (lt-ltb lowPower (declared s) h, exact-is s q) refl
 
-pub marked-low : (s : List ℕ) → declared s ≤ lowPower → whole (floorDiv (subℕ (3 * gain s) (3 * loss 1 s)) (2 * markedKilo)) ≡ whole (markedC s)
+pub marked-low : (s : List ℕ) {w : ℕ} → w ≡ boatM s + (fuel s + machinery s) → declared s ≤ lowPower → whole (floorDiv (subℕ (3 * gain s) (3 * loss w s)) (2 * markedKilo)) ≡ whole (markedC s)
 unfolding markedC
-marked-low s h = rw (le-ltb lowPower (declared s) h, exact-is s, thrice (gain s) (loss 1 s)) refl
+marked-low s {w} q h = rw (le-ltb lowPower (declared s) h, exact-is s q, times-sub 3 (gain s) (loss w s)) refl
 
-pub marked-outboard : (s : List ℕ) → eqb (outboard s) 1 ≡ true → whole (floorDiv (subℕ (gain s + halfMarked) (loss 1 s)) markedKilo) ≡ whole (markedA s)
+pub marked-outboard : (s : List ℕ) {w : ℕ} → w ≡ boatM s + (fuel s + machinery s) → eqb (outboard s) 1 ≡ true → whole (floorDiv (subℕ (gain s + halfMarked) (loss w s)) markedKilo) ≡ whole (markedA s)
 unfolding markedA loadX
-marked-outboard s e = rw (e, exact-is s, added (gain s) (loss 1 s) halfMarked) refl
+marked-outboard s {w} q e = rw (e, exact-is s q, added (gain s) (loss w s) halfMarked) refl
 
-pub marked-inboard : (s : List ℕ) → eqb (outboard s) 1 ≡ false → whole (floorDiv (subℕ (gain s + halfMarked) (loss 5 s)) markedKilo) ≡ whole (markedA s)
+pub marked-inboard : (s : List ℕ) {w : ℕ} → w ≡ boatM s + 5 * (fuel s + machinery s) → eqb (outboard s) 1 ≡ false → whole (floorDiv (subℕ (gain s + halfMarked) (loss w s)) markedKilo) ≡ whole (markedA s)
 unfolding markedA loadX
-marked-inboard s e = rw (e, inboard-is s, added (gain s) (loss 5 s) halfMarked) refl
+marked-inboard s {w} q e = rw (e, inboard-is s q, added (gain s) (loss w s) halfMarked) refl
 
 -- ---- the sums as the code works them
 
@@ -98,11 +101,8 @@ volume-most s b =
     let u = product-most (station s 3) (b .stations 3 (omega arith)) in
     le-trans (mul-le-mul {n₂ = 6000} {m₂ = 1650000000} (b .reference-most) (omega arith)) (omega arith)
 
-pub carried-most : (s : List ℕ) (k : ℕ) {f m : ℕ} → Bounds s → k ≤ 5 → f ≡ fuel s → m ≡ machinery s → k * (f + m) ≤ 5000000
-carried-most s k b h x y = mul-le-mul {n₂ = 5} {m₂ = 1000000} h (omega (arith, b .fuel-most, b .machinery-most))
-
-pub loss-most : (s : List ℕ) (k : ℕ) → Bounds s → k ≤ 5 → loss k s ≤ 6120000000000
-loss-most s k b h = omega (arith, carried-most s k b h refl refl, b .well-most, b .flooding-most, boat-most s b)
+pub loss-most : (s : List ℕ) {w : ℕ} → Bounds s → w ≤ heaviest → loss w s ≤ 5220000000000
+loss-most s b h = omega (arith, b .well-most, b .flooding-most)
 
 -- ---- a marked load fits 32 bits
 
@@ -117,12 +117,12 @@ pub marked-most : (s : List ℕ) → Bounds s → whole (markedA s) ≤ 20000
 marked-most s b = go (eqb (outboard s) 1) refl
   where
     go : (t : Bool) → eqb (outboard s) 1 ≡ t → whole (markedA s) ≤ 20000
-    go true e = omega (arith, marked-outboard s e, floor-most (gain s + halfMarked) (loss 1 s) markedKilo, volume-most s b, b .aft-most)
-    go false e = omega (arith, marked-inboard s e, floor-most (gain s + halfMarked) (loss 5 s) markedKilo, volume-most s b, b .aft-most)
+    go true e = omega (arith, marked-outboard s refl e, floor-most (gain s + halfMarked) (loss (boatM s + (fuel s + machinery s)) s) markedKilo, volume-most s b, b .aft-most)
+    go false e = omega (arith, marked-inboard s refl e, floor-most (gain s + halfMarked) (loss (boatM s + 5 * (fuel s + machinery s)) s) markedKilo, volume-most s b, b .aft-most)
 
 pub c-most : (s : List ℕ) → Bounds s → whole (markedC s) ≤ 20000
 c-most s b = go (ltb lowPower (declared s)) refl
   where
     go : (t : Bool) → ltb lowPower (declared s) ≡ t → whole (markedC s) ≤ 20000
-    go true e = omega (arith, marked-high s (ltb-true lowPower (declared s) e), floor-most (gain s) (loss 1 s) markedKilo, volume-most s b, b .aft-most)
-    go false e = omega (arith, marked-low s (ltb-false lowPower (declared s) e), floor-most (3 * gain s) (3 * loss 1 s) (2 * markedKilo), volume-most s b, b .aft-most)
+    go true e = omega (arith, marked-high s refl (ltb-true lowPower (declared s) e), floor-most (gain s) (loss (boatM s + (fuel s + machinery s)) s) markedKilo, volume-most s b, b .aft-most)
+    go false e = omega (arith, marked-low s refl (ltb-false lowPower (declared s) e), floor-most (3 * gain s) (3 * loss (boatM s + (fuel s + machinery s)) s) (2 * markedKilo), volume-most s b, b .aft-most)

@@ -1,5 +1,5 @@
 -- The bounds that a sheet within the limits gives its words, as the plates' sums need them. Assumes nothing: these are definitions.
-use Prim.Native.Nat.{ℕ, _≤_, _<_}
+use Prim.Native.Nat.{ℕ, _+_, _*_, _≤_, _<_}
 use mathlib.Core.Path.{_≡_}
 use mathlib.Core.List.{List, []}
 use lib.ListN.{length, getD}
@@ -43,3 +43,7 @@ pub record Bounds (s : List ℕ) : Type 0 where
   pub positions-most : positions s ≤ 24
   pub stations : (i : ℕ) → i < 4 → Readings (station s i)
   pub fittings : Weights (fittingsOf s)
+
+-- grams that no plate takes a boat to weigh more than: an inboard of plate A, with every mass and fitting at its most
+abbrev pub heaviest : ℕ
+heaviest = 2000000 + 24 * 500000 + 5 * (500000 + 500000)
