@@ -1,5 +1,6 @@
 -- The laws of the plates, a file for each concept.
 pub mod Whole
+pub mod Order
 pub mod Volume
 pub mod Loads
 pub mod Power

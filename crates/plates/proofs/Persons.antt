@@ -5,15 +5,15 @@ use mathlib.Core.List.{List}
 use mathlib.Core.Logic.{_⊎_, inl, inr}
 use Prim.Native.Nat.{ℕ, _+_, _*_, _≤_, _<_, min}
 use native.Mathlib.Omega.{arith}
-use borrow.Author.Tests.{lt-ltb, le-ltb, leb-true, leb-false}
-use lib.Dec.{eqb, leb}
-use lib.IntN.{ℤ, pos, negsuc, subℕ, _-ℤ_, _*ℤ_}
+use borrow.Author.Tests.{lt-ltb, le-ltb}
+use lib.Dec.{eqb}
+use lib.IntN.{ℤ, pos, subℕ, _-ℤ_, _*ℤ_}
 use Rattle.plates.specs.Whole.{floorDiv, least, whole}
 use Rattle.plates.specs.Words.{positions, tested}
 use Rattle.plates.specs.PlateC.{markedC, engineWeight, liveLoad, personGrams, testedGrams, persons, untested}
 use Rattle.plates.specs.Bounds.{Bounds}
-use Rattle.plates.proofs.Whole.{of-pos, less-of, is-sub, below-sub, whole-pos, whole-least}
-use Rattle.plates.proofs.Rounding.{NotAbove}
+use Rattle.plates.proofs.Whole.{of-pos, less-of, is-sub, below-sub, whole-pos}
+use Rattle.plates.proofs.Order.{NotAbove, not-above-trans, least-left, least-right, least-one, whole-least}
 
 -- ---- in naturals
 
@@ -51,57 +51,6 @@ persons-most s live b = go (eqb (tested s) 0) refl
 
 -- ---- the least of the limits that apply
 
-least-left : (y z : ℤ) → NotAbove (least y z) y
-least-left (pos m) (pos n) = go (leb m n) refl
-  where
-    go : (t : Bool) → leb m n ≡ t → NotAbove (cond t (pos m) (pos n)) (pos m)
-    go true e = omega arith
-    go false e = let h = leb-false m n e in omega arith
-least-left (pos m) (negsuc n) = omega arith
-least-left (negsuc m) (pos n) = omega arith
-least-left (negsuc m) (negsuc n) = go (leb m n) refl
-  where
-    go : (t : Bool) → leb m n ≡ t → NotAbove (cond t (negsuc n) (negsuc m)) (negsuc m)
-    go true e = leb-true m n e
-    go false e = omega arith
-
-least-right : (y z : ℤ) → NotAbove (least y z) z
-least-right (pos m) (pos n) = go (leb m n) refl
-  where
-    go : (t : Bool) → leb m n ≡ t → NotAbove (cond t (pos m) (pos n)) (pos n)
-    go true e = leb-true m n e
-    go false e = omega arith
-least-right (pos m) (negsuc n) = omega arith
-least-right (negsuc m) (pos n) = omega arith
-least-right (negsuc m) (negsuc n) = go (leb m n) refl
-  where
-    go : (t : Bool) → leb m n ≡ t → NotAbove (cond t (negsuc n) (negsuc m)) (negsuc n)
-    go true e = omega arith
-    go false e = let h = leb-false m n e in omega arith
-
-least-one : (y z : ℤ) → (least y z ≡ y) ⊎ (least y z ≡ z)
-least-one (pos m) (pos n) = go (leb m n)
-  where
-    go : (t : Bool) → (cond t (pos m) (pos n) ≡ pos m) ⊎ (cond t (pos m) (pos n) ≡ pos n)
-    go true = inl refl
-    go false = inr refl
-least-one (pos m) (negsuc n) = inr refl
-least-one (negsuc m) (pos n) = inl refl
-least-one (negsuc m) (negsuc n) = go (leb m n)
-  where
-    go : (t : Bool) → (cond t (negsuc n) (negsuc m) ≡ negsuc m) ⊎ (cond t (negsuc n) (negsuc m) ≡ negsuc n)
-    go true = inr refl
-    go false = inl refl
-
-below-both : (x y z : ℤ) → NotAbove x y → NotAbove y z → NotAbove x z
-below-both (pos a) (pos b) (pos c) h k = omega arith
-below-both (pos a) (pos b) (negsuc c) h k = k
-below-both (pos a) (negsuc b) z h k = absurd h
-below-both (negsuc a) (pos b) (pos c) h k = omega arith
-below-both (negsuc a) (negsuc b) (pos c) h k = omega arith
-below-both (negsuc a) (pos b) (negsuc c) h k = absurd k
-below-both (negsuc a) (negsuc b) (negsuc c) h k = omega arith
-
 -- p is the least of the limits on persons for a live load: above none of them, and one of them
 pub record LeastLimit (s : List ℕ) (live p : ℤ) : Type 0 where
   pub by-positions : NotAbove p (pos (positions s))
@@ -130,8 +79,8 @@ persons-least s live = go (eqb (tested s) 0) refl
     go true e = record { by-positions = least-left a b; by-load = least-right a b; by-tests = λ (f : eqb (tested s) 0 ≡ false). absurd (true≢false (sym e ∙ f)); is-one = two (least-one a b) }
     go false e =
         record {
-          by-positions = below-both (least (least a b) t) (least a b) a (least-left (least a b) t) (least-left a b);
-          by-load = below-both (least (least a b) t) (least a b) b (least-left (least a b) t) (least-right a b);
+          by-positions = not-above-trans (least (least a b) t) (least a b) a (least-left (least a b) t) (least-left a b);
+          by-load = not-above-trans (least (least a b) t) (least a b) b (least-left (least a b) t) (least-right a b);
           by-tests = λ (f : eqb (tested s) 0 ≡ false). least-right (least a b) t;
           is-one = one (least-one (least a b) t) (least-one a b);
         }

@@ -2,7 +2,7 @@
 use mathlib.Core.Path.{_≡_, refl}
 use mathlib.Core.Bool.{Bool, true, false}
 use mathlib.Core.List.{List}
-use Prim.Native.Nat.{ℕ, suc, _+_, _-_, _*_, _/_, _≤_, _<_}
+use Prim.Native.Nat.{ℕ, _+_, _-_, _*_, _/_, _≤_, _<_}
 use native.Mathlib.Nat.{mul-add, mul-le-mul, mul-div-le, lt-mul-div-succ}
 use native.Mathlib.Omega.{arith}
 use borrow.Author.Tests.{lt-ltb, le-ltb, ltb-true, ltb-false}
@@ -12,30 +12,15 @@ use Rattle.plates.specs.Whole.{floorDiv, ceilDiv}
 use Rattle.plates.specs.Words.{declared}
 use Rattle.plates.specs.PlateC.{markedKilo, exactX, lowPower, markedC}
 use Rattle.plates.specs.PlateA.{halfMarked, loadX, markedA, raised}
-use Rattle.plates.proofs.Whole.{Differ, of-pos, sum-of, times-of}
-
--- y is not above z
-abbrev pub NotAbove : ℤ → ℤ → Type 0
-NotAbove (pos m) (pos n) = m ≤ n
-NotAbove (pos m) (negsuc n) = ⊥
-NotAbove (negsuc m) (pos n) = 0 ≤ n
-NotAbove (negsuc m) (negsuc n) = n ≤ m
-
-not-above : {y z : ℤ} {a b c d : ℕ} → Differ y a b → Differ z c d → a + d ≤ c + b → NotAbove y z
-not-above {y = pos m} {z = pos n} h k l = omega arith
-not-above {y = pos m} {z = negsuc n} h k l = omega arith
-not-above {y = negsuc m} {z = pos n} h k l = omega arith
-not-above {y = negsuc m} {z = negsuc n} h k l = omega arith
+use Rattle.plates.proofs.Whole.{of-pos, sum-of, times-of}
+use Rattle.plates.proofs.Order.{NotAbove, not-above, not-above-back, of-neg, sums}
 
 -- q is the largest whole number with q × d not above z: it fits, and one more does not
 pub record Largest (z : ℤ) (d : ℕ) (q : ℤ) : Type 0 where
   pub fits : NotAbove (pos d *ℤ q) z
   pub most : NotAbove (z +ℤ pos 1) (pos d *ℤ (q +ℤ pos 1))
 
-of-neg : (n : ℕ) → Differ (negsuc n) 0 (suc n)
-of-neg n = omega arith
-
-floor-largest : (z : ℤ) (d : ℕ) → 0 < d → Largest z d (floorDiv z d)
+pub floor-largest : (z : ℤ) (d : ℕ) → 0 < d → Largest z d (floorDiv z d)
 floor-largest (pos n) d p =
     let low = mul-div-le n d in
     let high = lt-mul-div-succ n p in
@@ -65,16 +50,6 @@ c-largest-low s h = rw (le-ltb lowPower (declared s) h) (floor-largest (pos 3 *�
 pub record Nearest (z : ℤ) (half : ℕ) (q : ℤ) : Type 0 where
   pub low : NotAbove (pos (2 * half) *ℤ q) (z +ℤ pos half)
   pub high : NotAbove (z +ℤ pos 1) (pos (2 * half) *ℤ q +ℤ pos half)
-
-not-above-back : {y z : ℤ} {a b c d : ℕ} → Differ y a b → Differ z c d → NotAbove y z → a + d ≤ c + b
-not-above-back {y = pos m} {z = pos n} h k l = omega arith
-not-above-back {y = pos m} {z = negsuc n} h k l = absurd l
-not-above-back {y = negsuc m} {z = pos n} h k l = omega arith
-not-above-back {y = negsuc m} {z = negsuc n} h k l = omega arith
-
-sums : (z : ℤ) → (a : ℕ) × (b : ℕ) × Differ z a b
-sums (pos n) = (n, 0, of-pos n)
-sums (negsuc n) = (0, suc n, of-neg n)
 
 nearest-of : (z q : ℤ) → Largest (z +ℤ pos halfMarked) markedKilo q → Nearest z halfMarked q
 nearest-of z q l =

@@ -1,13 +1,13 @@
 -- Whole numbers as differences of two natural sums, what adds and what takes away; and the roundings of 01. Assumes nothing.
 use mathlib.Core.Path.{_≡_, refl, sym, ap, _∙_}
-use mathlib.Core.Bool.{Bool, true, false, cond}
-use Prim.Native.Nat.{ℕ, zero, suc, _+_, _-_, _*_, _≤_, min}
+use mathlib.Core.Bool.{Bool, true, false}
+use Prim.Native.Nat.{ℕ, zero, suc, _+_, _-_, _*_, _≤_}
 use native.Mathlib.Nat.{mul-add}
 use native.Mathlib.Omega.{arith}
-use borrow.Author.Tests.{lt-ltb, le-ltb, ltb-true, ltb-false, leb-true, leb-false, ne-eqb}
-use lib.Dec.{eqb, leb, ltb}
+use borrow.Author.Tests.{lt-ltb, le-ltb, ltb-true, ltb-false, ne-eqb}
+use lib.Dec.{eqb, ltb}
 use lib.IntN.{ℤ, pos, negsuc, negℤ, subℕ, _+ℤ_, _-ℤ_, _*ℤ_}
-use Rattle.plates.specs.Whole.{isBelow, least, whole}
+use Rattle.plates.specs.Whole.{isBelow, whole}
 
 abbrev Is : ℤ → ℕ → ℕ → Type 0
 Is (pos n) a b = n + b ≡ a
@@ -81,17 +81,3 @@ below-sub a b n = go (ltb a b) refl
         less : (u : Bool) → ltb (a - b) n ≡ u → b ≤ a → ltb (a - b) n ≡ ltb a (b + n)
         less true f h = let k = ltb-true (a - b) n f in rw (f, lt-ltb a (b + n) (omega arith)) refl
         less false f h = let k = ltb-false (a - b) n f in rw (f, le-ltb a (b + n) (omega arith)) refl
-
-pub whole-least : (y z : ℤ) → whole (least y z) ≡ min (whole y) (whole z)
-whole-least (pos a) (pos n) = go (leb a n) refl
-  where
-    go : (t : Bool) → leb a n ≡ t → whole (cond t (pos a) (pos n)) ≡ min a n
-    go true e = let h = leb-true a n e in omega arith
-    go false e = let h = leb-false a n e in omega arith
-whole-least (pos a) (negsuc n) = omega arith
-whole-least (negsuc a) (pos n) = omega arith
-whole-least (negsuc a) (negsuc n) = go (leb a n)
-  where
-    go : (t : Bool) → whole (cond t (negsuc n) (negsuc a)) ≡ min 0 0
-    go true = omega arith
-    go false = omega arith

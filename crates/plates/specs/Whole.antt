@@ -1,6 +1,6 @@
 -- Whole numbers, below zero too, as the rounding rules of 01 use them. Assumes nothing: these are definitions.
 use Prim.Native.Nat.{ℕ, _+_, _-_, _/_}
-use mathlib.Core.Bool.{Bool, true, cond}
+use mathlib.Core.Bool.{Bool, true, false, cond}
 use lib.Dec.{leb, ltb}
 use lib.IntN.{ℤ, pos, negsuc}
 
@@ -18,11 +18,18 @@ abbrev pub isBelow : ℤ → ℕ → Bool
 isBelow (pos m) n = ltb m n
 isBelow (negsuc m) n = true
 
+-- whether y is not above z
+abbrev pub isAtMost : ℤ → ℤ → Bool
+isAtMost (pos m) (pos n) = leb m n
+isAtMost (pos m) (negsuc n) = false
+isAtMost (negsuc m) (pos n) = true
+isAtMost (negsuc m) (negsuc n) = leb n m
+
 abbrev pub least : ℤ → ℤ → ℤ
-least (pos m) (pos n) = cond (leb m n) (pos m) (pos n)
-least (pos m) (negsuc n) = negsuc n
-least (negsuc m) (pos n) = negsuc m
-least (negsuc m) (negsuc n) = cond (leb m n) (negsuc n) (negsuc m)
+least y z = cond (isAtMost y z) y z
+
+abbrev pub greatest : ℤ → ℤ → ℤ
+greatest y z = cond (isAtMost y z) z y
 
 -- z where it is not below zero
 abbrev pub whole : ℤ → ℕ
