@@ -1,8 +1,8 @@
-// Plates A and C, worked from the 68 words of a sheet that is within the limits.
+// Plates A, C and U, worked from the 68 words of a sheet that is within the limits.
 ghost use mathlib.Core.Path.{_≡_};
 ghost use mathlib.Core.Bool.{cond};
 ghost use mathlib.Core.List.{[]};
-ghost use Prim.Native.Nat.{_+_, _*_, _≤_, _<_, min};
+ghost use Prim.Native.Nat.{_+_, _*_, _≤_, _<_, min, max};
 ghost use lib.IntN.{subℕ};
 ghost use lib.ListN.{length, getD, take, drop};
 ghost use Rattle.plates.specs.Whole.{floorDiv, whole};
@@ -11,7 +11,8 @@ ghost use Rattle.plates.specs.Volume.{product, summed, volumeN, gram};
 ghost use Rattle.plates.specs.Weights.{sum, boatM};
 ghost use Rattle.plates.specs.PlateC.{markedC, rowFits, rising, rowsRight, wantsRow, rowFor, noRow, engineWeight, persons, untested, plateC};
 ghost use Rattle.plates.specs.PlateA.{markedA, factorP, tableEnd, rowOf, rowWatts, beforeWatts, raised, formulaWatts, powerA, noPower, plateA};
-ghost use Rattle.plates.specs.Bounds.{Readings, Stations, Weights, Bounds, heaviest};
+ghost use Rattle.plates.specs.PlateU.{figure, pounds, markedU, plateU};
+ghost use Rattle.plates.specs.Bounds.{Readings, Stations, Weights, Bounds, heaviest, Figured};
 use sheet::Answer;
 use sheet::ENGINE_POWER_HIGH;
 use sheet::ENGINE_WEIGHT_HIGH;
@@ -437,6 +438,53 @@ fn no_power(sheet: &[u32]) -> bool
     }
 }
 
+// Declared watts, of two horsepower, up to which an outboard's load on plate U is three tenths.
+const TWO_HORSES: u32 = 1491;
+
+// Hundred-thousandths of a gram, of which a pound has a whole number; and a pound of them, as Z counts grams.
+const FINER: u64 = 100_000;
+
+const POUND: u64 = 45_359_237 * GRAM;
+
+// Whole pounds of times / parts of what the displacement has above so many grams, or 0 where there are none.
+fn pounds_of(sheet: &[u32], gain: u64, off: u64, times: u64, parts: u64) -> u64
+    requires { ⌜ Figured (now sheet) gain (figure off times parts) ⌝ }
+    ensures { λ r. ⌜ r ≡ whole (pounds (now (sheet .entry)) (figure off times parts)) ⌝ }
+{
+    let fine = times * FINER;
+    whole_part(fine * gain, fine * loss_of(sheet, off), parts * POUND)
+}
+
+// The greater of two numbers.
+fn greatest_of(a: u64, b: u64) -> u64
+    ensures { λ r. ⌜ r ≡ max a b ⌝ }
+{
+    if a < b { b } else { a }
+}
+
+// The pounds that plate U marks, or 0 where there are none.
+fn marked_u(sheet: &[u32]) -> u64
+    requires { ⌜ Bounds (now sheet) ⌝ }
+    ensures { λ r. ⌜ r ≡ whole (markedU (now (sheet .entry))) ⌝ }
+{
+    let gain = gain_of(sheet);
+    let boat = boat_of(sheet);
+    let fuelled = boat + wide(sheet[FUEL]);
+    if sheet[OUTBOARD] == 1 {
+        if TWO_HORSES < sheet[DECLARED] {
+            pounds_of(sheet, gain, fuelled, 1, 5)
+        } else {
+            pounds_of(sheet, gain, boat, 3, 10)
+        }
+    } else {
+        let powered = fuelled + 4 * wide(sheet[MACHINERY]);
+        greatest_of(
+            pounds_of(sheet, gain, powered, 1, 5),
+            pounds_of(sheet, gain, fuelled, 1, 7),
+        )
+    }
+}
+
 // The refusals that are the plates' own.
 const BAD_ROWS: u32 = 10;
 
@@ -489,5 +537,18 @@ pub fn plate_c(sheet: &[u32], powers: &[u32], weights: &[u32]) -> Answer
         Answer::Plate(load as u32, persons as u32)
     } else {
         Answer::Refused(BAD_ROWS)
+    }
+}
+
+// Plate U: its pounds.
+pub fn plate_u(sheet: &[u32]) -> Answer
+    requires { ⌜ Bounds (now sheet) ⌝ }
+    ensures { λ r. ⌜ r ≡ plateU (now (sheet .entry)) ⌝ }
+{
+    let load = marked_u(sheet);
+    if load == 0 {
+        Answer::Refused(NO_LOAD)
+    } else {
+        Answer::Count(load as u32)
     }
 }

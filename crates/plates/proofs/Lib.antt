@@ -6,6 +6,8 @@ pub mod Loads
 pub mod Power
 pub mod Within
 pub mod Rounding
+pub mod Pounds
+pub mod PoundsWorked
 pub mod Persons
 pub mod Engines
 pub mod RowsRead

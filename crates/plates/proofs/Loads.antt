@@ -106,7 +106,7 @@ loss-most s b h = omega (arith, b .well-most, b .flooding-most)
 
 -- ---- a marked load fits 32 bits
 
-floor-most : (a b d : ℕ) → d * whole (floorDiv (subℕ a b) d) ≤ a
+pub floor-most : (a b d : ℕ) → d * whole (floorDiv (subℕ a b) d) ≤ a
 floor-most a b d = go (ltb a b) refl
   where
     go : (t : Bool) → ltb a b ≡ t → d * whole (floorDiv (subℕ a b) d) ≤ a

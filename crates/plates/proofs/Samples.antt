@@ -1,15 +1,18 @@
--- The starred samples of 01, cases 1 to 7, as one statement over one list of them, each sheet within the limits; and cases of our own in another. Assumes nothing.
+-- The starred samples of 01, cases 1 to 7, as one statement over one list of them, each sheet within the limits; cases of our own in another, and plate U's in a third.
+-- Assumes nothing.
 use mathlib.Core.Path.{_≡_, refl}
 use mathlib.Core.Bool.{Bool, true, _&&_}
 use mathlib.Core.List.{List, [], _∷_, map}
 use Prim.Native.Nat.{ℕ}
+use lib.ListN.{replicate}
 use Rattle.text.specs.Limit.{allHold}
 use Rattle.sheet.specs.Sheet.{limitsOn, sheetLimits}
 use Rattle.plates.specs.Volume.{product, summed, volumeN, netZ}
 use Rattle.plates.specs.Weights.{sum, boatM}
 use Rattle.plates.specs.PlateC.{exactX, markedC, rising, rowsRight, rowFor, noRow, engineWeight, liveLoad, persons, untested, plateC}
 use Rattle.plates.specs.PlateA.{inboardX, loadX, markedA, rowWatts, beforeWatts, formulaWatts, powerA, plateA}
-use Rattle.plates.specs.Samples.{words, seated, load, power, inboard, loadC, loadA, powerA-is, persons-are, refusedC, refusedA, Case, case, marks, agrees, refuses, second-is, answer-c, holds-of, stands, cases}
+use Rattle.plates.specs.PlateU.{ruleU, markedU, plateU}
+use Rattle.plates.specs.Samples.{wordsTo, words, seated, load, power, inboard, loadC, loadA, powerA-is, persons-are, refusedC, refusedA, poundsU, refusedU, Case, case, marks, agrees, refuses, counts, second-is, answer-c, holds-of, stands, cases}
 
 all-stand : List Case → Bool
 all-stand [] = true
@@ -36,6 +39,40 @@ starred = refl
 our-own : all-stand further ≡ true
 unfolding all-stand stands further holds-of answer-c marks agrees refuses second-is seated load power inboard words allHold sheetLimits limitsOn product volumeN netZ sum boatM exactX markedC rising rowsRight rowFor noRow engineWeight liveLoad persons untested plateC inboardX loadX markedA formulaWatts powerA plateA
 our-own = refl
+
+-- ---- plate U
+
+-- the base hull with another drive, declared power or masses
+massed : ℕ → ℕ → ℕ → ℕ → ℕ → List ℕ
+massed outboard declared bare fuel machinery =
+    words 4000 (record { long = 4500; wide = 1200; flat = 0; remote = 0; bare = bare; fuel = fuel; machinery = machinery; outboard = outboard; declared = declared; tested = 0; fitting = 0 })
+
+-- an outboard of this station T, reference length and bare boat
+shaped : List ℕ → ℕ → ℕ → List ℕ
+shaped t reference bare =
+    wordsTo t reference (record { long = 6000; wide = 1200; flat = 0; remote = 0; bare = bare; fuel = 0; machinery = 0; outboard = 1; declared = 20000; tested = 0; fitting = 0 })
+
+american : List Case
+american =
+    -- 02's figure; and a fitting weighs as the boat does, in 183.37 too
+    case (massed 1 20000 200000 0 0) (poundsU 720) ∷ case (load 20000 200000 3334) (poundsU 718) ∷ case (load 1491 200000 3334) (poundsU 1078)
+    -- two horsepower: 183.37 at 1491 W and below, 183.35 above
+    ∷ case (massed 1 1492 200000 0 0) (poundsU 720) ∷ case (massed 1 1491 200000 0 0) (poundsU 1080) ∷ case (massed 1 0 200000 0 0) (poundsU 1080)
+    -- fuel counts by 183.35 and not by 183.37, machinery by neither
+    ∷ case (massed 1 20000 200000 20000 0) (poundsU 711) ∷ case (massed 1 1491 200000 20000 50000) (poundsU 1080) ∷ case (massed 1 20000 200000 0 500000) (poundsU 720)
+    -- an inboard by its fifth, at any power, and by its seventh; fuel counts in both
+    ∷ case (massed 0 20000 200000 0 0) (poundsU 720) ∷ case (massed 0 20000 200000 0 50000) (poundsU 631) ∷ case (massed 0 1000 200000 0 50000) (poundsU 631)
+    ∷ case (massed 0 20000 200000 0 500000) (poundsU 514) ∷ case (massed 0 20000 200000 20000 50000) (poundsU 623) ∷ case (massed 0 20000 200000 20000 500000) (poundsU 508)
+    -- about one pound
+    ∷ case (massed 1 20000 1831065 0 0) (poundsU 1) ∷ case (massed 1 20000 1831066 0 0) (refusedU 12)
+    -- 745 pounds to the last digit, and a gram less; 797 but for the least step that a sheet can make, and a gram more
+    ∷ case (shaped (9 ∷ 501 ∷ replicate 5 500) 4065 5643) (poundsU 745) ∷ case (shaped (9 ∷ 501 ∷ replicate 5 500) 4065 5644) (poundsU 744)
+    ∷ case (shaped (1000 ∷ 499 ∷ replicate 5 500) 4093 68370) (poundsU 796) ∷ case (shaped (1000 ∷ 499 ∷ replicate 5 500) 4093 68369) (poundsU 797)
+    ∷ []
+
+americans : all-stand american ≡ true
+unfolding all-stand stands american massed shaped holds-of counts refuses load seated words allHold sheetLimits limitsOn product volumeN netZ sum boatM ruleU markedU plateU
+americans = refl
 
 -- ---- what the cases above leave open, since their stations and depths are alike
 

@@ -4,6 +4,8 @@ use mathlib.Core.Path.{_≡_}
 use mathlib.Core.List.{List, []}
 use lib.ListN.{length, getD}
 use Rattle.sheet.specs.Sheet.{sheetWords}
+use Rattle.plates.specs.Volume.{volumeN, gram}
+use Rattle.plates.specs.PlateU.{Figure}
 use Rattle.plates.specs.Words.{hullLength, reference, transomWidth, station, fittingsOf, aft, well, flooding, bare, fuel, machinery, positions}
 
 -- a station's seven readings
@@ -47,3 +49,12 @@ pub record Bounds (s : List ℕ) : Type 0 where
 -- grams that no plate takes a boat to weigh more than: an inboard of plate A, with every mass and fitting at its most
 abbrev pub heaviest : ℕ
 heaviest = 2000000 + 24 * 500000 + 5 * (500000 + 500000)
+
+-- a figure of plate U, of a sheet and what adds to its load, as the code works it
+pub record Figured (s : List ℕ) (gain : ℕ) (f : Figure) : Type 0 where
+  pub bounds : Bounds s
+  pub gains : gain ≡ volumeN s + gram * aft s
+  pub off-most : f .off ≤ heaviest
+  pub times-most : f .times ≤ 3
+  pub some-parts : 0 < f .parts
+  pub parts-most : f .parts ≤ 10

@@ -5,5 +5,6 @@ pub mod Volume
 pub mod Weights
 pub mod PlateC
 pub mod PlateA
+pub mod PlateU
 pub mod Bounds
 pub mod Samples

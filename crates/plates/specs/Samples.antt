@@ -10,6 +10,7 @@ use Rattle.sheet.specs.declared.Answer.the-variants.{Refused, Done, Count, Plat
 use Rattle.sheet.specs.Sheet.{wordsOk}
 use Rattle.plates.specs.PlateC.{markedC, plateC}
 use Rattle.plates.specs.PlateA.{markedA, plateA}
+use Rattle.plates.specs.PlateU.{plateU}
 
 -- ---- the base hull, and what a case changes of it
 
@@ -26,12 +27,19 @@ pub record Hull : Type 0 where
   pub tested : ℕ
   pub fitting : ℕ
 
+-- every B is 1000 and every depth 500
+abbrev pub station : List ℕ
+station = 1000 ∷ replicate 6 500
+
+-- by its reference length, and by the readings of station T
+abbrev pub wordsTo : List ℕ → ℕ → Hull → List ℕ
+wordsTo t reference h =
+    h .long ∷ reference ∷ h .wide ∷ 500 ∷ h .flat ∷ h .remote
+    ∷ (station ++ (station ++ (station ++ (t ++ (0 ∷ 0 ∷ 0 ∷ h .bare ∷ h .fuel ∷ h .machinery ∷ h .outboard ∷ h .declared ∷ 5 ∷ h .tested ∷ h .fitting ∷ replicate 23 0)))))
+
 -- reference length 4000, or the length where that is less
 unfoldable pub words : ℕ → Hull → List ℕ
-words reference h =
-    let station : List ℕ = 1000 ∷ replicate 6 500 in
-    h .long ∷ reference ∷ h .wide ∷ 500 ∷ h .flat ∷ h .remote
-    ∷ (station ++ (station ++ (station ++ (station ++ (0 ∷ 0 ∷ 0 ∷ h .bare ∷ h .fuel ∷ h .machinery ∷ h .outboard ∷ h .declared ∷ 5 ∷ h .tested ∷ h .fitting ∷ replicate 23 0)))))
+words = wordsTo station
 
 unfoldable pub seated : ℕ → ℕ → ℕ → ℕ → List ℕ
 seated tested declared bare fitting =
@@ -50,7 +58,7 @@ inboard = words 4000 (record { long = 4500; wide = 1200; flat = 0; remote = 0; b
 -- ---- what a case says of its sheet
 
 pub data Said : Type 0 where
-  loadC loadA powerA-is persons-are refusedC refusedA : ℕ → Said
+  loadC loadA powerA-is persons-are refusedC refusedA poundsU refusedU : ℕ → Said
 
 pub record Case : Type 0 where
   pub sheet : List ℕ
@@ -73,6 +81,12 @@ refuses Done n = false
 refuses (Count m) n = false
 refuses (Plate a b) n = false
 
+unfoldable pub counts : Answer → ℕ → Bool
+counts (Refused m) n = false
+counts Done n = false
+counts (Count m) n = eqb m n
+counts (Plate a b) n = false
+
 unfoldable pub second-is : Answer → ℕ → Bool
 second-is (Refused m) n = false
 second-is Done n = false
@@ -90,6 +104,8 @@ holds-of s (powerA-is n) = second-is (plateA s) n
 holds-of s (persons-are n) = second-is (answer-c s) n
 holds-of s (refusedC n) = refuses (answer-c s) n
 holds-of s (refusedA n) = refuses (plateA s) n
+holds-of s (poundsU n) = counts (plateU s) n
+holds-of s (refusedU n) = refuses (plateU s) n
 
 -- a case stands: its sheet is within the limits, and what it says holds
 unfoldable pub stands : Case → Bool

@@ -1,0 +1,77 @@
+-- Plate U as the code works it: pounds over two natural sums, what adds and what takes away, within 64 bits; and its answers by the case that the code finds. Assumes
+-- nothing.
+use mathlib.Core.Path.{_≡_, refl, sym, ap, _∙_}
+use mathlib.Core.Bool.{Bool, true, false}
+use mathlib.Core.List.{List}
+use Prim.Native.Nat.{ℕ, _+_, _*_, _≤_, _<_, max}
+use native.Mathlib.Nat.{mul-le-mul, mul-comm, mul-assoc}
+use native.Mathlib.Omega.{arith}
+use lib.Dec.{eqb, lit<}
+use lib.IntN.{subℕ}
+use Rattle.sheet.specs.declared.Answer.the-variants.{Refused, Count}
+use Rattle.plates.specs.Whole.{floorDiv, whole}
+use Rattle.plates.specs.Words.{machinery, outboard, declared}
+use Rattle.plates.specs.Volume.{gram}
+use Rattle.plates.specs.Weights.{boatM}
+use Rattle.plates.specs.PlateU.{Figure, figure, boatB, outboardFifth, outboardTenths, inboardFifth, inboardSeventh, Rule, twoHorses, ruleU, finer, poundFine, below, pounds, poundsBy, markedU, plateU}
+use Rattle.plates.specs.Bounds.{Bounds, heaviest}
+use Rattle.plates.proofs.Whole.{below-one}
+use Rattle.plates.proofs.Order.{whole-greatest}
+use Rattle.plates.proofs.Loads.{gain, loss, net-less, times-sub, floor-most, volume-most, loss-most}
+use Rattle.plates.proofs.Pounds.{u-high, u-low, u-inboard, by-hull}
+
+-- ---- a figure
+
+pub pounds-are : (s : List ℕ) (f : Figure) → whole (floorDiv (subℕ (f .times * finer * gain s) (f .times * finer * loss (f .off) s)) (below f)) ≡ whole (pounds s f)
+pounds-are s f = rw (net-less s (f .off), times-sub (f .times * finer) (gain s) (loss (f .off) s)) refl
+
+-- what the code multiplies stays within 64 bits
+pub gain-fine : (s : List ℕ) {k : ℕ} → Bounds s → k ≤ 3 → k * finer * gain s ≤ 3240000000000000000
+gain-fine s b h = mul-le-mul {n₂ = 300000} {m₂ = 10800000000000} (omega arith) (omega (arith, volume-most s b, b .aft-most))
+
+pub loss-fine : (s : List ℕ) {k w : ℕ} → Bounds s → k ≤ 3 → w ≤ heaviest → k * finer * loss w s ≤ 1566000000000000000
+loss-fine s b h l = mul-le-mul {n₂ = 300000} {m₂ = 5220000000000} (omega arith) (loss-most s b l)
+
+-- ---- the marked pounds
+
+pub marked-fifth : (s : List ℕ) {w : ℕ} → eqb (outboard s) 1 ≡ true → twoHorses < declared s → w ≡ boatB s → whole (pounds s (figure w 1 5)) ≡ whole (markedU s)
+unfolding markedU
+marked-fifth s e h q = rw (u-high s e h, q) refl
+
+pub marked-tenths : (s : List ℕ) {w : ℕ} → eqb (outboard s) 1 ≡ true → declared s ≤ twoHorses → w ≡ boatM s → whole (pounds s (figure w 3 10)) ≡ whole (markedU s)
+unfolding markedU
+marked-tenths s e h q = rw (u-low s e h, q) refl
+
+pub marked-greater : (s : List ℕ) {v w : ℕ} → eqb (outboard s) 1 ≡ false → v ≡ boatB s + 4 * machinery s → w ≡ boatB s → max (whole (pounds s (figure v 1 5))) (whole (pounds s (figure w 1 7))) ≡ whole (markedU s)
+unfolding markedU
+marked-greater s e p q = rw (u-inboard s e, p, q) (sym (whole-greatest (pounds s (inboardFifth s)) (pounds s (inboardSeventh s))))
+
+-- ---- pounds fit 32 bits
+
+figure-most : (s : List ℕ) → Bounds s → (f : Figure) → f .times ≤ 3 → 5 ≤ f .parts → whole (pounds s f) ≤ 80000
+figure-most s b f t p =
+    let q : ℕ = whole (pounds s f) in
+    let least : 5 * q ≤ f .parts * q = mul-le-mul {n₁ = 5} {n₂ = f .parts} p (omega arith) in
+    let fits : below f * q ≤ f .times * finer * gain s = rw (sym (pounds-are s f)) (floor-most (f .times * finer * gain s) (f .times * finer * loss (f .off) s) (below f)) in
+    omega (arith, least, fits, regrouped (f .parts) (gram * poundFine) q, gain-fine s b t)
+  where
+    regrouped : (a c d : ℕ) → a * c * d ≡ c * (a * d)
+    regrouped a c d = rw (mul-comm a c, mul-assoc c a d) refl
+
+pub pounds-most : (s : List ℕ) → Bounds s → whole (markedU s) ≤ 80000
+unfolding markedU
+pounds-most s b =
+    by-hull (λ (r : Rule). whole (poundsBy s r) ≤ 80000) s
+    (figure-most s b (outboardFifth s) (omega arith) (omega arith))
+    (figure-most s b (outboardTenths s) (omega arith) (omega arith))
+    (omega (arith, whole-greatest (pounds s (inboardFifth s)) (pounds s (inboardSeventh s)), figure-most s b (inboardFifth s) (omega arith) (omega arith), figure-most s b (inboardSeventh s) (omega arith) (omega arith)))
+
+-- ---- the answer
+
+pub u-unloaded : (s : List ℕ) → eqb (whole (markedU s)) 0 ≡ true → Refused 12 ≡ plateU s
+unfolding plateU
+u-unloaded s e = rw (below-one (markedU s) ∙ e) refl
+
+pub u-marks : (s : List ℕ) {load : ℕ} → eqb (whole (markedU s)) 0 ≡ false → load ≡ whole (markedU s) → Count load ≡ plateU s
+unfolding plateU
+u-marks s e g = rw (below-one (markedU s) ∙ e, g) refl
