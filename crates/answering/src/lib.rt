@@ -4,9 +4,10 @@ ghost use mathlib.Core.List.{_∷_};
 ghost use lib.ListN.{length};
 ghost use Rattle.sheet.specs.Settled.{Settled};
 ghost use Rattle.sheet.specs.Sheet.{sheetWords};
+ghost use Rattle.plates.specs.Kinds.{kindA, kindC};
 ghost use Rattle.register.specs.Refusals.{hullRefusal, deskRefusal};
-ghost use Rattle.register.specs.Hulls.{freshAnswer, freshMemory, roomRefusal, newAnswer, newMemory, hullPlateA, hullPlateC, hullWritten, hullWrittenInto};
-ghost use Rattle.register.specs.Drafts.{openRefusal, openAnswer, openMemory, putRefusal, putAnswer, putMemory, takeRefusal, takeAnswer, takeMemory, replaceAnswer, replaceMemory, trialA, trialC, saveRefusal, saveAnswer, saveMemory, dropAnswer, dropMemory};
+ghost use Rattle.register.specs.Hulls.{freshAnswer, freshMemory, roomRefusal, newAnswer, newMemory, hullPlate, hullWritten, hullWrittenInto};
+ghost use Rattle.register.specs.Drafts.{openRefusal, openAnswer, openMemory, putRefusal, putAnswer, putMemory, takeRefusal, takeAnswer, takeMemory, replaceAnswer, replaceMemory, trial, saveRefusal, saveAnswer, saveMemory, dropAnswer, dropMemory};
 use memory::DESKS;
 use memory::MOST_EDITS;
 use memory::MOST_HULLS;
@@ -110,7 +111,7 @@ pub fn new_hull(mem: &mut [u32], text: &[u8]) -> Answer
 
 // Plate A of a hull.
 pub fn plate_a(mem: &[u32], hull: u32) -> Answer
-    ensures { λ r. ⌜ r ≡ hullPlateA (now (mem .entry)) hull ⌝ }
+    ensures { λ r. ⌜ r ≡ hullPlate (now (mem .entry)) hull kindA ⌝ }
 {
     let refusal = hull_refusal(mem, hull);
     if refusal != 0 {
@@ -123,7 +124,7 @@ pub fn plate_a(mem: &[u32], hull: u32) -> Answer
 
 // Plate C of a hull.
 pub fn plate_c(mem: &[u32], hull: u32, powers: &[u32], weights: &[u32]) -> Answer
-    ensures { λ r. ⌜ r ≡ hullPlateC (now (mem .entry)) hull (now (powers .entry)) (now (weights .entry)) ⌝ }
+    ensures { λ r. ⌜ r ≡ hullPlate (now (mem .entry)) hull (kindC (now (powers .entry)) (now (weights .entry))) ⌝ }
 {
     let refusal = hull_refusal(mem, hull);
     if refusal != 0 {
@@ -277,7 +278,7 @@ pub fn replace(mem: &mut [u32], desk: u32, text: &[u8]) -> Answer
 
 // Plate A of a desk's draft, as a trial.
 pub fn trial_a(mem: &[u32], desk: u32) -> Answer
-    ensures { λ r. ⌜ r ≡ trialA (now (mem .entry)) desk ⌝ }
+    ensures { λ r. ⌜ r ≡ trial (now (mem .entry)) desk kindA ⌝ }
 {
     let refusal = desk_refusal(mem, desk);
     if refusal != 0 {
@@ -290,7 +291,7 @@ pub fn trial_a(mem: &[u32], desk: u32) -> Answer
 
 // Plate C of a desk's draft, as a trial.
 pub fn trial_c(mem: &[u32], desk: u32, powers: &[u32], weights: &[u32]) -> Answer
-    ensures { λ r. ⌜ r ≡ trialC (now (mem .entry)) desk (now (powers .entry)) (now (weights .entry)) ⌝ }
+    ensures { λ r. ⌜ r ≡ trial (now (mem .entry)) desk (kindC (now (powers .entry)) (now (weights .entry))) ⌝ }
 {
     let refusal = desk_refusal(mem, desk);
     if refusal != 0 {

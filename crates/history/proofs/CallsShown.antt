@@ -21,7 +21,7 @@ use Rattle.register.specs.Drafts.{openRefusal, putRefusal, takeRefusal, saveRef
 use Rattle.register.proofs.Refusals.{desk-high, desk-idle, desk-holds, room-left}
 use Rattle.register.proofs.Keeps.{new-keeps, open-keeps, save-keeps, drop-keeps}
 use Rattle.register.proofs.Effects.{new-makes, open-makes, save-makes, drop-makes}
-use Rattle.history.specs.Calls.{Work, put, takeOff, replace, tryPlateA, tryPlateC, Ask, plateA, plateC, write, newHull, openHull, work, save, drop, Reply, says, askReply, reply, next}
+use Rattle.history.specs.Calls.{Work, put, takeOff, replace, tryPlate, Ask, plate, write, newHull, openHull, work, save, drop, Reply, says, askReply, reply, next}
 use Rattle.history.proofs.Model.{Draft, State, askSays, askRefused, enter, store, opens, but, atDesk}
 use Rattle.history.proofs.Rules.{editsOf}
 use Rattle.history.proofs.Tools.{at-or, self}
@@ -122,8 +122,7 @@ module _ {m : List ℕ} {s : State} (S : Shows m s) where
   work-kept d n (put line weight) f z = record { shows = rw (z, f, f) S; replies = rw (z, f, f) refl }
   work-kept d n (takeOff line) f z = record { shows = rw (z, f, f) S; replies = rw (z, f, f) refl }
   work-kept d n (replace t) f z = record { shows = rw (z, f) S; replies = rw (z, f) refl }
-  work-kept d n tryPlateA f z = record { shows = S; replies = rw (z, f) refl }
-  work-kept d n (tryPlateC ps ws) f z = record { shows = S; replies = rw (z, f) refl }
+  work-kept d n (tryPlate k) f z = record { shows = S; replies = rw (z, f) refl }
 
   pub drop-kept : (d n : ℕ) → eqb n 0 ≡ false → deskRefusal m d ≡ n → Tied (next m (drop d)) (reply m (drop d)) s (says (Refused n))
   unfolding next reply
@@ -133,12 +132,10 @@ module _ {m : List ℕ} {s : State} (S : Shows m s) where
 
   pub asks-replies : (h : ℕ) (q : Ask) → h < s .register .entered → hullRefusal m h ≡ 0 → askReply m h q ≡ askSays h q (s .register .hull h .sheet)
   unfolding askSays
-  asks-replies h plateA p z = rw (z, S .sheets h (shown-few S p)) refl
-  asks-replies h (plateC ps ws) p z = rw (z, S .sheets h (shown-few S p)) refl
+  asks-replies h (plate k) p z = rw (z, S .sheets h (shown-few S p)) refl
   asks-replies h (write out) p z = rw (z, S .sheets h (shown-few S p)) refl
 
   pub unasked-replies : (h : ℕ) (q : Ask) → hullRefusal m h ≡ 5 → askReply m h q ≡ askRefused q
   unfolding askRefused
-  unasked-replies h plateA z = rw z refl
-  unasked-replies h (plateC ps ws) z = rw z refl
+  unasked-replies h (plate k) z = rw z refl
   unasked-replies h (write out) z = rw z refl

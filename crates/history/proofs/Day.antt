@@ -16,16 +16,15 @@ use Rattle.sheet.specs.Sheet.{limitsOn, sheetLimits, fitText, fitsText, linesTe
 use Rattle.sheet.specs.Reading.{readLines, readFits, readEnd, readRest, readSheet}
 use Rattle.plates.specs.Volume.{product, volumeN, netZ}
 use Rattle.plates.specs.Weights.{sum, boatM}
-use Rattle.plates.specs.PlateC
-use Rattle.plates.specs.PlateC.{exactX, markedC, rising, rowsRight, rowFor, noRow, engineWeight, liveLoad, persons, untested}
-use Rattle.plates.specs.PlateA
-use Rattle.plates.specs.PlateA.{inboardX, loadX, markedA, formulaWatts, powerA}
+use Rattle.plates.specs.PlateC.{exactX, markedC, rising, rowsRight, rowFor, noRow, engineWeight, liveLoad, persons, untested, plateC}
+use Rattle.plates.specs.PlateA.{inboardX, loadX, markedA, formulaWatts, powerA, plateA}
+use Rattle.plates.specs.Kinds.{kindA, kindC}
 use Rattle.memory.specs.Formed.{each, hullOk, draftOk, formed}
 use Rattle.memory.specs.Updates.{freshWords, entered, opened, fitted, replaced, dropped, saved}
 use Rattle.register.specs.Refusals.{hullRefusal, deskRefusal}
 use Rattle.register.specs.Hulls.{roomRefusal}
 use Rattle.register.specs.Drafts.{openRefusal, putRefusal, takeRefusal, saveRefusal}
-use Rattle.history.specs.Calls.{put, takeOff, tryPlateA, tryPlateC, plateA, write, newHull, openHull, work, save, drop, ask, says, reply, next}
+use Rattle.history.specs.Calls.{put, takeOff, tryPlate, plate, write, newHull, openHull, work, save, drop, ask, says, reply, next}
 use Rattle.history.specs.Runs.{Event, _⇒_, call}
 use Rattle.history.specs.History.{role, block, spot, serial}
 use Rattle.history.specs.Told.{opening, isSaveOf, savesOf, quietSince}
@@ -49,37 +48,37 @@ abbrev writing : Event
 writing = ask 0 (write (replicate 240 7)) ⇒ record { answer = Count 237; output = text "HULL\t0\n" "FIT\t2\t3334\n" ++ replicate 3 7 }
 
 abbrev trialC : Event
-trialC = work 0 (tryPlateC (20000 ∷ []) (60000 ∷ [])) ⇒ says (Plate 325 3)
+trialC = work 0 (tryPlate (kindC (20000 ∷ []) (60000 ∷ []))) ⇒ says (Plate 325 3)
 
 day : List Event
 day =
     entering
     ∷ (openHull 0 0 ⇒ says (Count 0)) ∷ (openHull 1 0 ⇒ says (Count 0))
     ∷ (work 1 (put 2 3334) ⇒ says Done) ∷ (work 0 (put 1 500) ⇒ says Done)
-    ∷ (ask 0 plateA ⇒ says (Plate 327 20000)) ∷ (work 1 tryPlateA ⇒ says (Plate 326 20000)) ∷ (save 1 ⇒ says (Count 1)) ∷ (ask 0 plateA ⇒ says (Plate 326 20000))
+    ∷ (ask 0 (plate kindA) ⇒ says (Plate 327 20000)) ∷ (work 1 (tryPlate kindA) ⇒ says (Plate 326 20000)) ∷ (save 1 ⇒ says (Count 1)) ∷ (ask 0 (plate kindA) ⇒ says (Plate 326 20000))
     -- desk 0 is behind, and opens anew; meanwhile desk 3 opens too
     ∷ (save 0 ⇒ says (Refused 8)) ∷ (openHull 0 0 ⇒ says (Count 1)) ∷ (openHull 3 0 ⇒ says (Count 1)) ∷ (work 0 (takeOff 1) ⇒ says (Refused 17)) ∷ trialC
     ∷ writing ∷ (work 0 (takeOff 2) ⇒ says Done) ∷ (save 0 ⇒ says (Count 2))
     -- desk 3 is behind, and gives up
     ∷ (save 3 ⇒ says (Refused 8)) ∷ (drop 3 ⇒ says Done) ∷ (save 3 ⇒ says (Refused 7))
-    ∷ faulty ∷ (ask 1 plateA ⇒ says (Refused 5)) ∷ (ask 0 plateA ⇒ says (Plate 327 20000))
+    ∷ faulty ∷ (ask 1 (plate kindA) ⇒ says (Refused 5)) ∷ (ask 0 (plate kindA) ⇒ says (Plate 327 20000))
     ∷ []
 
 serial-day : List Event
 serial-day =
     entering
-    ∷ (ask 0 plateA ⇒ says (Plate 327 20000))
+    ∷ (ask 0 (plate kindA) ⇒ says (Plate 327 20000))
     -- desk 1's block, at its save's place, its trial among its calls
-    ∷ (openHull 1 0 ⇒ says (Count 0)) ∷ (work 1 (put 2 3334) ⇒ says Done) ∷ (work 1 tryPlateA ⇒ says (Plate 326 20000)) ∷ (save 1 ⇒ says (Count 1))
-    ∷ (ask 0 plateA ⇒ says (Plate 326 20000)) ∷ writing
+    ∷ (openHull 1 0 ⇒ says (Count 0)) ∷ (work 1 (put 2 3334) ⇒ says Done) ∷ (work 1 (tryPlate kindA) ⇒ says (Plate 326 20000)) ∷ (save 1 ⇒ says (Count 1))
+    ∷ (ask 0 (plate kindA) ⇒ says (Plate 326 20000)) ∷ writing
     -- desk 0's second draft; its first is left out
     ∷ (openHull 0 0 ⇒ says (Count 1)) ∷ (work 0 (takeOff 1) ⇒ says (Refused 17)) ∷ trialC ∷ (work 0 (takeOff 2) ⇒ says Done) ∷ (save 0 ⇒ says (Count 2))
-    ∷ faulty ∷ (ask 1 plateA ⇒ says (Refused 5)) ∷ (ask 0 plateA ⇒ says (Plate 327 20000))
+    ∷ faulty ∷ (ask 1 (plate kindA) ⇒ says (Refused 5)) ∷ (ask 0 (plate kindA) ⇒ says (Plate 327 20000))
     ∷ []
 
 -- the day is as it says
 a-day : transcript freshWords (map call day) ≡ day
-unfolding transcript reply next day text stations freshWords entered opened fitted replaced dropped saved each hullOk draftOk formed hullRefusal deskRefusal roomRefusal openRefusal putRefusal takeRefusal saveRefusal readSheet readLines readLine agreed readNumbers readEntry fieldOf numberOf restOf readRest readFits readEnd allHold sheetLimits limitsOn sheetText linesText fitsText fitText numbersText digitsOf digitsIn product volumeN netZ sum boatM exactX markedC rising rowsRight rowFor noRow engineWeight liveLoad persons untested PlateC.plateC inboardX loadX markedA formulaWatts powerA PlateA.plateA
+unfolding transcript reply next day text stations freshWords entered opened fitted replaced dropped saved each hullOk draftOk formed hullRefusal deskRefusal roomRefusal openRefusal putRefusal takeRefusal saveRefusal readSheet readLines readLine agreed readNumbers readEntry fieldOf numberOf restOf readRest readFits readEnd allHold sheetLimits limitsOn sheetText linesText fitsText fitText numbersText digitsOf digitsIn product volumeN netZ sum boatM exactX markedC rising rowsRight rowFor noRow engineWeight liveLoad persons untested plateC inboardX loadX markedA formulaWatts powerA plateA
 a-day = refl
 
 -- its serial list is this one
@@ -89,7 +88,7 @@ a-day-in-order = refl
 
 -- and that list, run from fresh, has the same replies
 a-day-again : transcript freshWords (map call serial-day) ≡ serial-day
-unfolding transcript reply next serial-day text stations freshWords entered opened fitted replaced dropped saved each hullOk draftOk formed hullRefusal deskRefusal roomRefusal openRefusal putRefusal takeRefusal saveRefusal readSheet readLines readLine agreed readNumbers readEntry fieldOf numberOf restOf readRest readFits readEnd allHold sheetLimits limitsOn sheetText linesText fitsText fitText numbersText digitsOf digitsIn product volumeN netZ sum boatM exactX markedC rising rowsRight rowFor noRow engineWeight liveLoad persons untested PlateC.plateC inboardX loadX markedA formulaWatts powerA PlateA.plateA
+unfolding transcript reply next serial-day text stations freshWords entered opened fitted replaced dropped saved each hullOk draftOk formed hullRefusal deskRefusal roomRefusal openRefusal putRefusal takeRefusal saveRefusal readSheet readLines readLine agreed readNumbers readEntry fieldOf numberOf restOf readRest readFits readEnd allHold sheetLimits limitsOn sheetText linesText fitsText fitText numbersText digitsOf digitsIn product volumeN netZ sum boatM exactX markedC rising rowsRight rowFor noRow engineWeight liveLoad persons untested plateC inboardX loadX markedA formulaWatts powerA plateA
 a-day-again = refl
 
 -- what the day's history tells: hull 0 has had two accepted saves, though five were tried

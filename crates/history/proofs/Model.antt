@@ -9,14 +9,13 @@ use lib.ListN.{length, getD}
 use Rattle.sheet.specs.declared.Answer.the-variants.{Refused, Done, Count}
 use Rattle.sheet.specs.Lines.{fittings}
 use Rattle.sheet.specs.Calls.{writeAnswer, writeInto}
-use Rattle.plates.specs.PlateA
-use Rattle.plates.specs.PlateC
+use Rattle.plates.specs.Kinds.{plateOf}
 use Rattle.memory.specs.Layout.{mostHulls, desks, hullSheet}
 use Rattle.memory.specs.Formed.{mostEdits}
 use Rattle.memory.specs.Updates.{freshWords}
 use Rattle.register.specs.Refusals.{orRefused, sheetOf, onText}
 use Rattle.register.specs.Drafts.{putOwn}
-use Rattle.history.specs.Calls.{Work, put, takeOff, replace, tryPlateA, tryPlateC, Ask, plateA, plateC, write, Call, newHull, openHull, work, save, drop, ask, Reply, says}
+use Rattle.history.specs.Calls.{Work, put, takeOff, replace, tryPlate, Ask, plate, write, Call, newHull, openHull, work, save, drop, ask, Reply, says}
 use Rattle.history.specs.Runs.{Event, _⇒_, accepted}
 use Rattle.sheet.specs.Sheet.{fittingWord}
 use Rattle.history.specs.Told.{worked}
@@ -53,21 +52,18 @@ unfoldable pub workSays : Work → List ℕ → Reply
 workSays (put line weight) s = says (orRefused (putOwn line weight) Done)
 workSays (takeOff line) s = says (orRefused (takeFrom s line) Done)
 workSays (replace t) s = says (onText t Done Refused)
-workSays tryPlateA s = says (PlateA.plateA s)
-workSays (tryPlateC ps ws) s = says (PlateC.plateC s ps ws)
+workSays (tryPlate k) s = says (plateOf k s)
 
 abbrev workDone : Work → List ℕ → List ℕ
 workDone w s = cond (accepted (workSays w s)) (worked w s) s
 
 -- what is asked of hull h, whose sheet is s; and of a hull that is not there
 unfoldable pub askSays : ℕ → Ask → List ℕ → Reply
-askSays h plateA s = says (PlateA.plateA s)
-askSays h (plateC ps ws) s = says (PlateC.plateC s ps ws)
+askSays h (plate k) s = says (plateOf k s)
 askSays h (write out) s = record { answer = writeAnswer (h ∷ s) (length out); output = writeInto (h ∷ s) out }
 
 unfoldable pub askRefused : Ask → Reply
-askRefused plateA = says (Refused 5)
-askRefused (plateC ps ws) = says (Refused 5)
+askRefused (plate k) = says (Refused 5)
 askRefused (write out) = record { answer = Refused 5; output = out }
 
 -- ---- a state with one thing changed

@@ -1,4 +1,4 @@
--- Work on a draft, all five kinds by one law: an accepted piece of work changes the draft's sheet as `worked` says and nothing else, a refused one changes nothing.
+-- Work on a draft, all four kinds by one law: an accepted piece of work changes the draft's sheet as `worked` says and nothing else, a refused one changes nothing.
 -- Assumes nothing.
 use Prim.Native.Nat.{ℕ, _+_}
 use native.Mathlib.Omega.{arith}
@@ -27,7 +27,7 @@ use Rattle.register.specs.Drafts.{putRefusal, putAnswer, takeOwn, takeRefusal, 
 use Rattle.register.proofs.Keeps.{put-keeps, take-keeps, replace-keeps}
 use Rattle.sheet.proofs.Refused.{isRefusal}
 use Rattle.register.proofs.Effects.{put-refused, take-refused, replace-refused, put-makes, take-makes, replace-makes}
-use Rattle.history.specs.Calls.{Work, put, takeOff, replace, tryPlateA, tryPlateC, workReply, workMemory}
+use Rattle.history.specs.Calls.{Work, put, takeOff, replace, tryPlate, workReply, workMemory}
 use Rattle.history.specs.Runs.{taken, accepted}
 use Rattle.history.specs.Told.{worked}
 use Rattle.history.proofs.Model.{Draft, State, takeFrom, workSays, atDesk, edited}
@@ -78,22 +78,19 @@ module _ (m : List ℕ) (d : ℕ) (ok : formed m ≡ true) where
   work-formed (put line weight) = put-keeps m d line weight ok
   work-formed (takeOff line) = take-keeps m d line ok
   work-formed (replace t) = replace-keeps m d t ok
-  work-formed tryPlateA = ok
-  work-formed (tryPlateC ps ws) = ok
+  work-formed (tryPlate k) = ok
 
   work-kept : (w : Work) → accepted (workReply m d w) ≡ false → workMemory m d w ≡ m
   work-kept (put line weight) e = put-refused m d line weight (taken-refusal (putAnswer m d line weight) e)
   work-kept (takeOff line) e = take-refused m d line (taken-refusal (takeAnswer m d line) e)
   work-kept (replace t) e = replace-refused m d t (taken-refusal (replaceAnswer m d t) e)
-  work-kept tryPlateA e = refl
-  work-kept (tryPlateC ps ws) e = refl
+  work-kept (tryPlate k) e = refl
 
   work-changes : (w : Work) → deskRefusal m d ≡ 0 → accepted (workReply m d w) ≡ true → SheetChanges (workMemory m d w) m d (worked w (draftSheet m d))
   work-changes (put line weight) z e = let c = put-makes m d line weight (taken-zero _ _ e) in rw (c .is) (c .makes)
   work-changes (takeOff line) z e = let c = take-makes m d line (taken-zero _ _ e) in rw (c .is) (c .makes)
   work-changes (replace t) z e = let r = taken-read t (rw z at e) in let c = replace-makes m d t (r .size) z (r .is) in rw (c .is) (c .makes)
-  work-changes tryPlateA z e = unchanged m d ok
-  work-changes (tryPlateC ps ws) z e = unchanged m d ok
+  work-changes (tryPlate k) z e = unchanged m d ok
 
 -- ---- the reply: where the desk holds a draft it is that of the model
 
@@ -110,8 +107,7 @@ unfolding workSays putRefusal takeRefusal
 work-replies m d (put line weight) z = rw z refl
 work-replies m d (takeOff line) z = rw (z, take-same m d line) refl
 work-replies m d (replace t) z = rw z refl
-work-replies m d tryPlateA z = rw z refl
-work-replies m d (tryPlateC ps ws) z = rw z refl
+work-replies m d (tryPlate k) z = rw z refl
 
 -- ---- both
 

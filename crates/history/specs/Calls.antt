@@ -4,21 +4,20 @@ use Prim.Native.Nat.{ℕ}
 use mathlib.Core.List.{List, []}
 use lib.ListN.{length}
 use Rattle.sheet.specs.declared.Answer.{Answer}
-use Rattle.register.specs.Hulls.{newAnswer, newMemory, hullPlateA, hullPlateC, hullWritten, hullWrittenInto}
-use Rattle.register.specs.Drafts.{openAnswer, openMemory, putAnswer, putMemory, takeAnswer, takeMemory, replaceAnswer, replaceMemory, trialA, trialC, saveAnswer, saveMemory, dropAnswer, dropMemory}
+use Rattle.plates.specs.Kinds.{Kind}
+use Rattle.register.specs.Hulls.{newAnswer, newMemory, hullPlate, hullWritten, hullWrittenInto}
+use Rattle.register.specs.Drafts.{openAnswer, openMemory, putAnswer, putMemory, takeAnswer, takeMemory, replaceAnswer, replaceMemory, trial, saveAnswer, saveMemory, dropAnswer, dropMemory}
 
--- what a desk does on its draft: a fitting's line and weight; a line; a text; engine rows, powers and weights
+-- what a desk does on its draft: a fitting's line and weight; a line; a text; a plate on trial
 pub data Work : Type 0 where
   put : ℕ → ℕ → Work
   takeOff : ℕ → Work
   replace : List ℕ → Work
-  tryPlateA : Work
-  tryPlateC : List ℕ → List ℕ → Work
+  tryPlate : Kind → Work
 
 -- what is asked of a hull: its plates, and its text into a lent output, which is given as it stood
 pub data Ask : Type 0 where
-  plateA : Ask
-  plateC : List ℕ → List ℕ → Ask
+  plate : Kind → Ask
   write : List ℕ → Ask
 
 pub data Call : Type 0 where
@@ -43,12 +42,10 @@ abbrev pub workReply : List ℕ → ℕ → Work → Reply
 workReply m d (put line weight) = says (putAnswer m d line weight)
 workReply m d (takeOff line) = says (takeAnswer m d line)
 workReply m d (replace t) = says (replaceAnswer m d t)
-workReply m d tryPlateA = says (trialA m d)
-workReply m d (tryPlateC ps ws) = says (trialC m d ps ws)
+workReply m d (tryPlate k) = says (trial m d k)
 
 abbrev pub askReply : List ℕ → ℕ → Ask → Reply
-askReply m h plateA = says (hullPlateA m h)
-askReply m h (plateC ps ws) = says (hullPlateC m h ps ws)
+askReply m h (plate k) = says (hullPlate m h k)
 askReply m h (write out) = record { answer = hullWritten m h (length out); output = hullWrittenInto m h out }
 
 unfoldable pub reply : List ℕ → Call → Reply
@@ -65,8 +62,7 @@ abbrev pub workMemory : List ℕ → ℕ → Work → List ℕ
 workMemory m d (put line weight) = putMemory m d line weight
 workMemory m d (takeOff line) = takeMemory m d line
 workMemory m d (replace t) = replaceMemory m d t
-workMemory m d tryPlateA = m
-workMemory m d (tryPlateC ps ws) = m
+workMemory m d (tryPlate k) = m
 
 unfoldable pub next : List ℕ → Call → List ℕ
 next m (newHull t) = newMemory m t

@@ -8,7 +8,7 @@ use lib.Dec.{eqb}
 use lib.ListN.{set}
 use Rattle.sheet.specs.Sheet.{fittingWord}
 use Rattle.register.specs.Refusals.{sheetOf}
-use Rattle.history.specs.Calls.{Work, put, takeOff, replace, tryPlateA, tryPlateC, newHull, openHull, work, save, drop, ask}
+use Rattle.history.specs.Calls.{Work, put, takeOff, replace, tryPlate, newHull, openHull, work, save, drop, ask}
 use Rattle.history.specs.Runs.{Event, _⇒_, accepted}
 use Rattle.history.specs.History.{itsOpen, itsCall, itsEnd, elsewhere, role}
 
@@ -65,8 +65,7 @@ abbrev pub worked : Work → List ℕ → List ℕ
 worked (put line weight) s = set s (fittingWord line) weight
 worked (takeOff line) s = set s (fittingWord line) 0
 worked (replace t) s = sheetOf t
-worked tryPlateA s = s
-worked (tryPlateC ps ws) s = s
+worked (tryPlate k) s = s
 
 -- the sheet s after an event: accepted work is done on it, and nothing else changes it
 abbrev did : Event → List ℕ → List ℕ

@@ -8,8 +8,9 @@ use Rattle.sheet.specs.Reading.{readSheet}
 use Rattle.sheet.specs.Engines.{readEngines}
 use Rattle.sheet.specs.Calls.{readAnswer, readInto, writeAnswer, writeInto, enginesAnswer, columnsInto}
 use Rattle.sheet.proofs.Calls.{one-outcome}
-use Rattle.register.specs.Hulls.{freshAnswer, freshMemory, newAnswer, newMemory, hullPlateA, hullPlateC, hullWritten, hullWrittenInto}
-use Rattle.register.specs.Drafts.{openAnswer, openMemory, putAnswer, putMemory, takeAnswer, takeMemory, replaceAnswer, replaceMemory, trialA, trialC, saveAnswer, saveMemory, dropAnswer, dropMemory}
+use Rattle.plates.specs.Kinds.{kindA, kindC}
+use Rattle.register.specs.Hulls.{freshAnswer, freshMemory, newAnswer, newMemory, hullPlate, hullWritten, hullWrittenInto}
+use Rattle.register.specs.Drafts.{openAnswer, openMemory, putAnswer, putMemory, takeAnswer, takeMemory, replaceAnswer, replaceMemory, trial, saveAnswer, saveMemory, dropAnswer, dropMemory}
 use Rattle.office.specs.declared.WbAnswer.{WbAnswer}
 use Rattle.office.specs.Face.{faced}
 
@@ -44,11 +45,11 @@ one-wb-take-off m d line = one (faced (takeAnswer m d line)) (takeMemory m d lin
 pub one-wb-replace : (m : List ℕ) (d : ℕ) (t : List ℕ) → One (faced (replaceAnswer m d t)) (replaceMemory m d t)
 one-wb-replace m d t = one (faced (replaceAnswer m d t)) (replaceMemory m d t)
 
-pub one-wb-trial-a : (m : List ℕ) (d : ℕ) → OneAnswer (faced (trialA m d))
-one-wb-trial-a m d = one-answer (faced (trialA m d))
+pub one-wb-trial-a : (m : List ℕ) (d : ℕ) → OneAnswer (faced (trial m d kindA))
+one-wb-trial-a m d = one-answer (faced (trial m d kindA))
 
-pub one-wb-trial-c : (m : List ℕ) (d : ℕ) (ps ws : List ℕ) → OneAnswer (faced (trialC m d ps ws))
-one-wb-trial-c m d ps ws = one-answer (faced (trialC m d ps ws))
+pub one-wb-trial-c : (m : List ℕ) (d : ℕ) (ps ws : List ℕ) → OneAnswer (faced (trial m d (kindC ps ws)))
+one-wb-trial-c m d ps ws = one-answer (faced (trial m d (kindC ps ws)))
 
 pub one-wb-save : (m : List ℕ) (d : ℕ) → One (faced (saveAnswer m d)) (saveMemory m d)
 one-wb-save m d = one (faced (saveAnswer m d)) (saveMemory m d)
@@ -56,11 +57,11 @@ one-wb-save m d = one (faced (saveAnswer m d)) (saveMemory m d)
 pub one-wb-drop : (m : List ℕ) (d : ℕ) → One (faced (dropAnswer m d)) (dropMemory m d)
 one-wb-drop m d = one (faced (dropAnswer m d)) (dropMemory m d)
 
-pub one-wb-plate-a : (m : List ℕ) (h : ℕ) → OneAnswer (faced (hullPlateA m h))
-one-wb-plate-a m h = one-answer (faced (hullPlateA m h))
+pub one-wb-plate-a : (m : List ℕ) (h : ℕ) → OneAnswer (faced (hullPlate m h kindA))
+one-wb-plate-a m h = one-answer (faced (hullPlate m h kindA))
 
-pub one-wb-plate-c : (m : List ℕ) (h : ℕ) (ps ws : List ℕ) → OneAnswer (faced (hullPlateC m h ps ws))
-one-wb-plate-c m h ps ws = one-answer (faced (hullPlateC m h ps ws))
+pub one-wb-plate-c : (m : List ℕ) (h : ℕ) (ps ws : List ℕ) → OneAnswer (faced (hullPlate m h (kindC ps ws)))
+one-wb-plate-c m h ps ws = one-answer (faced (hullPlate m h (kindC ps ws)))
 
 pub one-wb-write-hull : (m : List ℕ) (h : ℕ) (out : List ℕ) → One (faced (hullWritten m h (length out))) (hullWrittenInto m h out)
 one-wb-write-hull m h out = one (faced (hullWritten m h (length out))) (hullWrittenInto m h out)

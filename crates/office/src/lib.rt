@@ -5,8 +5,9 @@ ghost use Rattle.sheet.specs.Settled.{Settled};
 ghost use Rattle.sheet.specs.Reading.{readSheet};
 ghost use Rattle.sheet.specs.Engines.{readEngines};
 ghost use Rattle.sheet.specs.Calls.{readAnswer, readInto, writeAnswer, writeInto, enginesAnswer, columnsInto};
-ghost use Rattle.register.specs.Hulls.{freshAnswer, freshMemory, newAnswer, newMemory, hullPlateA, hullPlateC, hullWritten, hullWrittenInto};
-ghost use Rattle.register.specs.Drafts.{openAnswer, openMemory, putAnswer, putMemory, takeAnswer, takeMemory, replaceAnswer, replaceMemory, trialA, trialC, saveAnswer, saveMemory, dropAnswer, dropMemory};
+ghost use Rattle.plates.specs.Kinds.{kindA, kindC};
+ghost use Rattle.register.specs.Hulls.{freshAnswer, freshMemory, newAnswer, newMemory, hullPlate, hullWritten, hullWrittenInto};
+ghost use Rattle.register.specs.Drafts.{openAnswer, openMemory, putAnswer, putMemory, takeAnswer, takeMemory, replaceAnswer, replaceMemory, trial, saveAnswer, saveMemory, dropAnswer, dropMemory};
 ghost use Rattle.office.specs.Face.{faced};
 use sheet::Answer;
 use sheet::TEXT_WORDS;
@@ -103,7 +104,7 @@ pub extern "C" fn wb_replace(mem: &mut [u32], desk: u32, text: &[u8]) -> WbAnswe
 // Plate A of a desk's draft; answers load and power.
 #[no_mangle]
 pub extern "C" fn wb_trial_a(mem: &[u32], desk: u32) -> WbAnswer
-    ensures { λ r. ⌜ r ≡ faced (trialA (now (mem .entry)) desk) ⌝ }
+    ensures { λ r. ⌜ r ≡ faced (trial (now (mem .entry)) desk kindA) ⌝ }
 {
     face(answering::trial_a(mem, desk))
 }
@@ -111,7 +112,7 @@ pub extern "C" fn wb_trial_a(mem: &[u32], desk: u32) -> WbAnswer
 // Plate C of a desk's draft; answers load and persons.
 #[no_mangle]
 pub extern "C" fn wb_trial_c(mem: &[u32], desk: u32, powers: &[u32], weights: &[u32]) -> WbAnswer
-    ensures { λ r. ⌜ r ≡ faced (trialC (now (mem .entry)) desk (now (powers .entry)) (now (weights .entry))) ⌝ }
+    ensures { λ r. ⌜ r ≡ faced (trial (now (mem .entry)) desk (kindC (now (powers .entry)) (now (weights .entry)))) ⌝ }
 {
     face(answering::trial_c(mem, desk, powers, weights))
 }
@@ -135,7 +136,7 @@ pub extern "C" fn wb_drop(mem: &mut [u32], desk: u32) -> WbAnswer
 // Plate A of a hull; answers load and power.
 #[no_mangle]
 pub extern "C" fn wb_plate_a(mem: &[u32], hull: u32) -> WbAnswer
-    ensures { λ r. ⌜ r ≡ faced (hullPlateA (now (mem .entry)) hull) ⌝ }
+    ensures { λ r. ⌜ r ≡ faced (hullPlate (now (mem .entry)) hull kindA) ⌝ }
 {
     face(answering::plate_a(mem, hull))
 }
@@ -143,7 +144,7 @@ pub extern "C" fn wb_plate_a(mem: &[u32], hull: u32) -> WbAnswer
 // Plate C of a hull; answers load and persons.
 #[no_mangle]
 pub extern "C" fn wb_plate_c(mem: &[u32], hull: u32, powers: &[u32], weights: &[u32]) -> WbAnswer
-    ensures { λ r. ⌜ r ≡ faced (hullPlateC (now (mem .entry)) hull (now (powers .entry)) (now (weights .entry))) ⌝ }
+    ensures { λ r. ⌜ r ≡ faced (hullPlate (now (mem .entry)) hull (kindC (now (powers .entry)) (now (weights .entry)))) ⌝ }
 {
     face(answering::plate_c(mem, hull, powers, weights))
 }

@@ -6,5 +6,6 @@ pub mod Weights
 pub mod PlateC
 pub mod PlateA
 pub mod PlateU
+pub mod Kinds
 pub mod Bounds
 pub mod Samples

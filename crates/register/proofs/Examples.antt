@@ -19,11 +19,12 @@ use Rattle.plates.specs.Volume.{product, volumeN, netZ}
 use Rattle.plates.specs.Weights.{sum, boatM}
 use Rattle.plates.specs.PlateC.{exactX, markedC, rising, rowsRight, rowFor, noRow, engineWeight, liveLoad, persons, untested, plateC}
 use Rattle.plates.specs.PlateA.{inboardX, loadX, markedA, formulaWatts, powerA, plateA}
+use Rattle.plates.specs.Kinds.{Kind, kindA, kindC}
 use Rattle.memory.specs.Formed.{each, hullOk, draftOk, formed}
 use Rattle.memory.specs.Updates.{freshWords, entered, opened, fitted, replaced, dropped, saved}
 use Rattle.register.specs.Refusals.{hullRefusal, deskRefusal}
-use Rattle.register.specs.Hulls.{roomRefusal, newAnswer, newMemory, hullPlateA, hullPlateC, hullWritten, hullWrittenInto}
-use Rattle.register.specs.Drafts.{openRefusal, openAnswer, openMemory, putRefusal, putAnswer, putMemory, takeRefusal, takeAnswer, takeMemory, replaceAnswer, replaceMemory, trialA, trialC, saveRefusal, saveAnswer, saveMemory, dropAnswer, dropMemory}
+use Rattle.register.specs.Hulls.{roomRefusal, newAnswer, newMemory, hullPlate, hullWritten, hullWrittenInto}
+use Rattle.register.specs.Drafts.{openRefusal, openAnswer, openMemory, putRefusal, putAnswer, putMemory, takeRefusal, takeAnswer, takeMemory, replaceAnswer, replaceMemory, trial, saveRefusal, saveAnswer, saveMemory, dropAnswer, dropMemory}
 
 -- a call, as what it answers and what it leaves of the memory, with the answer that it must give
 record Step : Type 0 where
@@ -87,6 +88,12 @@ puts d line w = does (λ (m : List ℕ). putAnswer m d line w) (λ (m : List ℕ
 abbrev takes : ℕ → ℕ → Answer → Step
 takes d line = does (λ (m : List ℕ). takeAnswer m d line) (λ (m : List ℕ). takeMemory m d line)
 
+abbrev tries : ℕ → Kind → Answer → Step
+tries d k = asks (λ (m : List ℕ). trial m d k)
+
+abbrev marks : ℕ → Kind → Answer → Step
+marks h k = asks (λ (m : List ℕ). hullPlate m h k)
+
 abbrev saves : ℕ → Answer → Step
 saves d = does (λ (m : List ℕ). saveAnswer m d) (λ (m : List ℕ). saveMemory m d)
 
@@ -101,14 +108,14 @@ day =
     -- desk 0 works on hull 0, where desk 7 has opened it too
     ∷ opens 7 0 (Count 0) ∷ opens 0 0 (Count 0)
     ∷ puts 0 25 1 (Refused 3) ∷ puts 0 2 500001 (Refused 3) ∷ puts 0 2 3334 Done
-    ∷ asks (λ (m : List ℕ). trialA m 0) (Plate 326 20000) ∷ asks (λ (m : List ℕ). hullPlateA m 0) (Plate 327 20000) ∷ asks (λ (m : List ℕ). trialC m 0 rows grams) (Plate 325 3)
-    ∷ takes 0 1 (Refused 17) ∷ saves 0 (Count 1) ∷ asks (λ (m : List ℕ). hullPlateA m 0) (Plate 326 20000)
+    ∷ tries 0 kindA (Plate 326 20000) ∷ marks 0 kindA (Plate 327 20000) ∷ tries 0 (kindC rows grams) (Plate 325 3)
+    ∷ takes 0 1 (Refused 17) ∷ saves 0 (Count 1) ∷ marks 0 kindA (Plate 326 20000)
     -- desk 7's draft is behind; opened anew it is the saved sheet, from which the fitting is taken off
     ∷ saves 7 (Refused 8) ∷ opens 7 0 (Count 1) ∷ takes 7 2 Done ∷ takes 7 2 (Refused 17) ∷ saves 7 (Count 2)
-    ∷ asks (λ (m : List ℕ). hullPlateC m 0 rows grams) (Plate 326 3) ∷ asks (λ (m : List ℕ). hullPlateC m 1 rows grams) (Plate 325 3) ∷ asks (λ (m : List ℕ). hullPlateA m 2) (Refused 5)
+    ∷ marks 0 (kindC rows grams) (Plate 326 3) ∷ marks 1 (kindC rows grams) (Plate 325 3) ∷ marks 2 kindA (Refused 5)
     -- replace, then drop: nothing of it is left
-    ∷ opens 3 1 (Count 0) ∷ does (λ (m : List ℕ). replaceAnswer m 3 (text "200000")) (λ (m : List ℕ). replaceMemory m 3 (text "200000")) Done ∷ asks (λ (m : List ℕ). trialA m 3) (Plate 327 20000)
-    ∷ does (λ (m : List ℕ). dropAnswer m 3) (λ (m : List ℕ). dropMemory m 3) Done ∷ asks (λ (m : List ℕ). trialA m 3) (Refused 7) ∷ asks (λ (m : List ℕ). replaceAnswer m 3 []) (Refused 7) ∷ asks (λ (m : List ℕ). hullPlateA m 1) (Plate 326 20000)
+    ∷ opens 3 1 (Count 0) ∷ does (λ (m : List ℕ). replaceAnswer m 3 (text "200000")) (λ (m : List ℕ). replaceMemory m 3 (text "200000")) Done ∷ tries 3 kindA (Plate 327 20000)
+    ∷ does (λ (m : List ℕ). dropAnswer m 3) (λ (m : List ℕ). dropMemory m 3) Done ∷ tries 3 kindA (Refused 7) ∷ asks (λ (m : List ℕ). replaceAnswer m 3 []) (Refused 7) ∷ marks 1 kindA (Plate 326 20000)
     -- written under the register's number
     ∷ asks (λ (m : List ℕ). hullWritten m 2 0) (Refused 5) ∷ asks (λ (m : List ℕ). hullWritten m 1 225) (Refused 16) ∷ asks (λ (m : List ℕ). hullWritten m 1 226) (Count 226)
     ∷ []

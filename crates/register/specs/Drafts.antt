@@ -7,8 +7,7 @@ use lib.ListN.{getD}
 use Rattle.sheet.specs.declared.Answer.{Answer}
 use Rattle.sheet.specs.declared.Answer.the-variants.{Refused, Done, Count}
 use Rattle.sheet.specs.Lines.{fittings, fittingHigh}
-use Rattle.plates.specs.PlateA.{plateA}
-use Rattle.plates.specs.PlateC.{plateC}
+use Rattle.plates.specs.Kinds.{Kind, plateOf}
 use Rattle.memory.specs.Layout.{desks, count, edit, draftHull, opening, draftSheet, fittingAt}
 use Rattle.memory.specs.Formed.{mostEdits, formed}
 use Rattle.memory.specs.Updates.{opened, fitted, replaced, dropped, saved}
@@ -63,11 +62,8 @@ replaceMemory m d t = orKept (deskRefusal m d) (onText t (replaced m d (sheetOf 
 
 -- ---- trial plates: 1, 6, 7, then the plate's own
 
-abbrev pub trialA : List ℕ → ℕ → Answer
-trialA m d = orRefused (deskRefusal m d) (plateA (draftSheet m d))
-
-abbrev pub trialC : List ℕ → ℕ → List ℕ → List ℕ → Answer
-trialC m d ps ws = orRefused (deskRefusal m d) (plateC (draftSheet m d) ps ws)
+abbrev pub trial : List ℕ → ℕ → Kind → Answer
+trial m d k = orRefused (deskRefusal m d) (plateOf k (draftSheet m d))
 
 -- ---- save: 1, 6, 7, then 8 before 9; it answers the edit number
 
