@@ -18,7 +18,8 @@ use Rattle.plates.specs.Volume.{product, volumeN, netZ}
 use Rattle.plates.specs.Weights.{sum, boatM}
 use Rattle.plates.specs.PlateC.{exactX, markedC, rising, rowsRight, rowFor, noRow, engineWeight, liveLoad, persons, untested, plateC}
 use Rattle.plates.specs.PlateA.{inboardX, loadX, markedA, formulaWatts, powerA, plateA}
-use Rattle.plates.specs.Kinds.{kindA, kindC}
+use Rattle.plates.specs.PlateU.{ruleU, markedU, plateU}
+use Rattle.plates.specs.Kinds.{kindA, kindC, kindU}
 use Rattle.memory.specs.Formed.{each, hullOk, draftOk, formed}
 use Rattle.memory.specs.Updates.{freshWords, entered, opened, fitted, replaced, dropped, saved}
 use Rattle.register.specs.Refusals.{hullRefusal, deskRefusal}
@@ -55,7 +56,8 @@ day =
     entering
     ∷ (openHull 0 0 ⇒ says (Count 0)) ∷ (openHull 1 0 ⇒ says (Count 0))
     ∷ (work 1 (put 2 3334) ⇒ says Done) ∷ (work 0 (put 1 500) ⇒ says Done)
-    ∷ (ask 0 (plate kindA) ⇒ says (Plate 327 20000)) ∷ (work 1 (tryPlate kindA) ⇒ says (Plate 326 20000)) ∷ (save 1 ⇒ says (Count 1)) ∷ (ask 0 (plate kindA) ⇒ says (Plate 326 20000))
+    ∷ (ask 0 (plate kindA) ⇒ says (Plate 327 20000)) ∷ (ask 0 (plate kindU) ⇒ says (Count 720)) ∷ (work 1 (tryPlate kindA) ⇒ says (Plate 326 20000)) ∷ (work 1 (tryPlate kindU) ⇒ says (Count 718))
+    ∷ (save 1 ⇒ says (Count 1)) ∷ (ask 0 (plate kindA) ⇒ says (Plate 326 20000)) ∷ (ask 0 (plate kindU) ⇒ says (Count 718))
     -- desk 0 is behind, and opens anew; meanwhile desk 3 opens too
     ∷ (save 0 ⇒ says (Refused 8)) ∷ (openHull 0 0 ⇒ says (Count 1)) ∷ (openHull 3 0 ⇒ says (Count 1)) ∷ (work 0 (takeOff 1) ⇒ says (Refused 17)) ∷ trialC
     ∷ writing ∷ (work 0 (takeOff 2) ⇒ says Done) ∷ (save 0 ⇒ says (Count 2))
@@ -67,10 +69,10 @@ day =
 serial-day : List Event
 serial-day =
     entering
-    ∷ (ask 0 (plate kindA) ⇒ says (Plate 327 20000))
-    -- desk 1's block, at its save's place, its trial among its calls
-    ∷ (openHull 1 0 ⇒ says (Count 0)) ∷ (work 1 (put 2 3334) ⇒ says Done) ∷ (work 1 (tryPlate kindA) ⇒ says (Plate 326 20000)) ∷ (save 1 ⇒ says (Count 1))
-    ∷ (ask 0 (plate kindA) ⇒ says (Plate 326 20000)) ∷ writing
+    ∷ (ask 0 (plate kindA) ⇒ says (Plate 327 20000)) ∷ (ask 0 (plate kindU) ⇒ says (Count 720))
+    -- desk 1's block, at its save's place, its trials among its calls
+    ∷ (openHull 1 0 ⇒ says (Count 0)) ∷ (work 1 (put 2 3334) ⇒ says Done) ∷ (work 1 (tryPlate kindA) ⇒ says (Plate 326 20000)) ∷ (work 1 (tryPlate kindU) ⇒ says (Count 718)) ∷ (save 1 ⇒ says (Count 1))
+    ∷ (ask 0 (plate kindA) ⇒ says (Plate 326 20000)) ∷ (ask 0 (plate kindU) ⇒ says (Count 718)) ∷ writing
     -- desk 0's second draft; its first is left out
     ∷ (openHull 0 0 ⇒ says (Count 1)) ∷ (work 0 (takeOff 1) ⇒ says (Refused 17)) ∷ trialC ∷ (work 0 (takeOff 2) ⇒ says Done) ∷ (save 0 ⇒ says (Count 2))
     ∷ faulty ∷ (ask 1 (plate kindA) ⇒ says (Refused 5)) ∷ (ask 0 (plate kindA) ⇒ says (Plate 327 20000))
@@ -78,7 +80,7 @@ serial-day =
 
 -- the day is as it says
 a-day : transcript freshWords (map call day) ≡ day
-unfolding transcript reply next day text stations freshWords entered opened fitted replaced dropped saved each hullOk draftOk formed hullRefusal deskRefusal roomRefusal openRefusal putRefusal takeRefusal saveRefusal readSheet readLines readLine agreed readNumbers readEntry fieldOf numberOf restOf readRest readFits readEnd allHold sheetLimits limitsOn sheetText linesText fitsText fitText numbersText digitsOf digitsIn product volumeN netZ sum boatM exactX markedC rising rowsRight rowFor noRow engineWeight liveLoad persons untested plateC inboardX loadX markedA formulaWatts powerA plateA
+unfolding transcript reply next day text stations freshWords entered opened fitted replaced dropped saved each hullOk draftOk formed hullRefusal deskRefusal roomRefusal openRefusal putRefusal takeRefusal saveRefusal readSheet readLines readLine agreed readNumbers readEntry fieldOf numberOf restOf readRest readFits readEnd allHold sheetLimits limitsOn sheetText linesText fitsText fitText numbersText digitsOf digitsIn product volumeN netZ sum boatM exactX markedC rising rowsRight rowFor noRow engineWeight liveLoad persons untested plateC inboardX loadX markedA formulaWatts powerA plateA ruleU markedU plateU
 a-day = refl
 
 -- its serial list is this one
@@ -88,7 +90,7 @@ a-day-in-order = refl
 
 -- and that list, run from fresh, has the same replies
 a-day-again : transcript freshWords (map call serial-day) ≡ serial-day
-unfolding transcript reply next serial-day text stations freshWords entered opened fitted replaced dropped saved each hullOk draftOk formed hullRefusal deskRefusal roomRefusal openRefusal putRefusal takeRefusal saveRefusal readSheet readLines readLine agreed readNumbers readEntry fieldOf numberOf restOf readRest readFits readEnd allHold sheetLimits limitsOn sheetText linesText fitsText fitText numbersText digitsOf digitsIn product volumeN netZ sum boatM exactX markedC rising rowsRight rowFor noRow engineWeight liveLoad persons untested plateC inboardX loadX markedA formulaWatts powerA plateA
+unfolding transcript reply next serial-day text stations freshWords entered opened fitted replaced dropped saved each hullOk draftOk formed hullRefusal deskRefusal roomRefusal openRefusal putRefusal takeRefusal saveRefusal readSheet readLines readLine agreed readNumbers readEntry fieldOf numberOf restOf readRest readFits readEnd allHold sheetLimits limitsOn sheetText linesText fitsText fitText numbersText digitsOf digitsIn product volumeN netZ sum boatM exactX markedC rising rowsRight rowFor noRow engineWeight liveLoad persons untested plateC inboardX loadX markedA formulaWatts powerA plateA ruleU markedU plateU
 a-day-again = refl
 
 -- what the day's history tells: hull 0 has had two accepted saves, though five were tried
@@ -96,7 +98,7 @@ a-day-counted : savesOf 0 (reverse day) ≡ 2
 unfolding savesOf isSaveOf opening role day
 a-day-counted = refl
 
--- when desk 0 came to save first, after nine calls, desk 1 had saved
-a-day-late : quietSince 0 0 (reverse (take 9 day)) ≡ false
+-- when desk 0 came to save first, after twelve calls, desk 1 had saved
+a-day-late : quietSince 0 0 (reverse (take 12 day)) ≡ false
 unfolding quietSince isSaveOf opening role day
 a-day-late = refl

@@ -19,7 +19,8 @@ use Rattle.plates.specs.Volume.{product, volumeN, netZ}
 use Rattle.plates.specs.Weights.{sum, boatM}
 use Rattle.plates.specs.PlateC.{exactX, markedC, rising, rowsRight, rowFor, noRow, engineWeight, liveLoad, persons, untested, plateC}
 use Rattle.plates.specs.PlateA.{inboardX, loadX, markedA, formulaWatts, powerA, plateA}
-use Rattle.plates.specs.Kinds.{Kind, kindA, kindC}
+use Rattle.plates.specs.PlateU.{ruleU, markedU, plateU}
+use Rattle.plates.specs.Kinds.{Kind, kindA, kindC, kindU}
 use Rattle.memory.specs.Formed.{each, hullOk, draftOk, formed}
 use Rattle.memory.specs.Updates.{freshWords, entered, opened, fitted, replaced, dropped, saved}
 use Rattle.register.specs.Refusals.{hullRefusal, deskRefusal}
@@ -108,20 +109,20 @@ day =
     -- desk 0 works on hull 0, where desk 7 has opened it too
     ∷ opens 7 0 (Count 0) ∷ opens 0 0 (Count 0)
     ∷ puts 0 25 1 (Refused 3) ∷ puts 0 2 500001 (Refused 3) ∷ puts 0 2 3334 Done
-    ∷ tries 0 kindA (Plate 326 20000) ∷ marks 0 kindA (Plate 327 20000) ∷ tries 0 (kindC rows grams) (Plate 325 3)
+    ∷ tries 0 kindA (Plate 326 20000) ∷ marks 0 kindA (Plate 327 20000) ∷ tries 0 (kindC rows grams) (Plate 325 3) ∷ tries 0 kindU (Count 718) ∷ marks 0 kindU (Count 720)
     ∷ takes 0 1 (Refused 17) ∷ saves 0 (Count 1) ∷ marks 0 kindA (Plate 326 20000)
     -- desk 7's draft is behind; opened anew it is the saved sheet, from which the fitting is taken off
     ∷ saves 7 (Refused 8) ∷ opens 7 0 (Count 1) ∷ takes 7 2 Done ∷ takes 7 2 (Refused 17) ∷ saves 7 (Count 2)
-    ∷ marks 0 (kindC rows grams) (Plate 326 3) ∷ marks 1 (kindC rows grams) (Plate 325 3) ∷ marks 2 kindA (Refused 5)
+    ∷ marks 0 (kindC rows grams) (Plate 326 3) ∷ marks 1 (kindC rows grams) (Plate 325 3) ∷ marks 1 kindU (Count 718) ∷ marks 2 kindA (Refused 5) ∷ marks 2 kindU (Refused 5)
     -- replace, then drop: nothing of it is left
     ∷ opens 3 1 (Count 0) ∷ does (λ (m : List ℕ). replaceAnswer m 3 (text "200000")) (λ (m : List ℕ). replaceMemory m 3 (text "200000")) Done ∷ tries 3 kindA (Plate 327 20000)
-    ∷ does (λ (m : List ℕ). dropAnswer m 3) (λ (m : List ℕ). dropMemory m 3) Done ∷ tries 3 kindA (Refused 7) ∷ asks (λ (m : List ℕ). replaceAnswer m 3 []) (Refused 7) ∷ marks 1 kindA (Plate 326 20000)
+    ∷ does (λ (m : List ℕ). dropAnswer m 3) (λ (m : List ℕ). dropMemory m 3) Done ∷ tries 3 kindA (Refused 7) ∷ tries 3 kindU (Refused 7) ∷ tries 8 kindU (Refused 6) ∷ asks (λ (m : List ℕ). replaceAnswer m 3 []) (Refused 7) ∷ marks 1 kindA (Plate 326 20000)
     -- written under the register's number
     ∷ asks (λ (m : List ℕ). hullWritten m 2 0) (Refused 5) ∷ asks (λ (m : List ℕ). hullWritten m 1 225) (Refused 16) ∷ asks (λ (m : List ℕ). hullWritten m 1 226) (Count 226)
     ∷ []
 
 a-day : day-right freshWords day ≡ true
-unfolding day-right same day text numbered-text stations rows grams freshWords entered opened fitted replaced dropped saved each hullOk draftOk formed hullRefusal deskRefusal roomRefusal openRefusal putRefusal takeRefusal saveRefusal readSheet readLines readLine agreed readNumbers readEntry fieldOf numberOf restOf readRest readFits readEnd allHold sheetLimits limitsOn sheetText linesText fitsText fitText numbersText digitsOf digitsIn product volumeN netZ sum boatM exactX markedC rising rowsRight rowFor noRow engineWeight liveLoad persons untested plateC inboardX loadX markedA formulaWatts powerA plateA
+unfolding day-right same day text numbered-text stations rows grams freshWords entered opened fitted replaced dropped saved each hullOk draftOk formed hullRefusal deskRefusal roomRefusal openRefusal putRefusal takeRefusal saveRefusal readSheet readLines readLine agreed readNumbers readEntry fieldOf numberOf restOf readRest readFits readEnd allHold sheetLimits limitsOn sheetText linesText fitsText fitText numbersText digitsOf digitsIn product volumeN netZ sum boatM exactX markedC rising rowsRight rowFor noRow engineWeight liveLoad persons untested plateC inboardX loadX markedA formulaWatts powerA plateA ruleU markedU plateU
 a-day = refl
 
 -- the bytes of a hull's text: the register's number, and nothing beyond the text
