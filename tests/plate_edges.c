@@ -2,70 +2,20 @@
 #include "material.h"
 #include "parts.h"
 #include "steps.h"
+#include "water.h"
 
-#include <string.h>
-
-#define GRAM 180000                    /* the rules count grams multiplied by this */
-#define KILOGRAM ((int64_t)900000000)  /* of load: five times that */
+#define KILOGRAM ((int64_t)900000000)  /* of load: 5000 * GRAM */
 #define KILOGRAM_LOW_POWER ((int64_t)600000000)
 
 static const uint32_t weightless_powers[] = {200000}, weightless[] = {0};
 
-/* ---- a sheet of any net weight that is wanted, to the last unit ---- */
+/* ---- loads ---- */
 
-/* This reference length has no divisor in common with GRAM, so that its multiples leave every remainder. */
-#define PRIME_REFERENCE 2003
-#define FULL_STATION 37500
-
-/* The number whose product with the reference length leaves 1 over GRAM. */
-static int64_t inverse_of_reference(void)
-{
-    int64_t inverse = 1;
-    while (PRIME_REFERENCE * inverse % GRAM != 1)
-        inverse++;
-    return inverse;
-}
-
-static uint32_t take(int64_t *sum, int64_t factor)
-{
-    int64_t reading = *sum / factor < 2500 ? *sum / factor : 2500;
-    *sum -= factor * reading;
-    return (uint32_t)reading;
-}
-
-/* Readings of which the product is breadth times the sum. */
-static void fill_station(wb_station *station, uint32_t breadth, int64_t sum)
-{
-    station->b = breadth;
-    station->r = take(&sum, 4);
-    station->t = take(&sum, 4);
-    station->s = take(&sum, 2);
-    station->u = take(&sum, 2);
-    station->v = take(&sum, 2);
-    station->q = take(&sum, 1);
-    insist(sum == 0, "the test's station has no such product");
-}
-
-/* Z - GRAM * (M + factor * (fuel + machinery)) of the sheet becomes net: the stations give the remainder of a gram, the volumes the grams. */
+/* Z - GRAM * (M + factor * (fuel + machinery)) of a sheet without fittings becomes net. */
 static void set_net(wb_sheet *sheet, int64_t net, int64_t factor)
 {
-    static int64_t inverse;
-    inverse = inverse ? inverse : inverse_of_reference();
-    int64_t sum = (net % GRAM + GRAM) % GRAM * inverse % GRAM, first = sum / 4 < FULL_STATION ? sum / 4 : FULL_STATION;
-    sheet->reference = PRIME_REFERENCE;
-    memset(sheet->station, 0, sizeof sheet->station);
-    fill_station(&sheet->station[0], 1, first);
-    fill_station(&sheet->station[3], 1, sum - 4 * first);
-    int64_t grams = (net - PRIME_REFERENCE * sum) / GRAM + sheet->bare + factor * ((int64_t)sheet->fuel + sheet->machinery);
-    if (grams > 5000000) {
-        fill_station(&sheet->station[2], 3600, FULL_STATION);
-        grams -= (int64_t)4 * 3600 * FULL_STATION * PRIME_REFERENCE / GRAM;
-    }
-    sheet->aft = grams > 0 ? (uint32_t)grams : 0;
-    sheet->well = grams < 0 ? (uint32_t)-grams : 0;
+    set_water(sheet, net + GRAM * (sheet->bare + factor * ((int64_t)sheet->fuel + sheet->machinery)));
 }
-
-/* ---- loads ---- */
 
 static wb_sheet inboard_hull(void)
 {

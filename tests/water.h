@@ -1,0 +1,13 @@
+/* water.h: a sheet of any water that is wanted, to the last unit of the rules. */
+#ifndef WILLOWBLINK_WATER_H
+#define WILLOWBLINK_WATER_H
+
+#include "willowblink.h"
+
+/* The rules count grams multiplied by this. */
+#define GRAM ((int64_t)180000)
+
+/* Z of the sheet becomes this, from 5 tonnes below nothing to 11 above: by its reference length, stations, aft structure and motor well. */
+void set_water(wb_sheet *sheet, int64_t water);
+
+#endif
