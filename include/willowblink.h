@@ -70,7 +70,7 @@ typedef enum wb_refusal {
     WB_EDITS_SPENT = 9,     /* the hull's edit number is 65,535 */
     WB_BAD_ROWS = 10,       /* engine rows: none, more than 40, slices of two lengths, powers that do not rise, or a number outside its limits */
     WB_NO_ROW = 11,         /* no engine row reaches the declared power */
-    WB_NO_LOAD = 12,        /* the marked load would be below 1 */
+    WB_NO_LOAD = 12,        /* the marked load would be below 1, in kilograms on plates A and C, in pounds on plate U */
     WB_NO_POWER = 13,       /* a flat-bottomed outboard too small for the power table */
     WB_UNTESTED = 14,       /* tested persons are wanted and missing */
     WB_NO_PERSONS = 15,     /* persons would be below 1 */
@@ -179,6 +179,12 @@ wb_answer wb_trial_c(const uint32_t *mem, size_t mem_len, uint32_t desk, const u
                      size_t weights_len);
 
 /*
+ * Plate U of the desk's draft, as a trial. The memory is only read.
+ * Answers: first is the load in pounds. Refuses: 1, 6, 7; 12.
+ */
+wb_answer wb_trial_u(const uint32_t *mem, size_t mem_len, uint32_t desk);
+
+/*
  * Saves the desk's draft as its hull's sheet, even if nothing differs, and ends the draft; refused, it leaves the draft. The other hulls and the other
  * drafts are left alone, those of the same hull too: their saves are then refused with 8.
  * Answers: first is the hull's edit number, which is one more than before. Refuses: 1, 6, 7; 8, then 9.
@@ -204,6 +210,12 @@ wb_answer wb_plate_a(const uint32_t *mem, size_t mem_len, uint32_t hull);
  */
 wb_answer wb_plate_c(const uint32_t *mem, size_t mem_len, uint32_t hull, const uint32_t *powers, size_t powers_len, const uint32_t *weights,
                      size_t weights_len);
+
+/*
+ * Plate U of a hull. The memory is only read.
+ * Answers: first is the load in pounds. Refuses: 1, 5; 12.
+ */
+wb_answer wb_plate_u(const uint32_t *mem, size_t mem_len, uint32_t hull);
 
 /*
  * Writes the text of a hull's sheet, with the register's number, from the start of out. Bytes of out after the text are left alone, and the text is
