@@ -1,5 +1,5 @@
 /*
- * reference.c: a second opinion on the sixteen calls, in plain C. The rules are docs/RULES.md, the layout of the memory docs/REGISTER.md.
+ * reference.c: a second opinion on the eighteen calls, in plain C. The rules are docs/RULES.md, the layout of the memory docs/REGISTER.md.
  *
  * Nothing of the library is used, and nothing is clever: each part stands in the order of the rules, so that the two can be read side by side.
  */
@@ -357,6 +357,35 @@ static wb_answer plate_c(const uint32_t *sheet, const uint32_t *powers, size_t p
     return persons < 1 ? refused(WB_NO_PERSONS) : accepted((uint32_t)load, (uint32_t)persons);
 }
 
+/* ---- plate U ---- */
+
+/* A load as it is, before any rounding: this many 180000ths of a gram, divided by a small number. */
+struct load {
+    int64_t parts, by;
+};
+
+/* By 33 CFR 183.35 an outboard's tanks count, up to two horsepower by 183.37 they do not; by 183.33 an inboard has the greater of two loads. */
+static struct load load_u(const uint32_t *sheet)
+{
+    int64_t less_boat = water(sheet) - 180000 * boat(sheet), less_tanks = less_boat - 180000 * (int64_t)sheet[FUEL];
+    struct load fifth = {less_tanks, 5}, seventh = {less_tanks, 7}, three_tenths = {3 * less_boat, 10};
+    if (sheet[OUTBOARD])
+        return sheet[DECLARED] > 1491 ? fifth : three_tenths;
+    fifth.parts -= 4 * 180000 * (int64_t)sheet[MACHINERY];
+    return fifth.parts * seventh.by > seventh.parts * fifth.by ? fifth : seventh;
+}
+
+/*
+ * The one load that is marked, rounded down once. A pound is 45359237/100000 g. Parts are at most 3 * 10,800,000,000,000, and 100000 times that is
+ * some third of what 63 bits hold; what they are divided by is at most 180000 * 10 * 45359237, less still.
+ */
+static wb_answer plate_u(const uint32_t *sheet)
+{
+    struct load load = load_u(sheet);
+    int64_t pounds = floor_div(100000 * load.parts, 180000 * load.by * 45359237);
+    return pounds < 1 ? refused(WB_NO_LOAD) : accepted((uint32_t)pounds, 0);
+}
+
 /* ---- the register's memory ---- */
 
 #define HIGHEST_EDIT 65535
@@ -511,6 +540,12 @@ wb_answer ref_trial_c(const uint32_t *mem, size_t mem_len, uint32_t desk, const 
     return fault ? refused(fault) : plate_c(mem + desk_at(desk) + DRAFT_SHEET, powers, powers_len, weights, weights_len);
 }
 
+wb_answer ref_trial_u(const uint32_t *mem, size_t mem_len, uint32_t desk)
+{
+    uint32_t fault = judge_draft(mem, mem_len, desk);
+    return fault ? refused(fault) : plate_u(mem + desk_at(desk) + DRAFT_SHEET);
+}
+
 wb_answer ref_save(uint32_t *mem, size_t mem_len, uint32_t desk)
 {
     uint32_t fault = judge_draft(mem, mem_len, desk);
@@ -547,6 +582,12 @@ wb_answer ref_plate_c(const uint32_t *mem, size_t mem_len, uint32_t hull, const 
 {
     uint32_t fault = judge_hull(mem, mem_len, hull);
     return fault ? refused(fault) : plate_c(mem + hull_at(hull) + HULL_SHEET, powers, powers_len, weights, weights_len);
+}
+
+wb_answer ref_plate_u(const uint32_t *mem, size_t mem_len, uint32_t hull)
+{
+    uint32_t fault = judge_hull(mem, mem_len, hull);
+    return fault ? refused(fault) : plate_u(mem + hull_at(hull) + HULL_SHEET);
 }
 
 wb_answer ref_write_hull(const uint32_t *mem, size_t mem_len, uint32_t hull, uint8_t *out, size_t out_len)
