@@ -152,8 +152,8 @@ static uint32_t random_hull(void)
 
 static struct call random_call(void)
 {
-    static const enum kind often[] = {NEW_HULL, NEW_HULL, OPEN, OPEN, OPEN, OPEN, PUT, PUT, TAKE_OFF, REPLACE, REPLACE, TRIAL_A, TRIAL_C, SAVE, SAVE,
-                                      DROP, PLATE_A, PLATE_C, WRITE_HULL, READ_SHEET, WRITE_SHEET, READ_ENGINES};
+    static const enum kind often[] = {NEW_HULL, NEW_HULL, OPEN, OPEN, OPEN, OPEN, PUT, PUT, TAKE_OFF, REPLACE, REPLACE, TRIAL_A, TRIAL_C, TRIAL_U,
+                                      SAVE, SAVE, DROP, PLATE_A, PLATE_C, PLATE_U, WRITE_HULL, READ_SHEET, WRITE_SHEET, READ_ENGINES};
     struct call call;
     call.kind = one_in(400) ? FRESH : ONE_OF(often);
     call.desk = random_desk();
@@ -237,6 +237,7 @@ int main(int argc, char **argv)
     check_header();
     try_samples();
     try_plate_edges();
+    try_plate_u_edges();
     try_text_edges();
     try_register_edges();
     printf("c tests: %lu chosen calls\n", calls_made());

@@ -25,10 +25,12 @@ struct office {
     wb_answer (*replace)(uint32_t *, size_t, uint32_t, const uint8_t *, size_t);
     wb_answer (*trial_a)(const uint32_t *, size_t, uint32_t);
     wb_answer (*trial_c)(const uint32_t *, size_t, uint32_t, const uint32_t *, size_t, const uint32_t *, size_t);
+    wb_answer (*trial_u)(const uint32_t *, size_t, uint32_t);
     wb_answer (*save)(uint32_t *, size_t, uint32_t);
     wb_answer (*drop)(uint32_t *, size_t, uint32_t);
     wb_answer (*plate_a)(const uint32_t *, size_t, uint32_t);
     wb_answer (*plate_c)(const uint32_t *, size_t, uint32_t, const uint32_t *, size_t, const uint32_t *, size_t);
+    wb_answer (*plate_u)(const uint32_t *, size_t, uint32_t);
     wb_answer (*write_hull)(const uint32_t *, size_t, uint32_t, uint8_t *, size_t);
     wb_answer (*read_sheet)(const uint8_t *, size_t, wb_sheet *);
     wb_answer (*write_sheet)(const wb_sheet *, uint8_t *, size_t);
@@ -36,13 +38,13 @@ struct office {
 };
 
 static const struct office library = {
-    wb_fresh, wb_new_hull, wb_open, wb_put, wb_take_off, wb_replace, wb_trial_a, wb_trial_c, wb_save, wb_drop, wb_plate_a, wb_plate_c, wb_write_hull,
-    wb_read_sheet, wb_write_sheet, wb_read_engines,
+    wb_fresh, wb_new_hull, wb_open, wb_put, wb_take_off, wb_replace, wb_trial_a, wb_trial_c, wb_trial_u, wb_save, wb_drop, wb_plate_a, wb_plate_c,
+    wb_plate_u, wb_write_hull, wb_read_sheet, wb_write_sheet, wb_read_engines,
 };
 
 static const struct office reference = {
-    ref_fresh, ref_new_hull, ref_open, ref_put, ref_take_off, ref_replace, ref_trial_a, ref_trial_c, ref_save, ref_drop, ref_plate_a, ref_plate_c,
-    ref_write_hull, ref_read_sheet, ref_write_sheet, ref_read_engines,
+    ref_fresh, ref_new_hull, ref_open, ref_put, ref_take_off, ref_replace, ref_trial_a, ref_trial_c, ref_trial_u, ref_save, ref_drop, ref_plate_a,
+    ref_plate_c, ref_plate_u, ref_write_hull, ref_read_sheet, ref_write_sheet, ref_read_engines,
 };
 
 /* ---- what each call is lent, and what it can answer by the header ---- */
@@ -62,11 +64,13 @@ static const struct {
     [TRIAL_A] = {"trial_a", BIT(MEMORY), 0, BIT(0) | BIT(1) | BIT(6) | BIT(7) | BIT(12) | BIT(13)},
     [TRIAL_C] = {"trial_c", BIT(MEMORY) | BIT(POWERS) | BIT(WEIGHTS), 0,
                  BIT(0) | BIT(1) | BIT(6) | BIT(7) | BIT(10) | BIT(11) | BIT(12) | BIT(14) | BIT(15)},
+    [TRIAL_U] = {"trial_u", BIT(MEMORY), 0, BIT(0) | BIT(1) | BIT(6) | BIT(7) | BIT(12)},
     [SAVE] = {"save", 0, BIT(MEMORY), BIT(0) | BIT(1) | BIT(6) | BIT(7) | BIT(8) | BIT(9)},
     [DROP] = {"drop", 0, BIT(MEMORY), BIT(0) | BIT(1) | BIT(6) | BIT(7)},
     [PLATE_A] = {"plate_a", BIT(MEMORY), 0, BIT(0) | BIT(1) | BIT(5) | BIT(12) | BIT(13)},
     [PLATE_C] = {"plate_c", BIT(MEMORY) | BIT(POWERS) | BIT(WEIGHTS), 0,
                  BIT(0) | BIT(1) | BIT(5) | BIT(10) | BIT(11) | BIT(12) | BIT(14) | BIT(15)},
+    [PLATE_U] = {"plate_u", BIT(MEMORY), 0, BIT(0) | BIT(1) | BIT(5) | BIT(12)},
     [WRITE_HULL] = {"write_hull", BIT(MEMORY), BIT(OUT), BIT(0) | BIT(1) | BIT(5) | BIT(16)},
     [READ_SHEET] = {"read_sheet", BIT(TEXT), BIT(SHEET), BIT(0) | BIT(2) | BIT(3)},
     [WRITE_SHEET] = {"write_sheet", BIT(SHEET), BIT(OUT), BIT(0) | BIT(3) | BIT(16)},
@@ -261,8 +265,12 @@ static wb_answer call_plate(const struct office *office, struct call call, const
         return office->trial_a(mem, len, call.desk);
     case TRIAL_C:
         return office->trial_c(mem, len, call.desk, powers, powers_len, weights, weights_len);
+    case TRIAL_U:
+        return office->trial_u(mem, len, call.desk);
     case PLATE_A:
         return office->plate_a(mem, len, call.hull);
+    case PLATE_U:
+        return office->plate_u(mem, len, call.hull);
     default:
         return office->plate_c(mem, len, call.hull, powers, powers_len, weights, weights_len);
     }

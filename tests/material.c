@@ -86,7 +86,7 @@ static void random_fittings(wb_sheet *sheet)
 /* A boat whose loads are small, so that every refusal of the plates comes near. */
 static void make_small(wb_sheet *sheet)
 {
-    static const uint32_t powers[] = {0, 1, 1499, 1500, 1501, 20000, 199999, 200000};
+    static const uint32_t powers[] = {0, 1, 1490, 1491, 1492, 1499, 1500, 1501, 20000, 199999, 200000};
     sheet->transom_width = random_between(500, 1500);
     sheet->transom_height = random_between(495, 505);
     for (int i = 0; i < 4; i++) {

@@ -31,11 +31,15 @@ static void build(uint32_t hulls, uint32_t drafts)
     }
 }
 
-/* One of the twelve calls that judge the memory, with numbers that are right where the memory allows it. */
+/* The calls that judge the memory: all but a fresh start and those on texts alone. */
+#define JUDGING 14
+
+/* One of them, with numbers that are right where the memory allows it. */
 static wb_answer judging_call(uint32_t turn)
 {
-    static const enum kind judging[] = {NEW_HULL, OPEN, PUT, TAKE_OFF, REPLACE, TRIAL_A, TRIAL_C, SAVE, DROP, PLATE_A, PLATE_C, WRITE_HULL};
-    struct call call = {.kind = judging[turn % 12], .desk = turn % 3, .hull = turn % 4, .line = turn % 24 + 1, .weight = 5};
+    static const enum kind judging[JUDGING] = {NEW_HULL, OPEN, PUT, TAKE_OFF, REPLACE, TRIAL_A, TRIAL_C, TRIAL_U, SAVE, DROP, PLATE_A, PLATE_C, PLATE_U,
+                                               WRITE_HULL};
+    struct call call = {.kind = judging[turn % JUDGING], .desk = turn % 3, .hull = turn % 4, .line = turn % 24 + 1, .weight = 5};
     return attempt(call);
 }
 
@@ -141,7 +145,7 @@ static void try_seventeen_hulls(void)
     lend_good_things();
     memcpy(mem + HULL_AT(WB_HULLS), mem + HULL_AT(0), HULL_WORDS * sizeof *mem);
     mem[HULL_AT(WB_HULLS)] = 0;
-    for (uint32_t turn = 0; turn < 12; turn++) {
+    for (uint32_t turn = 0; turn < JUDGING; turn++) {
         change_word(0, WB_HULLS + 1, 0, turn);
         change_word(0, WB_HULLS, 1, turn);
     }
@@ -157,7 +161,7 @@ static void try_wrong_sizes(void)
     lend_good_things();
     for (size_t i = 0; i < sizeof words / sizeof *words; i++) {
         lent[MEMORY].size = 4 * words[i];
-        for (uint32_t turn = 0; turn < 12; turn++)
+        for (uint32_t turn = 0; turn < JUDGING; turn++)
             expect(judging_call(turn), 1, 0, 0);
         expect(attempt((struct call){.kind = FRESH}), 1, 0, 0);
     }
@@ -218,11 +222,11 @@ static void try_order(void)
         {OPEN, 8, 16, 0, 0}, {OPEN, 0, 16, 0, 0}, {PUT, 8, 0, 0, 0}, {PUT, 7, 0, 0, 0}, {PUT, 0, 0, 0, 1}, {PUT, 0, 0, 25, 1}, {PUT, 0, 0, 1, 0},
         {PUT, 0, 0, 24, 500001}, {TAKE_OFF, 8, 0, 0, 0}, {TAKE_OFF, 7, 0, 0, 0}, {TAKE_OFF, 0, 0, 0, 0}, {TAKE_OFF, 0, 0, 25, 0},
         {REPLACE, 8, 0, 0, 0}, {REPLACE, 7, 0, 0, 0}, {REPLACE, 0, 0, 0, 0}, {TRIAL_A, 8, 0, 0, 0}, {TRIAL_A, 7, 0, 0, 0}, {TRIAL_C, 8, 0, 0, 0},
-        {TRIAL_C, 7, 0, 0, 0}, {TRIAL_C, 0, 0, 0, 0}, {SAVE, 8, 0, 0, 0}, {SAVE, 7, 0, 0, 0}, {SAVE, 0, 0, 0, 0}, {DROP, 8, 0, 0, 0},
-        {DROP, 7, 0, 0, 0}, {PLATE_A, 0, 16, 0, 0}, {PLATE_C, 0, 16, 0, 0}, {PLATE_C, 0, 15, 0, 0}, {WRITE_HULL, 0, 16, 0, 0},
-        {WRITE_HULL, 0, 15, 0, 0}, {NEW_HULL, 0, 0, 0, 0},
+        {TRIAL_C, 7, 0, 0, 0}, {TRIAL_C, 0, 0, 0, 0}, {TRIAL_U, 8, 0, 0, 0}, {TRIAL_U, 7, 0, 0, 0}, {SAVE, 8, 0, 0, 0}, {SAVE, 7, 0, 0, 0},
+        {SAVE, 0, 0, 0, 0}, {DROP, 8, 0, 0, 0}, {DROP, 7, 0, 0, 0}, {PLATE_A, 0, 16, 0, 0}, {PLATE_C, 0, 16, 0, 0}, {PLATE_C, 0, 15, 0, 0},
+        {PLATE_U, 0, 16, 0, 0}, {WRITE_HULL, 0, 16, 0, 0}, {WRITE_HULL, 0, 15, 0, 0}, {NEW_HULL, 0, 0, 0, 0},
     };
-    static const uint32_t refusals[] = {6, 5, 6, 7, 3, 3, 3, 3, 6, 7, 3, 3, 6, 7, 2, 6, 7, 6, 7, 10, 6, 7, 8, 6, 7, 5, 5, 10, 5, 16, 4};
+    static const uint32_t refusals[] = {6, 5, 6, 7, 3, 3, 3, 3, 6, 7, 3, 3, 6, 7, 2, 6, 7, 6, 7, 10, 6, 7, 6, 7, 8, 6, 7, 5, 5, 10, 5, 5, 16, 4};
     size_t count = sizeof calls / sizeof *calls;
     uint32_t bad_memory[sizeof calls / sizeof *calls];
     begin_part("order of the register's refusals");
@@ -240,8 +244,8 @@ static void try_order(void)
 /* Numbers of which only the low bits are those of a desk or a hull. */
 static void try_high_numbers(void)
 {
-    static const enum kind by_desk[] = {OPEN, PUT, TAKE_OFF, REPLACE, TRIAL_A, TRIAL_C, SAVE, DROP};
-    static const enum kind by_hull[] = {OPEN, PLATE_A, PLATE_C, WRITE_HULL};
+    static const enum kind by_desk[] = {OPEN, PUT, TAKE_OFF, REPLACE, TRIAL_A, TRIAL_C, TRIAL_U, SAVE, DROP};
+    static const enum kind by_hull[] = {OPEN, PLATE_A, PLATE_C, PLATE_U, WRITE_HULL};
     begin_part("numbers of desks and hulls that are too high");
     build(16, 8);
     lend_good_things();

@@ -57,8 +57,8 @@ void insist_untouched(enum buffer buffer, size_t from)
 static wb_answer plate(char letter, const wb_sheet *sheet)
 {
     enter_alone(sheet);
-    wb_answer trial = attempt((struct call){.kind = letter == 'A' ? TRIAL_A : TRIAL_C, .desk = 3});
-    wb_answer answer = attempt((struct call){.kind = letter == 'A' ? PLATE_A : PLATE_C});
+    wb_answer trial = attempt((struct call){.kind = letter == 'A' ? TRIAL_A : letter == 'C' ? TRIAL_C : TRIAL_U, .desk = 3});
+    wb_answer answer = attempt((struct call){.kind = letter == 'A' ? PLATE_A : letter == 'C' ? PLATE_C : PLATE_U});
     expect(trial, answer.refusal, answer.first, answer.second);
     return answer;
 }

@@ -25,7 +25,7 @@ void lend_rows(const uint32_t *powers, const uint32_t *weights, size_t rows);
 /* From a fresh start enters a sheet as hull 0, and opens it at desk 3. */
 void enter_alone(const wb_sheet *sheet);
 
-/* Plate A or C of a sheet alone in a register, as a hull and as a draft: both must answer so. Plate C is worked with the rows that are lent. */
+/* Plate A, C or U of a sheet alone in a register, as a hull and as a draft: both must answer so. Plate C is worked with the rows that are lent. */
 void expect_plate(char plate, const wb_sheet *sheet, uint32_t refusal, uint32_t first, uint32_t second);
 
 /* The same, of a plate that is accepted, for the load or the power alone. */
