@@ -83,6 +83,8 @@ static size_t engines_len;
     X(trial_a_12, 12, "", trial_a, NONE, lent.full, LEN, 6) \
     X(trial_c, 0, "", trial_c, NONE, lent.full, LEN, 3, ENGINES) \
     X(trial_c_10, 10, "last row falls", trial_c, NONE, lent.full, LEN, 3, falling, ROWS, weights, ROWS) \
+    X(trial_u, 0, "", trial_u, NONE, lent.full, LEN, 3) \
+    X(trial_u_12, 12, "", trial_u, NONE, lent.full, LEN, 6) \
     X(save, 0, "", save, (lent.full[DESK_AT(2)] = 1, lent.full[HULL_AT(9)] = lent.full[DESK_AT(2) + 2]), lent.full, LEN, 2) \
     X(save_8, 8, "", save, NONE, lent.full, LEN, 1) \
     X(drop, 0, "", drop, lent.full[DESK_AT(5)] = 1, lent.full, LEN, 5) \
@@ -93,6 +95,10 @@ static size_t engines_len;
     X(plate_c, 0, "", plate_c, NONE, lent.full, LEN, 11, ENGINES) \
     X(plate_c_11, 11, "", plate_c, NONE, lent.full, LEN, 11, powers, 4, weights, 4) \
     X(plate_c_1, 1, "last word spoilt", plate_c, NONE, lent.spoilt, LEN, 11, ENGINES) \
+    X(plate_u, 0, "", plate_u, NONE, lent.full, LEN, 11) \
+    X(plate_u_in, 0, "inboard", plate_u, NONE, lent.full, LEN, 13) \
+    X(plate_u_5, 5, "", plate_u, NONE, lent.full, LEN, 16) \
+    X(plate_u_12, 12, "", plate_u, NONE, lent.full, LEN, 15) \
     X(write, 0, "300 bytes", write_hull, NONE, lent.full, LEN, 11, OUT) \
     X(write_long, 0, "610 bytes", write_hull, NONE, lent.full, LEN, 14, OUT) \
     X(write_16, 16, "", write_hull, NONE, lent.full, LEN, 11, lent.out, text_len - 1) \
@@ -166,15 +172,15 @@ static void die(const char *why, const char *what)
 
 /* ---- the inputs ---- */
 
-/* A boat of 4.5 m; i makes each a little different. */
+/* A boat of 4.5 m; i makes each a little different, and one of them an inboard. */
 static wb_sheet boat(uint32_t i)
 {
     wb_sheet s = {.hull = i, .length = 4500 + 10 * i, .reference = 4000 + 10 * i, .transom_width = 1200 + i, .transom_height = 500, .remote = 1};
     for (uint32_t k = 0; k < 4; k++)
         s.station[k] = (wb_station){1000 + 40 * i + k, 500, 510 + k, 520 + i, 500, 480 + k, 450};
     s.aft = 25000, s.well = 12000, s.flooding = 4000;
-    s.bare = 200000 + 1000 * i, s.fuel = 24000, s.machinery = 0;
-    s.outboard = 1, s.declared = 20000, s.positions = 5, s.tested = 3;
+    s.bare = 200000 + 1000 * i, s.fuel = 24000, s.machinery = i == 13 ? 90000 : 0;
+    s.outboard = i != 13, s.declared = 20000, s.positions = 5, s.tested = 3;
     s.fitting[0] = 3334, s.fitting[2] = 1250, s.fitting[3] = 800, s.fitting[11] = 2100, s.fitting[16] = 125000;
     return s;
 }
