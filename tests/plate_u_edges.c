@@ -314,6 +314,23 @@ static void try_ends(void)
     expect_pounds(&sheet, 2204);
 }
 
+/* ---- what the other plates ask and plate U does not ---- */
+
+/* A flat bottom too small for a power, no engine rows, one seat: 13 on plate A, 10 on plate C. */
+static void try_other_plates(void)
+{
+    wb_sheet sheet = base_hull();
+    begin_part("plate U of a hull that the other plates refuse");
+    sheet.length = sheet.reference = 2000;
+    sheet.transom_width = 1000;
+    sheet.flat = 1;
+    sheet.positions = 1;
+    lend_slices(0, 0);
+    expect_plate('A', &sheet, 13, 0, 0);
+    expect_plate('C', &sheet, 10, 0, 0);
+    expect_pounds(&sheet, 315);
+}
+
 /* ---- each hull and each draft its own ---- */
 
 static void try_full_register(void)
@@ -348,5 +365,6 @@ void try_plate_u_edges(void)
     try_exact_sheets();
     try_whole_pounds();
     try_ends();
+    try_other_plates();
     try_full_register();
 }
