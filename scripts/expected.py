@@ -1,11 +1,13 @@
 #!/usr/bin/env python3
-"""What the plate program is to print, worked out by a second hand.
+"""What the plate program is to print, and plate U, which it does not print, worked out by a second hand.
 
     expected.py [FILE]     prints what the plate program prints of FILE, or of standard input
-    expected.py --all DIR  works out every NAME.sheet of DIR again and holds NAME.expected to it
+    expected.py --u DIR    prints plate U of every NAME.sheet of DIR whose sheet is accepted, a line each
+    expected.py --all DIR  works out every NAME.sheet of DIR again and holds NAME.expected and plates-u.expected to it
 
-It is written from document 01 and shares nothing with the crates. Areas, volumes and loads are worked as fractions in
-the order the standards give them, where the crates keep whole sums and divide once: the two agree only if both are exact.
+It is written from documents 01 and 02 and shares nothing with the crates. Areas, volumes and loads are worked as
+fractions in the order the standards give them, where the crates keep whole sums and divide once: the two agree only if
+both are exact.
 """
 
 import glob
@@ -188,6 +190,25 @@ def plate_c(sheet, rows):
     return load, persons
 
 
+POUND = Fraction(45359237, 100000)  # grams
+TWO_HORSEPOWER = 1491  # watts, the last whole one
+
+
+def plate_u(sheet):
+    """Pounds by 33 CFR 183.37, 183.35 and 183.33, in that order."""
+    if sheet.outboard and sheet.declared <= TWO_HORSEPOWER:
+        grams = Fraction(3, 10) * (sheet.water() - sheet.boat())
+    else:
+        displacement, boat = sheet.water(), sheet.boat() + sheet.fuel
+        grams = (displacement - boat) / 5
+        if not sheet.outboard:
+            grams = max(grams - Fraction(4, 5) * sheet.machinery, (displacement - boat) / 7)
+    pounds = math.floor(grams / POUND)
+    if pounds < 1:
+        raise Refused(12)
+    return (pounds,)
+
+
 def split(data):
     """The sheet, through the first line that is END alone, and the engine lines after it."""
     end = re.search(rb"^END\n", data, re.MULTILINE)
@@ -197,7 +218,7 @@ def split(data):
 
 def line(letter, plate, *given):
     try:
-        return "PLATE\t%s\t%d\t%d\n" % (letter, *plate(*given))
+        return "PLATE\t%s\t%s\n" % (letter, "\t".join("%d" % figure for figure in plate(*given)))
     except Refused as refusal:
         return "REFUSED\t%s\t%d\n" % (letter, refusal.number)
 
@@ -214,22 +235,44 @@ def printed(data):
     return line("A", plate_a, sheet) + line("C", plate_c, sheet, rows)
 
 
-def check_all(folder):
-    wrong = 0
+def sheets(folder):
+    """The name of each sheet without its ending, and its bytes."""
     for path in sorted(glob.glob(os.path.join(folder, "*.sheet"))):
         with open(path, "rb") as f:
-            want = printed(f.read())
-        with open(path[: -len(".sheet")] + ".expected", encoding="ascii") as f:
-            stored = f.read()
-        if stored != want:
-            print("%s: stored %r, worked out %r" % (path, stored, want), file=sys.stderr)
-            wrong = 1
-    return wrong
+            yield path[: -len(".sheet")], f.read()
+
+
+def plates_u(folder):
+    lines = []
+    for name, data in sheets(folder):
+        try:
+            sheet = Sheet(split(data)[0])
+        except Refused:
+            continue
+        lines.append(os.path.basename(name) + "\t" + line("U", plate_u, sheet))
+    return "".join(sorted(lines))
+
+
+def check(path, want):
+    with open(path, encoding="ascii") as f:
+        stored = f.read()
+    if stored != want:
+        print("%s: stored %r, worked out %r" % (path, stored, want), file=sys.stderr)
+    return stored != want
+
+
+def check_all(folder):
+    wrong = [check(name + ".expected", printed(data)) for name, data in sheets(folder)]
+    wrong.append(check(os.path.join(folder, "plates-u.expected"), plates_u(folder)))
+    return int(any(wrong))
 
 
 def main(words):
     if words[:1] == ["--all"] and len(words) == 2:
         return check_all(words[1])
+    if words[:1] == ["--u"] and len(words) == 2:
+        sys.stdout.write(plates_u(words[1]))
+        return 0
     if len(words) > 1:
         print(__doc__, file=sys.stderr)
         return 2
