@@ -81,7 +81,7 @@ static const char *const refusals[] = {
     [WB_EDITS_SPENT] = "the hull has been saved 65535 times and can be saved no more",
     [WB_BAD_ROWS] = "the engine rows are not as they must be",
     [WB_NO_ROW] = "no engine row reaches the declared power",
-    [WB_NO_LOAD] = "the marked load would be below 1 kg",
+    [WB_NO_LOAD] = "the marked load would be below 1 kg, on plate U below 1 lb",
     [WB_NO_POWER] = "a flat bottom so small is given no outboard",
     [WB_UNTESTED] = "so small a live load wants persons passed by stability tests",
     [WB_NO_PERSONS] = "not one person could be carried",
@@ -371,6 +371,16 @@ static void tell_trial_c(const struct work *w, wb_answer a)
     printf("desk %u, trial of plate C: %u kg, persons %u\n", (unsigned)w->number[0], (unsigned)a.first, (unsigned)a.second);
 }
 
+static wb_answer ask_trial_u(struct work *w)
+{
+    return wb_trial_u(w->words, w->count, w->number[0]);
+}
+
+static void tell_trial_u(const struct work *w, wb_answer a)
+{
+    printf("desk %u, trial of plate U: %u lb\n", (unsigned)w->number[0], (unsigned)a.first);
+}
+
 static wb_answer ask_save(struct work *w)
 {
     return wb_save(w->words, w->count, w->number[0]);
@@ -412,6 +422,16 @@ static void tell_plate_c(const struct work *w, wb_answer a)
     printf("hull %u, plate C: %u kg, persons %u\n", (unsigned)w->number[0], (unsigned)a.first, (unsigned)a.second);
 }
 
+static wb_answer ask_plate_u(struct work *w)
+{
+    return wb_plate_u(w->words, w->count, w->number[0]);
+}
+
+static void tell_plate_u(const struct work *w, wb_answer a)
+{
+    printf("hull %u, plate U: %u lb\n", (unsigned)w->number[0], (unsigned)a.first);
+}
+
 static wb_answer ask_write(struct work *w)
 {
     return wb_write_hull(w->words, w->count, w->number[0], w->sheet, sizeof w->sheet);
@@ -446,10 +466,12 @@ static const struct command commands[] = {
     {"replace", " DESK SHEETFILE", "nt", CHANGES, ask_replace, tell_replace},
     {"trial-a", " DESK", "n", READS, ask_trial_a, tell_trial_a},
     {"trial-c", " DESK ENGINEFILE", "ne", READS, ask_trial_c, tell_trial_c},
+    {"trial-u", " DESK", "n", READS, ask_trial_u, tell_trial_u},
     {"save", " DESK", "n", CHANGES, ask_save, tell_save},
     {"drop", " DESK", "n", CHANGES, ask_drop, tell_drop},
     {"plate-a", " HULL", "n", READS, ask_plate_a, tell_plate_a},
     {"plate-c", " HULL ENGINEFILE", "ne", READS, ask_plate_c, tell_plate_c},
+    {"plate-u", " HULL", "n", READS, ask_plate_u, tell_plate_u},
     {"write", " HULL", "n", READS, ask_write, tell_write},
 };
 
