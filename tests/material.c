@@ -361,7 +361,7 @@ size_t random_engine_text(uint8_t *text)
 
 uint32_t hostile_number(void)
 {
-    static const uint32_t numbers[] = {0, 1, 2, 7, 8, 15, 16, 17, 24, 25, 255, 256, 257, 1500, 65534, 65535, 65536, 500000, 500001, 200000, 200001,
+    static const uint32_t numbers[] = {0, 1, 2, 7, 8, 15, 16, 17, 24, 25, 255, 256, 257, 1491, 1492, 1500, 65534, 65535, 65536, 500000, 500001, 200000, 200001,
                                        1000000, 1000001, 0x7FFFFFFF, 0x80000000, 0x80000001, 0xFFFFFFFE, 0xFFFFFFFF};
     return one_in(4) ? random_between(0, 15) | (uint32_t)1 << random_between(0, 31) : ONE_OF(numbers);
 }

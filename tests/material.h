@@ -8,7 +8,7 @@
 #define FIRST_FITTING 45
 
 /* The place of some of a sheet's numbers. */
-enum { HULL_NUMBER = 0, LENGTH_NUMBER = 1, REFERENCE_NUMBER = 2, TESTED_NUMBER = 44 };
+enum { HULL_NUMBER = 0, LENGTH_NUMBER = 1, REFERENCE_NUMBER = 2, FIRST_READING = 7, AFT_NUMBER = 35, MACHINERY_NUMBER = 40, TESTED_NUMBER = 44 };
 
 /* The limits of a sheet's number, by its place, as a text may have them. */
 uint32_t lowest(int number);

@@ -1,6 +1,6 @@
 /*
- * plate_u_edges.c: plate U at the bounds of its rules and one gram beside them: the declared power, whole pounds of its four figures, the two figures of
- * an inboard beside each other. The pounds of each sheet were worked out apart, as fractions, and stand here in figures.
+ * plate_u_edges.c: plate U at the bounds of its rules and one gram beside them: the declared power, whole pounds of its four figures, an inboard's two
+ * figures against each other. The pounds of each sheet were worked out apart, as fractions, and stand here in figures.
  */
 #include "material.h"
 #include "parts.h"
@@ -63,7 +63,7 @@ static void try_water_shares(void)
     for (int station = 0; station < 4; station++)
         for (int reading = 0; reading < 7; reading++) {
             sheet = base_hull();
-            numbers_of(&sheet)[7 + 7 * station + reading] += reading == 0 ? 120 : 225;
+            numbers_of(&sheet)[FIRST_READING + 7 * station + reading] += reading == 0 ? 120 : 225;
             expect_pounds(&sheet, stations[station][reading]);
         }
 }
@@ -81,13 +81,13 @@ static void try_weight_shares(void)
     };
     begin_part("shares of each weight in plate U");
     for (size_t i = 0; i < sizeof hulls / sizeof *hulls; i++)
-        for (int number = 35; number < FIRST_FITTING + WB_FITTINGS; number = number == 40 ? FIRST_FITTING : number + 1) {
+        for (int number = AFT_NUMBER; number < SHEET_NUMBERS; number = number == MACHINERY_NUMBER ? FIRST_FITTING : number + 1) {
             wb_sheet sheet = base_hull();
             sheet.outboard = hulls[i].outboard;
             sheet.declared = hulls[i].declared;
             sheet.machinery = hulls[i].machinery;
             numbers_of(&sheet)[number] += 50000;
-            expect_pounds(&sheet, number < FIRST_FITTING ? hulls[i].pounds[number - 35] : hulls[i].fitting);
+            expect_pounds(&sheet, number < FIRST_FITTING ? hulls[i].pounds[number - AFT_NUMBER] : hulls[i].fitting);
         }
 }
 
@@ -119,9 +119,8 @@ static wb_sheet launch(void)
 /* Each number that moves a figure at its last gram or cubic centimetre of so many pounds, and at the next; one that does not move it, at its most. */
 static void try_last_grams(void)
 {
-    static const int numbers[] = {35, 36, 37, 38, 39, 40, FIRST_FITTING + 12};
     static const struct {
-        uint32_t outboard, declared, machinery, pounds, last[7];
+        uint32_t outboard, declared, machinery, pounds, last[7]; /* of the aft structure to the machinery, then of a fitting; 0: it does not move it */
     } forms[] = {
         {1, 20000, 138000, 1325, {47646, 71621, 31121, 612621, 42621, 0, 22621}},
         {1, 1491, 138000, 2015, {46469, 72042, 31542, 613042, 0, 0, 23042}},
@@ -132,7 +131,8 @@ static void try_last_grams(void)
     for (size_t form = 0; form < sizeof forms / sizeof *forms; form++)
         for (int i = 0; i < 7; i++) {
             wb_sheet sheet = launch();
-            uint32_t *number = &numbers_of(&sheet)[numbers[i]], last = forms[form].last[i], pounds = forms[form].pounds;
+            uint32_t *number = i < 6 ? &numbers_of(&sheet)[AFT_NUMBER + i] : &sheet.fitting[12];
+            uint32_t last = forms[form].last[i], pounds = forms[form].pounds;
             sheet.outboard = forms[form].outboard;
             sheet.declared = forms[form].declared;
             sheet.machinery = forms[form].machinery;
@@ -288,7 +288,7 @@ static void try_ends(void)
     for (size_t i = 0; i < sizeof forms / sizeof *forms; i++) {
         wb_sheet sheet = base_hull();
         sheet.length = sheet.reference = 6000;
-        for (int number = 7; number < 35; number++)
+        for (int number = FIRST_READING; number < AFT_NUMBER; number++)
             numbers_of(&sheet)[number] = highest(number);
         sheet.aft = 5000000;
         sheet.bare = 1;
@@ -297,7 +297,7 @@ static void try_ends(void)
         sheet.fuel = forms[i].fuel;
         sheet.machinery = forms[i].machinery;
         expect_pounds(&sheet, forms[i].most);
-        for (int number = 7; number < 36; number++)
+        for (int number = FIRST_READING; number <= AFT_NUMBER; number++)
             numbers_of(&sheet)[number] = 0;
         for (int number = FIRST_FITTING; number < SHEET_NUMBERS; number++)
             numbers_of(&sheet)[number] = 500000;
