@@ -1,6 +1,6 @@
 /*
- * plate_u_edges.c: plate U at the bounds of its rules and one gram beside them: the declared power, whole pounds of its four figures, an inboard's two
- * figures against each other. The pounds of each sheet were worked out apart, as fractions, and stand here in figures.
+ * plate_u_edges.c: plate U at the bounds of its rules and one gram beside them: the declared power, whole pounds of its four figures, the two figures
+ * of an inboard. The pounds of each sheet were worked out apart, as fractions, and stand here in figures.
  */
 #include "material.h"
 #include "parts.h"
@@ -120,7 +120,7 @@ static wb_sheet launch(void)
 static void try_last_grams(void)
 {
     static const struct {
-        uint32_t outboard, declared, machinery, pounds, last[7]; /* of the aft structure to the machinery, then of a fitting; 0: it does not move it */
+        uint32_t outboard, declared, machinery, pounds, last[7]; /* of the aft structure to the machinery, then a fitting; 0: it moves nothing */
     } forms[] = {
         {1, 20000, 138000, 1325, {47646, 71621, 31121, 612621, 42621, 0, 22621}},
         {1, 1491, 138000, 2015, {46469, 72042, 31542, 613042, 0, 0, 23042}},
@@ -167,6 +167,29 @@ static void try_equal_figures(void)
         sheet.outboard = 0;
         sheet.bare = boats[i].bare;
         sheet.machinery = boats[i].machinery;
+        expect_pounds(&sheet, boats[i].pounds);
+    }
+}
+
+/* The same by the last unit: 14 times the machinery, where the two are equal, and so many 180000ths of a gram more. */
+static void try_nearly_equal_figures(void)
+{
+    static const struct {
+        uint32_t machinery;
+        int64_t units;
+        uint32_t pounds;
+    } boats[] = {
+        {225889, 0, 995}, {225889, 467, 995},
+        {225889, 468, 996}, {225889, 654, 996}, /* by the fifth alone */
+        {416171, 0, 1835}, {416171, -945, 1835},
+        {416171, -946, 1835}, {416171, -1323, 1835}, /* by the seventh alone */
+        {416171, -1324, 1834},
+    };
+    for (size_t i = 0; i < sizeof boats / sizeof *boats; i++) {
+        wb_sheet sheet = base_hull();
+        sheet.outboard = 0;
+        sheet.machinery = boats[i].machinery;
+        set_water(&sheet, GRAM * (14 * (int64_t)boats[i].machinery + 200000) + boats[i].units);
         expect_pounds(&sheet, boats[i].pounds);
     }
 }
@@ -362,6 +385,7 @@ void try_plate_u_edges(void)
     try_weight_shares();
     try_last_grams();
     try_equal_figures();
+    try_nearly_equal_figures();
     try_exact_sheets();
     try_whole_pounds();
     try_ends();
