@@ -180,7 +180,7 @@ wb_answer wb_trial_c(const uint32_t *mem, size_t mem_len, uint32_t desk, const u
 
 /*
  * Plate U of the desk's draft, as a trial. The memory is only read.
- * Answers: first is the load in pounds. Refuses: 1, 6, 7; 12.
+ * Answers: first is the load in whole pounds of 453.59237 g. Refuses: 1, 6, 7; 12.
  */
 wb_answer wb_trial_u(const uint32_t *mem, size_t mem_len, uint32_t desk);
 
@@ -213,7 +213,7 @@ wb_answer wb_plate_c(const uint32_t *mem, size_t mem_len, uint32_t hull, const u
 
 /*
  * Plate U of a hull. The memory is only read.
- * Answers: first is the load in pounds. Refuses: 1, 5; 12.
+ * Answers: first is the load in whole pounds of 453.59237 g. Refuses: 1, 5; 12.
  */
 wb_answer wb_plate_u(const uint32_t *mem, size_t mem_len, uint32_t hull);
 

@@ -8,7 +8,7 @@ use Rattle.sheet.specs.Reading.{readSheet}
 use Rattle.sheet.specs.Engines.{readEngines}
 use Rattle.sheet.specs.Calls.{readAnswer, readInto, writeAnswer, writeInto, enginesAnswer, columnsInto}
 use Rattle.sheet.proofs.Calls.{one-outcome}
-use Rattle.plates.specs.Kinds.{kindA, kindC}
+use Rattle.plates.specs.Kinds.{kindA, kindC, kindU}
 use Rattle.register.specs.Hulls.{freshAnswer, freshMemory, newAnswer, newMemory, hullPlate, hullWritten, hullWrittenInto}
 use Rattle.register.specs.Drafts.{openAnswer, openMemory, putAnswer, putMemory, takeAnswer, takeMemory, replaceAnswer, replaceMemory, trial, saveAnswer, saveMemory, dropAnswer, dropMemory}
 use Rattle.office.specs.declared.WbAnswer.{WbAnswer}
@@ -51,6 +51,9 @@ one-wb-trial-a m d = one-answer (faced (trial m d kindA))
 pub one-wb-trial-c : (m : List ℕ) (d : ℕ) (ps ws : List ℕ) → OneAnswer (faced (trial m d (kindC ps ws)))
 one-wb-trial-c m d ps ws = one-answer (faced (trial m d (kindC ps ws)))
 
+pub one-wb-trial-u : (m : List ℕ) (d : ℕ) → OneAnswer (faced (trial m d kindU))
+one-wb-trial-u m d = one-answer (faced (trial m d kindU))
+
 pub one-wb-save : (m : List ℕ) (d : ℕ) → One (faced (saveAnswer m d)) (saveMemory m d)
 one-wb-save m d = one (faced (saveAnswer m d)) (saveMemory m d)
 
@@ -62,6 +65,9 @@ one-wb-plate-a m h = one-answer (faced (hullPlate m h kindA))
 
 pub one-wb-plate-c : (m : List ℕ) (h : ℕ) (ps ws : List ℕ) → OneAnswer (faced (hullPlate m h (kindC ps ws)))
 one-wb-plate-c m h ps ws = one-answer (faced (hullPlate m h (kindC ps ws)))
+
+pub one-wb-plate-u : (m : List ℕ) (h : ℕ) → OneAnswer (faced (hullPlate m h kindU))
+one-wb-plate-u m h = one-answer (faced (hullPlate m h kindU))
 
 pub one-wb-write-hull : (m : List ℕ) (h : ℕ) (out : List ℕ) → One (faced (hullWritten m h (length out))) (hullWrittenInto m h out)
 one-wb-write-hull m h out = one (faced (hullWritten m h (length out))) (hullWrittenInto m h out)

@@ -5,7 +5,7 @@ ghost use Rattle.sheet.specs.Settled.{Settled};
 ghost use Rattle.sheet.specs.Reading.{readSheet};
 ghost use Rattle.sheet.specs.Engines.{readEngines};
 ghost use Rattle.sheet.specs.Calls.{readAnswer, readInto, writeAnswer, writeInto, enginesAnswer, columnsInto};
-ghost use Rattle.plates.specs.Kinds.{kindA, kindC};
+ghost use Rattle.plates.specs.Kinds.{kindA, kindC, kindU};
 ghost use Rattle.register.specs.Hulls.{freshAnswer, freshMemory, newAnswer, newMemory, hullPlate, hullWritten, hullWrittenInto};
 ghost use Rattle.register.specs.Drafts.{openAnswer, openMemory, putAnswer, putMemory, takeAnswer, takeMemory, replaceAnswer, replaceMemory, trial, saveAnswer, saveMemory, dropAnswer, dropMemory};
 ghost use Rattle.office.specs.Face.{faced};
@@ -117,6 +117,14 @@ pub extern "C" fn wb_trial_c(mem: &[u32], desk: u32, powers: &[u32], weights: &[
     face(answering::trial_c(mem, desk, powers, weights))
 }
 
+// Plate U of a desk's draft; answers pounds.
+#[no_mangle]
+pub extern "C" fn wb_trial_u(mem: &[u32], desk: u32) -> WbAnswer
+    ensures { λ r. ⌜ r ≡ faced (trial (now (mem .entry)) desk kindU) ⌝ }
+{
+    face(answering::trial_u(mem, desk))
+}
+
 // Saves a desk's draft; answers the edit number.
 #[no_mangle]
 pub extern "C" fn wb_save(mem: &mut [u32], desk: u32) -> WbAnswer
@@ -147,6 +155,14 @@ pub extern "C" fn wb_plate_c(mem: &[u32], hull: u32, powers: &[u32], weights: &[
     ensures { λ r. ⌜ r ≡ faced (hullPlate (now (mem .entry)) hull (kindC (now (powers .entry)) (now (weights .entry)))) ⌝ }
 {
     face(answering::plate_c(mem, hull, powers, weights))
+}
+
+// Plate U of a hull; answers pounds.
+#[no_mangle]
+pub extern "C" fn wb_plate_u(mem: &[u32], hull: u32) -> WbAnswer
+    ensures { λ r. ⌜ r ≡ faced (hullPlate (now (mem .entry)) hull kindU) ⌝ }
+{
+    face(answering::plate_u(mem, hull))
 }
 
 // Writes a hull's sheet; answers the count of bytes.

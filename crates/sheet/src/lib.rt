@@ -114,7 +114,7 @@ pub const LIMITS: [Limit; TEXT_WORDS] = [
     [1, FITTING_HIGH, OR_NONE],
 ];
 
-// What a call answers: a refusal by its number alone, or that it was done, or a count, or a plate's load and its other figure.
+// What a call answers: a refusal by its number alone, or that it was done, or a count (of hulls, edits, bytes, rows or pounds), or a plate's load and its other figure.
 pub enum Answer {
     Refused(u32),
     Done,
