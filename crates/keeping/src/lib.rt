@@ -41,6 +41,15 @@ pub fn number_at(mem: &[u32], at: usize) -> usize
     mem[at] as usize
 }
 
+// The sheet that starts at a place, still the caller's own words.
+pub fn sheet_at(mem: &[u32], at: usize) -> &[u32]
+    requires { ⌜ at + sheetWords ≤ length (now mem) ⌝ }
+    ensures { λ r. ⌜ now r ≡ part (now (mem .entry)) at sheetWords ⌝ }
+{
+    let end = at + SHEET_WORDS;
+    &mem[at..end]
+}
+
 // The place of the weight on a fitting line of a desk's draft.
 fn fitting_at(desk: usize, line: usize) -> usize
     requires { ⌜ (desk < desks) × (line ≤ 24) ⌝ }
