@@ -1,8 +1,7 @@
--- A sheet in the memory as the calls lend it on, and a text's sheet as they read it. Assumes nothing.
+-- A sheet in the memory, which stands within it and is within its limits, and a text's sheet as the calls read it. Assumes nothing.
 use mathlib.Core.Path.{_≡_, sym, ap, _∙_}
 use mathlib.Core.List.{List, [], _∷_, _++_, append-nil}
 use Prim.Native.Nat.{ℕ, _+_, _-_, _≤_, _<_}
-use native.Mathlib.Nat.{add-sub-cancel-left}
 use native.Mathlib.Omega.{arith}
 use lib.ListN.{length, take, drop, replicate, length-drop}
 use lib.Seq.{take-all}
@@ -10,55 +9,45 @@ use Rattle.text.specs.declared.LineRead.the-variants.{Taken}
 use Rattle.text.specs.Line.{Reads}
 use Rattle.sheet.specs.Sheet.{sheetWords, textWords}
 use Rattle.sheet.specs.Reading.{readSheet}
-use Rattle.sheet.specs.Calls.{putFirst}
+use Rattle.sheet.specs.declared.Answer.{Answer}
+use Rattle.sheet.specs.Settled.{Settled}
+use Rattle.sheet.specs.Calls.{putFirst, writeAnswer, writeInto}
 use Rattle.sheet.proofs.Whole.{sheet-count, sheet-stored}
 use Rattle.plates.specs.Bounds.{Bounds}
 use Rattle.plates.proofs.Within.{within-bounds}
-use Rattle.memory.specs.Layout.{mostHulls, registerWords, hullAt, draftAt, part, hullSheet, draftSheet}
-use Rattle.memory.proofs.Parts.{part-length}
+use Rattle.memory.specs.Layout.{mostHulls, desks, hullAt, draftAt, hullSheet, draftSheet}
 use Rattle.memory.proofs.Sound.{sound}
-use Rattle.register.specs.Refusals.{sheetOf}
-use Rattle.register.proofs.Refusals.{HullGoes, DeskGoes}
+use Rattle.register.specs.Refusals.{hullRefusal, deskRefusal, sheetOf}
+use Rattle.register.specs.Hulls.{hullWritten, hullWrittenInto}
+use Rattle.register.proofs.Refusals.{hull-goes, desk-goes}
+use Rattle.answering.proofs.Settling.{accepted}
 
--- the words from at on, as the code lends them
-abbrev pub lent : List ℕ → ℕ → List ℕ
-lent m at = take (at + sheetWords - at) (drop at m)
+-- ---- a hull's sheet, and a draft's, where nothing refuses the call
 
-lent-part : (m : List ℕ) (at : ℕ) → lent m at ≡ part m at sheetWords
-lent-part m at = ap (λ (n : ℕ). take n (drop at m)) (add-sub-cancel-left at sheetWords)
-
--- ---- a hull's sheet
-
-module _ (m : List ℕ) (h : ℕ) (g : HullGoes m h) {at : ℕ} (q : at ≡ hullAt h) where
-  size-known : length m ≡ registerWords
-  size-known = sound m (g .ok) .size
-
+module _ (m : List ℕ) (h : ℕ) (z : hullRefusal m h ≡ 0) where
   pub hull-low : h < mostHulls
-  hull-low = omega (arith, sound m (g .ok) .few, g .entered)
+  hull-low = let g = hull-goes m h z in omega (arith, sound m (g .ok) .few, g .entered)
 
-  pub hull-lent : lent m (at + 1) ≡ hullSheet m h
-  hull-lent = lent-part m (at + 1) ∙ ap (λ (x : ℕ). part m (x + 1) sheetWords) q
+  pub hull-in : hullAt h + 1 + sheetWords ≤ length m
+  hull-in = omega (arith, sound m (hull-goes m h z .ok) .size, hull-low)
 
-  pub hull-bounds : Bounds (lent m (at + 1))
-  hull-bounds = rw hull-lent (within-bounds (hullSheet m h) (sound m (g .ok) .hulls h (g .entered) .sheet))
+module _ (m : List ℕ) (d : ℕ) (z : deskRefusal m d ≡ 0) where
+  pub desk-low : d < desks
+  desk-low = desk-goes m d z .desk
 
-  pub hull-in : at + 1 + sheetWords ≤ length m
-  hull-in = omega (arith, size-known, hull-low)
+  pub draft-in : draftAt d + 3 + sheetWords ≤ length m
+  draft-in = omega (arith, sound m (desk-goes m d z .ok) .size, desk-low)
 
-  pub hull-long : length (lent m (at + 1)) ≡ sheetWords
-  hull-long = ap length (lent-part m (at + 1)) ∙ part-length m (at + 1) sheetWords hull-in
+-- what the plates ask of it, by the refusal that the code has found
+pub hull-bounds : (m : List ℕ) (h : ℕ) {s : List ℕ} {f : ℕ} → f ≡ hullRefusal m h → f ≡ 0 → s ≡ hullSheet m h → Bounds s
+hull-bounds m h e z q = let g = hull-goes m h (sym e ∙ z) in rw q (within-bounds (hullSheet m h) (sound m (g .ok) .hulls h (g .entered) .sheet))
 
--- ---- a draft's sheet
+pub draft-bounds : (m : List ℕ) (d : ℕ) {s : List ℕ} {f : ℕ} → f ≡ deskRefusal m d → f ≡ 0 → s ≡ draftSheet m d → Bounds s
+draft-bounds m d e z q = rw q (within-bounds (draftSheet m d) (desk-goes m d (sym e ∙ z) .draft .sheet))
 
-module _ (m : List ℕ) (d : ℕ) (g : DeskGoes m d) {at : ℕ} (q : at ≡ draftAt d) where
-  pub draft-lent : lent m (at + 3) ≡ draftSheet m d
-  draft-lent = lent-part m (at + 3) ∙ ap (λ (x : ℕ). part m (x + 3) sheetWords) q
-
-  pub draft-bounds : Bounds (lent m (at + 3))
-  draft-bounds = rw draft-lent (within-bounds (draftSheet m d) (g .draft .sheet))
-
-  pub draft-in : at + 3 + sheetWords ≤ length m
-  draft-in = omega (arith, sound m (g .ok) .size, g .desk)
+-- written under its number, it is what the call on the register says
+pub written-given : (m : List ℕ) (h : ℕ) (out : List ℕ) {f : ℕ} {ws o : List ℕ} {r : Answer} → f ≡ hullRefusal m h → f ≡ 0 → ws ≡ h ∷ hullSheet m h → Settled (writeAnswer ws (length out)) (writeInto ws out) r o → Settled (hullWritten m h (length out)) (hullWrittenInto m h out) r o
+written-given m h out e z q w = let v = rw q at w in accepted e out z (v .answered) (v .kept)
 
 -- ---- a text's sheet
 

@@ -4,6 +4,7 @@ ghost use mathlib.Core.List.{_∷_};
 ghost use lib.ListN.{length};
 ghost use Rattle.sheet.specs.Settled.{Settled};
 ghost use Rattle.sheet.specs.Sheet.{sheetWords};
+ghost use Rattle.memory.specs.Layout.{hullSheet, draftSheet};
 ghost use Rattle.plates.specs.Kinds.{kindA, kindC};
 ghost use Rattle.register.specs.Refusals.{hullRefusal, deskRefusal};
 ghost use Rattle.register.specs.Hulls.{freshAnswer, freshMemory, roomRefusal, newAnswer, newMemory, hullPlate, hullWritten, hullWrittenInto};
@@ -15,7 +16,6 @@ use memory::REGISTER_WORDS;
 use sheet::Answer;
 use sheet::FITTING_HIGH;
 use sheet::FITTING_LINES;
-use sheet::SHEET_WORDS;
 use sheet::TEXT_WORDS;
 use text::LineRead;
 use text::OUTSIDE_LIMITS;
@@ -64,6 +64,24 @@ fn desk_refusal(mem: &[u32], desk: u32) -> u32
     } else {
         BAD_MEMORY
     }
+}
+
+// ---- the sheets that the calls read, once nothing refuses them
+
+// A hull's sheet, still the caller's own words.
+fn hull_sheet(mem: &[u32], hull: u32) -> &[u32]
+    requires { ⌜ hullRefusal (now mem) hull ≡ 0 ⌝ }
+    ensures { λ r. ⌜ now r ≡ hullSheet (now (mem .entry)) hull ⌝ }
+{
+    keeping::sheet_at(mem, keeping::hull_at(hull as usize) + 1)
+}
+
+// The sheet of a desk's draft, still the caller's own words.
+fn draft_sheet(mem: &[u32], desk: u32) -> &[u32]
+    requires { ⌜ deskRefusal (now mem) desk ≡ 0 ⌝ }
+    ensures { λ r. ⌜ now r ≡ draftSheet (now (mem .entry)) desk ⌝ }
+{
+    keeping::sheet_at(mem, keeping::draft_at(desk as usize) + 3)
 }
 
 // ---- hulls
@@ -117,9 +135,7 @@ pub fn plate_a(mem: &[u32], hull: u32) -> Answer
     if refusal != 0 {
         return Answer::Refused(refusal);
     }
-    let at = keeping::hull_at(hull as usize) + 1;
-    let end = at + SHEET_WORDS;
-    figuring::plate_a(&mem[at..end])
+    figuring::plate_a(hull_sheet(mem, hull))
 }
 
 // Plate C of a hull.
@@ -130,9 +146,7 @@ pub fn plate_c(mem: &[u32], hull: u32, powers: &[u32], weights: &[u32]) -> Answe
     if refusal != 0 {
         return Answer::Refused(refusal);
     }
-    let start = keeping::hull_at(hull as usize) + 1;
-    let end = start + SHEET_WORDS;
-    figuring::plate_c(&mem[start..end], powers, weights)
+    figuring::plate_c(hull_sheet(mem, hull), powers, weights)
 }
 
 // The words of a sheet with a hull's number before them.
@@ -154,9 +168,7 @@ pub fn write_hull(mem: &[u32], hull: u32, out: &mut [u8]) -> Answer
     if refusal != 0 {
         return Answer::Refused(refusal);
     }
-    let at = keeping::hull_at(hull as usize) + 1;
-    let end = at + SHEET_WORDS;
-    let words = numbered(hull, &mem[at..end]);
+    let words = numbered(hull, hull_sheet(mem, hull));
     writing::write_sheet(&words, out)
 }
 
@@ -284,9 +296,7 @@ pub fn trial_a(mem: &[u32], desk: u32) -> Answer
     if refusal != 0 {
         return Answer::Refused(refusal);
     }
-    let at = keeping::draft_at(desk as usize) + 3;
-    let end = at + SHEET_WORDS;
-    figuring::plate_a(&mem[at..end])
+    figuring::plate_a(draft_sheet(mem, desk))
 }
 
 // Plate C of a desk's draft, as a trial.
@@ -297,9 +307,7 @@ pub fn trial_c(mem: &[u32], desk: u32, powers: &[u32], weights: &[u32]) -> Answe
     if refusal != 0 {
         return Answer::Refused(refusal);
     }
-    let start = keeping::draft_at(desk as usize) + 3;
-    let end = start + SHEET_WORDS;
-    figuring::plate_c(&mem[start..end], powers, weights)
+    figuring::plate_c(draft_sheet(mem, desk), powers, weights)
 }
 
 // What refuses a save: as for every call on a draft, then an edit of the hull since the open, then that no edit number is left.
