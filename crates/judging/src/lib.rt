@@ -9,15 +9,13 @@ use memory::DESKS;
 use memory::MOST_EDITS;
 use memory::MOST_HULLS;
 use memory::REGISTER_WORDS;
-use sheet::SHEET_WORDS;
 
 // Whether the words from a place on are a sheet within limits.
 fn words_at_ok(mem: &[u32], at: usize) -> bool
     requires { ⌜ at + sheetWords ≤ length (now mem) ⌝ }
     ensures { λ r. ⌜ r ≡ wordsOk (part (now (mem .entry)) at sheetWords) ⌝ }
 {
-    let end = at + SHEET_WORDS;
-    checking::words_ok(&mem[at..end])
+    checking::words_ok(keeping::sheet_at(mem, at))
 }
 
 // Whether a hull is well formed: its edit number, then its sheet.
