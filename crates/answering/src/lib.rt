@@ -5,7 +5,7 @@ ghost use lib.ListN.{length};
 ghost use Rattle.sheet.specs.Settled.{Settled};
 ghost use Rattle.sheet.specs.Sheet.{sheetWords};
 ghost use Rattle.memory.specs.Layout.{hullSheet, draftSheet};
-ghost use Rattle.plates.specs.Kinds.{kindA, kindC};
+ghost use Rattle.plates.specs.Kinds.{kindA, kindC, kindU};
 ghost use Rattle.register.specs.Refusals.{hullRefusal, deskRefusal};
 ghost use Rattle.register.specs.Hulls.{freshAnswer, freshMemory, roomRefusal, newAnswer, newMemory, hullPlate, hullWritten, hullWrittenInto};
 ghost use Rattle.register.specs.Drafts.{openRefusal, openAnswer, openMemory, putRefusal, putAnswer, putMemory, takeRefusal, takeAnswer, takeMemory, replaceAnswer, replaceMemory, trial, saveRefusal, saveAnswer, saveMemory, dropAnswer, dropMemory};
@@ -147,6 +147,17 @@ pub fn plate_c(mem: &[u32], hull: u32, powers: &[u32], weights: &[u32]) -> Answe
         return Answer::Refused(refusal);
     }
     figuring::plate_c(hull_sheet(mem, hull), powers, weights)
+}
+
+// Plate U of a hull.
+pub fn plate_u(mem: &[u32], hull: u32) -> Answer
+    ensures { λ r. ⌜ r ≡ hullPlate (now (mem .entry)) hull kindU ⌝ }
+{
+    let refusal = hull_refusal(mem, hull);
+    if refusal != 0 {
+        return Answer::Refused(refusal);
+    }
+    figuring::plate_u(hull_sheet(mem, hull))
 }
 
 // The words of a sheet with a hull's number before them.
@@ -308,6 +319,17 @@ pub fn trial_c(mem: &[u32], desk: u32, powers: &[u32], weights: &[u32]) -> Answe
         return Answer::Refused(refusal);
     }
     figuring::plate_c(draft_sheet(mem, desk), powers, weights)
+}
+
+// Plate U of a desk's draft, as a trial.
+pub fn trial_u(mem: &[u32], desk: u32) -> Answer
+    ensures { λ r. ⌜ r ≡ trial (now (mem .entry)) desk kindU ⌝ }
+{
+    let refusal = desk_refusal(mem, desk);
+    if refusal != 0 {
+        return Answer::Refused(refusal);
+    }
+    figuring::plate_u(draft_sheet(mem, desk))
 }
 
 // What refuses a save: as for every call on a draft, then an edit of the hull since the open, then that no edit number is left.
