@@ -4,7 +4,7 @@ use Prim.Native.Nat.{ℕ}
 use mathlib.Core.List.{List, []}
 use lib.ListN.{length}
 use Rattle.sheet.specs.declared.Answer.{Answer}
-use Rattle.plates.specs.Kinds.{Kind}
+use Rattle.plates.specs.Kinds.{PlateKind}
 use Rattle.register.specs.Hulls.{newAnswer, newMemory, hullPlate, hullWritten, hullWrittenInto}
 use Rattle.register.specs.Drafts.{openAnswer, openMemory, putAnswer, putMemory, takeAnswer, takeMemory, replaceAnswer, replaceMemory, trial, saveAnswer, saveMemory, dropAnswer, dropMemory}
 
@@ -13,11 +13,11 @@ pub data Work : Type 0 where
   put : ℕ → ℕ → Work
   takeOff : ℕ → Work
   replace : List ℕ → Work
-  tryPlate : Kind → Work
+  tryPlate : PlateKind → Work
 
 -- what is asked of a hull: its plates, and its text into a lent output, which is given as it stood
 pub data Ask : Type 0 where
-  plate : Kind → Ask
+  plate : PlateKind → Ask
   write : List ℕ → Ask
 
 pub data Call : Type 0 where

@@ -1,6 +1,6 @@
 -- What a history tells by itself, with no memory in sight: the draft that a desk holds, the accepted saves of a hull, and the sheet that work makes of a sheet. 01,
 -- Calls on the register. Histories are newest first. Assumes nothing: these are definitions.
-use Prim.Native.Nat.{ℕ, suc, _+_}
+use Prim.Native.Nat.{ℕ, suc}
 use mathlib.Core.Bool.{Bool, true, false, _&&_, cond}
 use mathlib.Core.List.{List, [], _∷_}
 use mathlib.Core.Option.{Option, none, some}

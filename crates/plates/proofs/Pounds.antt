@@ -11,7 +11,7 @@ use lib.Dec.{eqb, ltb, lit<}
 use lib.IntN.{ℤ, pos, _+ℤ_, _*ℤ_}
 use Rattle.plates.specs.Whole.{greatest}
 use Rattle.plates.specs.Words.{outboard, declared}
-use Rattle.plates.specs.PlateU.{Figure, outboardFifth, outboardTenths, inboardFifth, inboardSeventh, Rule, onlyOne, greaterOf, twoHorses, ruleU, above, below, pounds, poundsBy, markedU}
+use Rattle.plates.specs.PlateU.{Figure, outboardFifth, outboardTenths, inboardFifth, inboardSeventh, Rule, onlyOne, greaterOf, twoHorses, ruleU, dividendU, divisorU, pounds, poundsBy, markedU}
 use Rattle.plates.proofs.Whole.{of-pos, sum-of, times-of}
 use Rattle.plates.proofs.Order.{NotAbove, not-above, not-above-back, sums, greatest-left, greatest-right, greatest-one}
 use Rattle.plates.proofs.Rounding.{Largest, floor-largest}
@@ -44,27 +44,27 @@ by-hull P s a b c = go (eqb (outboard s) 1) (ltb twoHorses (declared s))
 -- ---- the largest whole number within the rule
 
 -- q pounds are within a figure; and they are more than it is
-abbrev pub Within : List ℕ → Figure → ℤ → Type 0
-Within s f q = NotAbove (pos (below f) *ℤ q) (above s f)
+abbrev pub WithinFigure : List ℕ → Figure → ℤ → Type 0
+WithinFigure s f q = NotAbove (pos (divisorU f) *ℤ q) (dividendU s f)
 
-abbrev pub Exceeds : List ℕ → Figure → ℤ → Type 0
-Exceeds s f q = NotAbove (above s f +ℤ pos 1) (pos (below f) *ℤ q)
+abbrev pub ExceedsFigure : List ℕ → Figure → ℤ → Type 0
+ExceedsFigure s f q = NotAbove (dividendU s f +ℤ pos 1) (pos (divisorU f) *ℤ q)
 
 -- q pounds fit a figure that applies; and they fit none
 abbrev pub FitsOne : List ℕ → Rule → ℤ → Type 0
-FitsOne s (onlyOne f) q = Within s f q
-FitsOne s (greaterOf f g) q = Within s f q ⊎ Within s g q
+FitsOne s (onlyOne f) q = WithinFigure s f q
+FitsOne s (greaterOf f g) q = WithinFigure s f q ⊎ WithinFigure s g q
 
 abbrev pub FitsNone : List ℕ → Rule → ℤ → Type 0
-FitsNone s (onlyOne f) q = Exceeds s f q
-FitsNone s (greaterOf f g) q = Exceeds s f q × Exceeds s g q
+FitsNone s (onlyOne f) q = ExceedsFigure s f q
+FitsNone s (greaterOf f g) q = ExceedsFigure s f q × ExceedsFigure s g q
 
 pub record LargestBy (s : List ℕ) (r : Rule) (q : ℤ) : Type 0 where
   pub fits : FitsOne s r q
   pub most : FitsNone s r (q +ℤ pos 1)
 
-floored : (s : List ℕ) (f : Figure) → 0 < below f → Largest (above s f) (below f) (pounds s f)
-floored s f p = floor-largest (above s f) (below f) p
+floored : (s : List ℕ) (f : Figure) → 0 < divisorU f → Largest (dividendU s f) (divisorU f) (pounds s f)
+floored s f p = floor-largest (dividendU s f) (divisorU f) p
 
 -- what exceeds a figure still does where it is more
 exceeds-more : (z q r : ℤ) (d : ℕ) → NotAbove z (pos d *ℤ (q +ℤ pos 1)) → NotAbove q r → NotAbove z (pos d *ℤ (r +ℤ pos 1))
@@ -80,20 +80,20 @@ exceeds-more z q r d h k =
     let m : d * (a + e) ≤ d * (c + b) = mul-le-mul {n₁ = d} {n₂ = d} (omega arith) (not-above-back dq dr k) in
     not-above dz (times-of d (sum-of dr (of-pos 1))) (omega (arith, mul-add d a e, mul-add d c b, mul-add d a 1, mul-add d c 1, x, m))
 
-one-largest : (s : List ℕ) (f : Figure) → 0 < below f → LargestBy s (onlyOne f) (pounds s f)
+one-largest : (s : List ℕ) (f : Figure) → 0 < divisorU f → LargestBy s (onlyOne f) (pounds s f)
 one-largest s f p = record { fits = floored s f p .fits; most = floored s f p .most }
 
-greater-largest : (s : List ℕ) (f g : Figure) → 0 < below f → 0 < below g → LargestBy s (greaterOf f g) (greatest (pounds s f) (pounds s g))
+greater-largest : (s : List ℕ) (f g : Figure) → 0 < divisorU f → 0 < divisorU g → LargestBy s (greaterOf f g) (greatest (pounds s f) (pounds s g))
 greater-largest s f g p r =
     record {
       fits = one (greatest-one (pounds s f) (pounds s g));
-      most = (exceeds-more (above s f +ℤ pos 1) (pounds s f) q (below f) (floored s f p .most) (greatest-left (pounds s f) (pounds s g)), exceeds-more (above s g +ℤ pos 1) (pounds s g) q (below g) (floored s g r .most) (greatest-right (pounds s f) (pounds s g)));
+      most = (exceeds-more (dividendU s f +ℤ pos 1) (pounds s f) q (divisorU f) (floored s f p .most) (greatest-left (pounds s f) (pounds s g)), exceeds-more (dividendU s g +ℤ pos 1) (pounds s g) q (divisorU g) (floored s g r .most) (greatest-right (pounds s f) (pounds s g)));
     }
   where
     q : ℤ
     q = greatest (pounds s f) (pounds s g)
 
-    one : (q ≡ pounds s f) ⊎ (q ≡ pounds s g) → Within s f q ⊎ Within s g q
+    one : (q ≡ pounds s f) ⊎ (q ≡ pounds s g) → WithinFigure s f q ⊎ WithinFigure s g q
     one (inl e) = inl (rw e (floored s f p .fits))
     one (inr e) = inr (rw e (floored s g r .fits))
 

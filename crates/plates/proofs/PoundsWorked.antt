@@ -1,19 +1,19 @@
 -- Plate U as the code works it: pounds over two natural sums, what adds and what takes away, within 64 bits; and its answers by the case that the code finds. Assumes
 -- nothing.
-use mathlib.Core.Path.{_≡_, refl, sym, ap, _∙_}
-use mathlib.Core.Bool.{Bool, true, false}
+use mathlib.Core.Path.{_≡_, refl, sym, _∙_}
+use mathlib.Core.Bool.{true, false}
 use mathlib.Core.List.{List}
 use Prim.Native.Nat.{ℕ, _+_, _*_, _≤_, _<_, max}
 use native.Mathlib.Nat.{mul-le-mul, mul-comm, mul-assoc}
 use native.Mathlib.Omega.{arith}
-use lib.Dec.{eqb, lit<}
+use lib.Dec.{eqb}
 use lib.IntN.{subℕ}
 use Rattle.sheet.specs.declared.Answer.the-variants.{Refused, Count}
 use Rattle.plates.specs.Whole.{floorDiv, whole}
 use Rattle.plates.specs.Words.{machinery, outboard, declared}
 use Rattle.plates.specs.Volume.{gram}
 use Rattle.plates.specs.Weights.{boatM}
-use Rattle.plates.specs.PlateU.{Figure, figure, boatB, outboardFifth, outboardTenths, inboardFifth, inboardSeventh, Rule, twoHorses, ruleU, finer, poundFine, below, pounds, poundsBy, markedU, plateU}
+use Rattle.plates.specs.PlateU.{Figure, figure, boatB, outboardFifth, outboardTenths, inboardFifth, inboardSeventh, Rule, twoHorses, finer, poundFine, divisorU, pounds, poundsBy, markedU, plateU}
 use Rattle.plates.specs.Bounds.{Bounds, heaviest}
 use Rattle.plates.proofs.Whole.{below-one}
 use Rattle.plates.proofs.Order.{whole-greatest}
@@ -22,7 +22,7 @@ use Rattle.plates.proofs.Pounds.{u-high, u-low, u-inboard, by-hull}
 
 -- ---- a figure
 
-pub pounds-are : (s : List ℕ) (f : Figure) → whole (floorDiv (subℕ (f .times * finer * gain s) (f .times * finer * loss (f .off) s)) (below f)) ≡ whole (pounds s f)
+pub pounds-are : (s : List ℕ) (f : Figure) → whole (floorDiv (subℕ (f .times * finer * gain s) (f .times * finer * loss (f .off) s)) (divisorU f)) ≡ whole (pounds s f)
 pounds-are s f = rw (net-less s (f .off), times-sub (f .times * finer) (gain s) (loss (f .off) s)) refl
 
 -- what the code multiplies stays within 64 bits
@@ -52,7 +52,7 @@ figure-most : (s : List ℕ) → Bounds s → (f : Figure) → f .times ≤ 3 �
 figure-most s b f t p =
     let q : ℕ = whole (pounds s f) in
     let least : 5 * q ≤ f .parts * q = mul-le-mul {n₁ = 5} {n₂ = f .parts} p (omega arith) in
-    let fits : below f * q ≤ f .times * finer * gain s = rw (sym (pounds-are s f)) (floor-most (f .times * finer * gain s) (f .times * finer * loss (f .off) s) (below f)) in
+    let fits : divisorU f * q ≤ f .times * finer * gain s = rw (sym (pounds-are s f)) (floor-most (f .times * finer * gain s) (f .times * finer * loss (f .off) s) (divisorU f)) in
     omega (arith, least, fits, regrouped (f .parts) (gram * poundFine) q, gain-fine s b t)
   where
     regrouped : (a c d : ℕ) → a * c * d ≡ c * (a * d)

@@ -12,7 +12,7 @@ use Rattle.plates.specs.Weights.{sum, boatM}
 use Rattle.plates.specs.PlateC.{exactX, markedC, rising, rowsRight, rowFor, noRow, engineWeight, liveLoad, persons, untested, plateC}
 use Rattle.plates.specs.PlateA.{inboardX, loadX, markedA, rowWatts, beforeWatts, formulaWatts, powerA, plateA}
 use Rattle.plates.specs.PlateU.{ruleU, markedU, plateU}
-use Rattle.plates.specs.Samples.{wordsTo, words, seated, load, power, inboard, loadC, loadA, powerA-is, persons-are, refusedC, refusedA, poundsU, refusedU, Case, case, marks, agrees, refuses, counts, second-is, answer-c, holds-of, stands, cases}
+use Rattle.plates.specs.Samples.{wordsTo, words, seated, load, power, inboard, loadC, loadA, powerA-is, persons-are, refusedC, poundsU, refusedU, Case, case, marks, agrees, refuses, says-count, second-is, answer-c, holds-of, stands, cases}
 
 all-stand : List Case → Bool
 all-stand [] = true
@@ -58,9 +58,9 @@ american =
     case (massed 1 20000 200000 0 0) (poundsU 720) ∷ case (load 20000 200000 3334) (poundsU 718) ∷ case (load 1491 200000 3334) (poundsU 1078)
     -- two horsepower: 183.37 at 1491 W and below, 183.35 above
     ∷ case (massed 1 1492 200000 0 0) (poundsU 720) ∷ case (massed 1 1491 200000 0 0) (poundsU 1080) ∷ case (massed 1 0 200000 0 0) (poundsU 1080)
-    -- fuel counts by 183.35 and not by 183.37, machinery by neither
+    -- fuel says-count by 183.35 and not by 183.37, machinery by neither
     ∷ case (massed 1 20000 200000 20000 0) (poundsU 711) ∷ case (massed 1 1491 200000 20000 50000) (poundsU 1080) ∷ case (massed 1 20000 200000 0 500000) (poundsU 720)
-    -- an inboard by its fifth, at any power, and by its seventh; fuel counts in both
+    -- an inboard by its fifth, at any power, and by its seventh; fuel says-count in both
     ∷ case (massed 0 20000 200000 0 0) (poundsU 720) ∷ case (massed 0 20000 200000 0 50000) (poundsU 631) ∷ case (massed 0 1000 200000 0 50000) (poundsU 631)
     ∷ case (massed 0 20000 200000 0 500000) (poundsU 514) ∷ case (massed 0 20000 200000 20000 50000) (poundsU 623) ∷ case (massed 0 20000 200000 20000 500000) (poundsU 508)
     -- about one pound
@@ -71,7 +71,7 @@ american =
     ∷ []
 
 americans : all-stand american ≡ true
-unfolding all-stand stands american massed shaped holds-of counts refuses load seated words allHold sheetLimits limitsOn product volumeN netZ sum boatM ruleU markedU plateU
+unfolding all-stand stands american massed shaped holds-of says-count refuses load seated words allHold sheetLimits limitsOn product volumeN netZ sum boatM ruleU markedU plateU
 americans = refl
 
 -- ---- what the cases above leave open, since their stations and depths are alike

@@ -8,12 +8,12 @@ use Rattle.plates.specs.PlateA.{plateA}
 use Rattle.plates.specs.PlateU.{plateU}
 
 -- plate A; plate C by engine rows, powers and weights; plate U
-pub data Kind : Type 0 where
-  kindA : Kind
-  kindC : List ℕ → List ℕ → Kind
-  kindU : Kind
+pub data PlateKind : Type 0 where
+  kindA : PlateKind
+  kindC : List ℕ → List ℕ → PlateKind
+  kindU : PlateKind
 
-abbrev pub plateOf : Kind → List ℕ → Answer
+abbrev pub plateOf : PlateKind → List ℕ → Answer
 plateOf kindA s = plateA s
 plateOf (kindC ps ws) s = plateC s ps ws
 plateOf kindU s = plateU s

@@ -68,16 +68,16 @@ finer = 100000
 abbrev pub poundFine : ℕ
 poundFine = 45359237
 
--- a figure is a fraction of pounds, unreduced: above the line 100000 × times × (Z − 180000 × off), below it parts × 180000 × 45359237
-abbrev pub above : List ℕ → Figure → ℤ
-above s f = pos (f .times * finer) *ℤ (netZ s -ℤ pos gram *ℤ pos (f .off))
+-- a figure is a fraction of pounds, unreduced: 100000 × times × (Z − 180000 × off) over parts × 180000 × 45359237
+abbrev pub dividendU : List ℕ → Figure → ℤ
+dividendU s f = pos (f .times * finer) *ℤ (netZ s -ℤ pos gram *ℤ pos (f .off))
 
-abbrev pub below : Figure → ℕ
-below f = f .parts * (gram * poundFine)
+abbrev pub divisorU : Figure → ℕ
+divisorU f = f .parts * (gram * poundFine)
 
 -- the largest whole number not above it
 abbrev pub pounds : List ℕ → Figure → ℤ
-pounds s f = floorDiv (above s f) (below f)
+pounds s f = floorDiv (dividendU s f) (divisorU f)
 
 abbrev pub poundsBy : List ℕ → Rule → ℤ
 poundsBy s (onlyOne f) = pounds s f

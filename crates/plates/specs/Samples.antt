@@ -28,18 +28,18 @@ pub record Hull : Type 0 where
   pub fitting : ℕ
 
 -- every B is 1000 and every depth 500
-abbrev pub station : List ℕ
-station = 1000 ∷ replicate 6 500
+abbrev pub baseStation : List ℕ
+baseStation = 1000 ∷ replicate 6 500
 
 -- by its reference length, and by the readings of station T
 abbrev pub wordsTo : List ℕ → ℕ → Hull → List ℕ
 wordsTo t reference h =
     h .long ∷ reference ∷ h .wide ∷ 500 ∷ h .flat ∷ h .remote
-    ∷ (station ++ (station ++ (station ++ (t ++ (0 ∷ 0 ∷ 0 ∷ h .bare ∷ h .fuel ∷ h .machinery ∷ h .outboard ∷ h .declared ∷ 5 ∷ h .tested ∷ h .fitting ∷ replicate 23 0)))))
+    ∷ (baseStation ++ (baseStation ++ (baseStation ++ (t ++ (0 ∷ 0 ∷ 0 ∷ h .bare ∷ h .fuel ∷ h .machinery ∷ h .outboard ∷ h .declared ∷ 5 ∷ h .tested ∷ h .fitting ∷ replicate 23 0)))))
 
 -- reference length 4000, or the length where that is less
 unfoldable pub words : ℕ → Hull → List ℕ
-words = wordsTo station
+words = wordsTo baseStation
 
 unfoldable pub seated : ℕ → ℕ → ℕ → ℕ → List ℕ
 seated tested declared bare fitting =
@@ -81,11 +81,11 @@ refuses Done n = false
 refuses (Count m) n = false
 refuses (Plate a b) n = false
 
-unfoldable pub counts : Answer → ℕ → Bool
-counts (Refused m) n = false
-counts Done n = false
-counts (Count m) n = eqb m n
-counts (Plate a b) n = false
+unfoldable pub says-count : Answer → ℕ → Bool
+says-count (Refused m) n = false
+says-count Done n = false
+says-count (Count m) n = eqb m n
+says-count (Plate a b) n = false
 
 unfoldable pub second-is : Answer → ℕ → Bool
 second-is (Refused m) n = false
@@ -104,7 +104,7 @@ holds-of s (powerA-is n) = second-is (plateA s) n
 holds-of s (persons-are n) = second-is (answer-c s) n
 holds-of s (refusedC n) = refuses (answer-c s) n
 holds-of s (refusedA n) = refuses (plateA s) n
-holds-of s (poundsU n) = counts (plateU s) n
+holds-of s (poundsU n) = says-count (plateU s) n
 holds-of s (refusedU n) = refuses (plateU s) n
 
 -- a case stands: its sheet is within the limits, and what it says holds

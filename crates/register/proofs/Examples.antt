@@ -20,7 +20,7 @@ use Rattle.plates.specs.Weights.{sum, boatM}
 use Rattle.plates.specs.PlateC.{exactX, markedC, rising, rowsRight, rowFor, noRow, engineWeight, liveLoad, persons, untested, plateC}
 use Rattle.plates.specs.PlateA.{inboardX, loadX, markedA, formulaWatts, powerA, plateA}
 use Rattle.plates.specs.PlateU.{ruleU, markedU, plateU}
-use Rattle.plates.specs.Kinds.{Kind, kindA, kindC, kindU}
+use Rattle.plates.specs.Kinds.{PlateKind, kindA, kindC, kindU}
 use Rattle.memory.specs.Formed.{each, hullOk, draftOk, formed}
 use Rattle.memory.specs.Updates.{freshWords, entered, opened, fitted, replaced, dropped, saved}
 use Rattle.register.specs.Refusals.{hullRefusal, deskRefusal}
@@ -89,10 +89,10 @@ puts d line w = does (λ (m : List ℕ). putAnswer m d line w) (λ (m : List ℕ
 abbrev takes : ℕ → ℕ → Answer → Step
 takes d line = does (λ (m : List ℕ). takeAnswer m d line) (λ (m : List ℕ). takeMemory m d line)
 
-abbrev tries : ℕ → Kind → Answer → Step
+abbrev tries : ℕ → PlateKind → Answer → Step
 tries d k = asks (λ (m : List ℕ). trial m d k)
 
-abbrev marks : ℕ → Kind → Answer → Step
+abbrev marks : ℕ → PlateKind → Answer → Step
 marks h k = asks (λ (m : List ℕ). hullPlate m h k)
 
 abbrev saves : ℕ → Answer → Step

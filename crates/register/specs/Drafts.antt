@@ -7,7 +7,7 @@ use lib.ListN.{getD}
 use Rattle.sheet.specs.declared.Answer.{Answer}
 use Rattle.sheet.specs.declared.Answer.the-variants.{Refused, Done, Count}
 use Rattle.sheet.specs.Lines.{fittings, fittingHigh}
-use Rattle.plates.specs.Kinds.{Kind, plateOf}
+use Rattle.plates.specs.Kinds.{PlateKind, plateOf}
 use Rattle.memory.specs.Layout.{desks, count, edit, draftHull, opening, draftSheet, fittingAt}
 use Rattle.memory.specs.Formed.{mostEdits, formed}
 use Rattle.memory.specs.Updates.{opened, fitted, replaced, dropped, saved}
@@ -62,7 +62,7 @@ replaceMemory m d t = orKept (deskRefusal m d) (onText t (replaced m d (sheetOf 
 
 -- ---- trial plates: 1, 6, 7, then the plate's own
 
-abbrev pub trial : List ℕ → ℕ → Kind → Answer
+abbrev pub trial : List ℕ → ℕ → PlateKind → Answer
 trial m d k = orRefused (deskRefusal m d) (plateOf k (draftSheet m d))
 
 -- ---- save: 1, 6, 7, then 8 before 9; it answers the edit number

@@ -7,7 +7,7 @@ use lib.ListN.{length}
 use Rattle.sheet.specs.declared.Answer.{Answer}
 use Rattle.sheet.specs.declared.Answer.the-variants.{Refused, Done, Count}
 use Rattle.sheet.specs.Calls.{writeAnswer, writeInto}
-use Rattle.plates.specs.Kinds.{Kind, plateOf}
+use Rattle.plates.specs.Kinds.{PlateKind, plateOf}
 use Rattle.memory.specs.Layout.{mostHulls, registerWords, count, hullSheet}
 use Rattle.memory.specs.Formed.{formed}
 use Rattle.memory.specs.Updates.{freshWords, entered}
@@ -37,7 +37,7 @@ newMemory m t = orKept (roomRefusal m) (onText t (entered m (sheetOf t)) (λ (nu
 
 -- ---- plates of a hull: 1, 5, then the plate's own
 
-abbrev pub hullPlate : List ℕ → ℕ → Kind → Answer
+abbrev pub hullPlate : List ℕ → ℕ → PlateKind → Answer
 hullPlate m h k = orRefused (hullRefusal m h) (plateOf k (hullSheet m h))
 
 -- ---- write a hull's sheet under the register's number: 1, 5, then 16
