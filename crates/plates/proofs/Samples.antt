@@ -2,7 +2,7 @@
 -- Assumes nothing.
 use mathlib.Core.Path.{_≡_, refl}
 use mathlib.Core.Bool.{Bool, true, _&&_}
-use mathlib.Core.List.{List, [], _∷_, map}
+use mathlib.Core.List.{List, [], _∷_, _++_, map}
 use Prim.Native.Nat.{ℕ}
 use lib.ListN.{replicate}
 use Rattle.text.specs.Limit.{allHold}
@@ -52,26 +52,42 @@ shaped : List ℕ → ℕ → ℕ → List ℕ
 shaped t reference bare =
     wordsTo t reference (record { long = 6000; wide = 1200; flat = 0; remote = 0; bare = bare; fuel = 0; machinery = 0; outboard = 1; declared = 20000; tested = 0; fitting = 0 })
 
+-- a launch of which no two stations, volumes or weights are alike, by its drive, declared power, bare boat and machinery; its fittings stand on lines 1, 2, 13 and 24
+launch : ℕ → ℕ → ℕ → ℕ → List ℕ
+launch outboard declared bare machinery =
+    5400 ∷ 5250 ∷ 1200 ∷ 500 ∷ 0 ∷ 1
+    ∷ 1180 ∷ 640 ∷ 566 ∷ 472 ∷ 360 ∷ 232 ∷ 70
+    ∷ 1720 ∷ 742 ∷ 690 ∷ 612 ∷ 508 ∷ 372 ∷ 160
+    ∷ 1880 ∷ 748 ∷ 706 ∷ 640 ∷ 548 ∷ 420 ∷ 214
+    ∷ 1620 ∷ 650 ∷ 622 ∷ 574 ∷ 506 ∷ 402 ∷ 237
+    ∷ 46000 ∷ 71000 ∷ 30500 ∷ bare ∷ 42000 ∷ machinery ∷ outboard ∷ declared ∷ 5 ∷ 0
+    ∷ 14800 ∷ 16200 ∷ (replicate 10 0 ++ (22000 ∷ (replicate 10 0 ++ (9400 ∷ []))))
+
 american : List Case
 american =
     -- 02's figure; and a fitting weighs as the boat does, in 183.37 too
     case (massed 1 20000 200000 0 0) (poundsU 720) ∷ case (load 20000 200000 3334) (poundsU 718) ∷ case (load 1491 200000 3334) (poundsU 1078)
     -- two horsepower: 183.37 at 1491 W and below, 183.35 above
     ∷ case (massed 1 1492 200000 0 0) (poundsU 720) ∷ case (massed 1 1491 200000 0 0) (poundsU 1080) ∷ case (massed 1 0 200000 0 0) (poundsU 1080)
-    -- fuel says-count by 183.35 and not by 183.37, machinery by neither
-    ∷ case (massed 1 20000 200000 20000 0) (poundsU 711) ∷ case (massed 1 1491 200000 20000 50000) (poundsU 1080) ∷ case (massed 1 20000 200000 0 500000) (poundsU 720)
-    -- an inboard by its fifth, at any power, and by its seventh; fuel says-count in both
+    -- fuel counts by 183.35 and not by 183.37, machinery by neither
+    ∷ case (massed 1 20000 200000 20000 0) (poundsU 711) ∷ case (massed 1 1491 200000 20000 0) (poundsU 1080) ∷ case (massed 1 1491 200000 20000 50000) (poundsU 1080) ∷ case (massed 1 20000 200000 0 500000) (poundsU 720)
+    -- an inboard by its fifth, at any power, and by its seventh; fuel counts in both
     ∷ case (massed 0 20000 200000 0 0) (poundsU 720) ∷ case (massed 0 20000 200000 0 50000) (poundsU 631) ∷ case (massed 0 1000 200000 0 50000) (poundsU 631)
     ∷ case (massed 0 20000 200000 0 500000) (poundsU 514) ∷ case (massed 0 20000 200000 20000 50000) (poundsU 623) ∷ case (massed 0 20000 200000 20000 500000) (poundsU 508)
     -- about one pound
     ∷ case (massed 1 20000 1831065 0 0) (poundsU 1) ∷ case (massed 1 20000 1831066 0 0) (refusedU 12)
+    -- each figure at its last gram of a pound, and a gram more, of a boat whose every number differs
+    ∷ case (launch 1 20000 612621 138000) (poundsU 1325) ∷ case (launch 1 20000 612622 138000) (poundsU 1324)
+    ∷ case (launch 1 1491 613042 138000) (poundsU 2015) ∷ case (launch 1 1491 613043 138000) (poundsU 2014)
+    ∷ case (launch 0 20000 614004 138000) (poundsU 1081) ∷ case (launch 0 20000 614005 138000) (poundsU 1080)
+    ∷ case (launch 0 20000 613982 320000) (poundsU 946) ∷ case (launch 0 20000 613983 320000) (poundsU 945)
     -- 745 pounds to the last digit, and a gram less; 797 but for the least step that a sheet can make, and a gram more
     ∷ case (shaped (9 ∷ 501 ∷ replicate 5 500) 4065 5643) (poundsU 745) ∷ case (shaped (9 ∷ 501 ∷ replicate 5 500) 4065 5644) (poundsU 744)
     ∷ case (shaped (1000 ∷ 499 ∷ replicate 5 500) 4093 68370) (poundsU 796) ∷ case (shaped (1000 ∷ 499 ∷ replicate 5 500) 4093 68369) (poundsU 797)
     ∷ []
 
 americans : all-stand american ≡ true
-unfolding all-stand stands american massed shaped holds-of says-count refuses load seated words allHold sheetLimits limitsOn product volumeN netZ sum boatM ruleU markedU plateU
+unfolding all-stand stands american massed shaped launch holds-of says-count refuses load seated words allHold sheetLimits limitsOn product volumeN netZ sum boatM ruleU markedU plateU
 americans = refl
 
 -- ---- what the cases above leave open, since their stations and depths are alike
