@@ -48,8 +48,9 @@ faulty = newHull (bytes "HULL\t16\n") ⇒ says (Refused 3)
 abbrev writing : Event
 writing = ask 0 (write (replicate 240 7)) ⇒ record { answer = Count 237; output = text "HULL\t0\n" "FIT\t2\t3334\n" ++ replicate 3 7 }
 
+-- by an engine row whose weight, taken for its power, would not reach the declared power
 abbrev trialC : Event
-trialC = work 0 (tryPlate (kindC (20000 ∷ []) (60000 ∷ []))) ⇒ says (Plate 325 3)
+trialC = work 0 (tryPlate (kindC (20000 ∷ []) (15000 ∷ []))) ⇒ says (Plate 325 3)
 
 day : List Event
 day =

@@ -68,11 +68,12 @@ numbered-text hull bare = bytes hull ++ (bytes "FORM\t4500\t4000\t1200\t500\t0\t
 text : String → List ℕ
 text = numbered-text "HULL\t9\n"
 
+-- an engine row whose weight, taken for its power, would not reach the declared power
 rows : List ℕ
 rows = 20000 ∷ []
 
 grams : List ℕ
-grams = 60000 ∷ []
+grams = 15000 ∷ []
 
 abbrev asks : (List ℕ → Answer) → Answer → Step
 asks f a = record { answers = f; leaves = λ (m : List ℕ). m; must = a }
