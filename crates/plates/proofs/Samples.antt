@@ -6,12 +6,14 @@ use mathlib.Core.List.{List, [], _∷_, _++_, map}
 use Prim.Native.Nat.{ℕ}
 use lib.ListN.{replicate}
 use Rattle.text.specs.Limit.{allHold}
+use Rattle.sheet.specs.declared.Answer.the-variants.{Count, Plate}
 use Rattle.sheet.specs.Sheet.{limitsOn, sheetLimits}
 use Rattle.plates.specs.Volume.{product, summed, volumeN, netZ}
 use Rattle.plates.specs.Weights.{sum, boatM}
 use Rattle.plates.specs.PlateC.{exactX, markedC, rising, rowsRight, rowFor, noRow, engineWeight, liveLoad, persons, untested, plateC}
 use Rattle.plates.specs.PlateA.{inboardX, loadX, markedA, rowWatts, beforeWatts, formulaWatts, powerA, plateA}
 use Rattle.plates.specs.PlateU.{ruleU, markedU, plateU}
+use Rattle.plates.specs.Kinds.{PlateKind, kindA, kindC, kindU, plateOf}
 use Rattle.plates.specs.Samples.{wordsTo, words, seated, load, power, inboard, loadC, loadA, powerA-is, persons-are, refusedC, poundsU, refusedU, Case, case, marks, agrees, refuses, says-count, second-is, answer-c, holds-of, stands, cases}
 
 all-stand : List Case → Bool
@@ -89,6 +91,12 @@ american =
 americans : all-stand american ≡ true
 unfolding all-stand stands american massed shaped launch holds-of says-count refuses load seated words allHold sheetLimits limitsOn product volumeN netZ sum boatM ruleU markedU plateU
 americans = refl
+
+-- ---- each kind is its own plate, and plate C has its rows' powers and weights each in its place
+
+kinds-right : map (λ (k : PlateKind). plateOf k (seated 3 20000 200000 3334)) (kindA ∷ kindC (20000 ∷ []) (15000 ∷ []) ∷ kindU ∷ []) ≡ Plate 326 20000 ∷ Plate 325 3 ∷ Count 718 ∷ []
+unfolding seated words product volumeN netZ sum boatM exactX markedC rising rowsRight rowFor noRow engineWeight liveLoad persons untested plateC inboardX loadX markedA formulaWatts powerA plateA ruleU markedU plateU
+kinds-right = refl
 
 -- ---- what the cases above leave open, since their stations and depths are alike
 
