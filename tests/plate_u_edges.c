@@ -1,6 +1,7 @@
 /*
  * plate_u_edges.c: plate U at the bounds of its rules and one gram beside them: the declared power, whole pounds of its four figures, the two figures
- * of an inboard. The pounds of each sheet were worked out apart, as fractions, and stand here in figures.
+ * of an inboard. The pounds of each sheet were worked out apart, as fractions, and stand here in figures, but for the bounds of whole pounds, which are worked
+ * out from the pound.
  */
 #include "material.h"
 #include "parts.h"

@@ -446,13 +446,13 @@ const FINER: u64 = 100_000;
 
 const POUND: u64 = 45_359_237 * GRAM;
 
-// Whole pounds of times / parts of what the displacement has above so many grams, or 0 where there are none.
-fn pounds_of(sheet: &[u32], gain: u64, off: u64, times: u64, parts: u64) -> u64
-    requires { ⌜ Figured (now sheet) gain (figure off times parts) ⌝ }
-    ensures { λ r. ⌜ r ≡ whole (pounds (now (sheet .entry)) (figure off times parts)) ⌝ }
+// Whole pounds of times / out_of of what the displacement has above so many grams, or 0 where there are none.
+fn pounds_of(sheet: &[u32], gain: u64, less: u64, times: u64, out_of: u64) -> u64
+    requires { ⌜ Figured (now sheet) gain (figure less times out_of) ⌝ }
+    ensures { λ r. ⌜ r ≡ whole (pounds (now (sheet .entry)) (figure less times out_of)) ⌝ }
 {
     let fine = times * FINER;
-    whole_part(fine * gain, fine * loss_of(sheet, off), parts * POUND)
+    whole_part(fine * gain, fine * loss_of(sheet, less), out_of * POUND)
 }
 
 // The greater of two numbers.

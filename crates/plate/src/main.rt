@@ -1,4 +1,4 @@
-// The plate program: a sheet and engine lines come on standard input, and both plates go to standard output. What is printed is the crate printing's to say;
+// The plate program: a sheet and engine lines come on standard input, and plates A and C go to standard output. What is printed is the crate printing's to say;
 // here the bytes are only carried to it and from it.
 ghost use mathlib.Core.Path.{_≡_};
 ghost use Prim.Native.Nat.{_≤_};

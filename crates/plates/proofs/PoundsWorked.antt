@@ -22,8 +22,8 @@ use Rattle.plates.proofs.Pounds.{u-high, u-low, u-inboard, by-hull}
 
 -- ---- a figure
 
-pub pounds-are : (s : List ℕ) (f : Figure) → whole (floorDiv (subℕ (f .times * finer * gain s) (f .times * finer * loss (f .off) s)) (divisorU f)) ≡ whole (pounds s f)
-pounds-are s f = rw (net-less s (f .off), times-sub (f .times * finer) (gain s) (loss (f .off) s)) refl
+pub pounds-are : (s : List ℕ) (f : Figure) → whole (floorDiv (subℕ (f .times * finer * gain s) (f .times * finer * loss (f .lessGrams) s)) (divisorU f)) ≡ whole (pounds s f)
+pounds-are s f = rw (net-less s (f .lessGrams), times-sub (f .times * finer) (gain s) (loss (f .lessGrams) s)) refl
 
 -- what the code multiplies stays within 64 bits
 pub gain-fine : (s : List ℕ) {k : ℕ} → Bounds s → k ≤ 3 → k * finer * gain s ≤ 3240000000000000000
@@ -48,12 +48,12 @@ marked-greater s e p q = rw (u-inboard s e, p, q) (sym (whole-greatest (pounds s
 
 -- ---- pounds fit 32 bits
 
-figure-most : (s : List ℕ) → Bounds s → (f : Figure) → f .times ≤ 3 → 5 ≤ f .parts → whole (pounds s f) ≤ 80000
+figure-most : (s : List ℕ) → Bounds s → (f : Figure) → f .times ≤ 3 → 5 ≤ f .outOf → whole (pounds s f) ≤ 80000
 figure-most s b f t p =
     let q : ℕ = whole (pounds s f) in
-    let least : 5 * q ≤ f .parts * q = mul-le-mul {n₁ = 5} {n₂ = f .parts} p (omega arith) in
-    let fits : divisorU f * q ≤ f .times * finer * gain s = rw (sym (pounds-are s f)) (floor-most (f .times * finer * gain s) (f .times * finer * loss (f .off) s) (divisorU f)) in
-    omega (arith, least, fits, regrouped (f .parts) (gram * poundFine) q, gain-fine s b t)
+    let least : 5 * q ≤ f .outOf * q = mul-le-mul {n₁ = 5} {n₂ = f .outOf} p (omega arith) in
+    let fits : divisorU f * q ≤ f .times * finer * gain s = rw (sym (pounds-are s f)) (floor-most (f .times * finer * gain s) (f .times * finer * loss (f .lessGrams) s) (divisorU f)) in
+    omega (arith, least, fits, regrouped (f .outOf) (gram * poundFine) q, gain-fine s b t)
   where
     regrouped : (a c d : ℕ) → a * c * d ≡ c * (a * d)
     regrouped a c d = rw (mul-comm a c, mul-assoc c a d) refl

@@ -50,8 +50,8 @@ massed outboard declared bare fuel machinery =
     words 4000 (record { long = 4500; wide = 1200; flat = 0; remote = 0; bare = bare; fuel = fuel; machinery = machinery; outboard = outboard; declared = declared; tested = 0; fitting = 0 })
 
 -- an outboard of this station T, reference length and bare boat
-shaped : List ℕ → ℕ → ℕ → List ℕ
-shaped t reference bare =
+stationed : List ℕ → ℕ → ℕ → List ℕ
+stationed t reference bare =
     wordsTo t reference (record { long = 6000; wide = 1200; flat = 0; remote = 0; bare = bare; fuel = 0; machinery = 0; outboard = 1; declared = 20000; tested = 0; fitting = 0 })
 
 -- a launch of which no two stations, volumes or weights are alike, by its drive, declared power, bare boat and machinery; its fittings stand on lines 1, 2, 13 and 24
@@ -75,21 +75,23 @@ american =
     ∷ case (massed 1 20000 200000 20000 0) (poundsU 711) ∷ case (massed 1 1491 200000 20000 0) (poundsU 1080) ∷ case (massed 1 1491 200000 20000 50000) (poundsU 1080) ∷ case (massed 1 20000 200000 0 500000) (poundsU 720)
     -- an inboard by its fifth, at any power, and by its seventh; fuel counts in both
     ∷ case (massed 0 20000 200000 0 0) (poundsU 720) ∷ case (massed 0 20000 200000 0 50000) (poundsU 631) ∷ case (massed 0 1000 200000 0 50000) (poundsU 631)
-    ∷ case (massed 0 20000 200000 0 500000) (poundsU 514) ∷ case (massed 0 20000 200000 20000 50000) (poundsU 623) ∷ case (massed 0 20000 200000 20000 500000) (poundsU 508)
+    ∷ case (massed 0 0 200000 0 50000) (poundsU 631) ∷ case (massed 0 20000 200000 0 500000) (poundsU 514) ∷ case (massed 0 20000 200000 20000 50000) (poundsU 623) ∷ case (massed 0 20000 200000 20000 500000) (poundsU 508)
     -- about one pound
     ∷ case (massed 1 20000 1831065 0 0) (poundsU 1) ∷ case (massed 1 20000 1831066 0 0) (refusedU 12)
+    -- a flat bottom too small for plate A's table: plate U has nothing to say of it
+    ∷ case (power 2250 2250 1000 1 0) (poundsU 366)
     -- each figure at its last gram of a pound, and a gram more, of a boat whose every number differs
     ∷ case (launch 1 20000 612621 138000) (poundsU 1325) ∷ case (launch 1 20000 612622 138000) (poundsU 1324)
     ∷ case (launch 1 1491 613042 138000) (poundsU 2015) ∷ case (launch 1 1491 613043 138000) (poundsU 2014)
     ∷ case (launch 0 20000 614004 138000) (poundsU 1081) ∷ case (launch 0 20000 614005 138000) (poundsU 1080)
     ∷ case (launch 0 20000 613982 320000) (poundsU 946) ∷ case (launch 0 20000 613983 320000) (poundsU 945)
     -- 745 pounds to the last digit, and a gram less; 797 but for the least step that a sheet can make, and a gram more
-    ∷ case (shaped (9 ∷ 501 ∷ replicate 5 500) 4065 5643) (poundsU 745) ∷ case (shaped (9 ∷ 501 ∷ replicate 5 500) 4065 5644) (poundsU 744)
-    ∷ case (shaped (1000 ∷ 499 ∷ replicate 5 500) 4093 68370) (poundsU 796) ∷ case (shaped (1000 ∷ 499 ∷ replicate 5 500) 4093 68369) (poundsU 797)
+    ∷ case (stationed (9 ∷ 501 ∷ replicate 5 500) 4065 5643) (poundsU 745) ∷ case (stationed (9 ∷ 501 ∷ replicate 5 500) 4065 5644) (poundsU 744)
+    ∷ case (stationed (1000 ∷ 499 ∷ replicate 5 500) 4093 68370) (poundsU 796) ∷ case (stationed (1000 ∷ 499 ∷ replicate 5 500) 4093 68369) (poundsU 797)
     ∷ []
 
 americans : all-stand american ≡ true
-unfolding all-stand stands american massed shaped launch holds-of says-count refuses load seated words allHold sheetLimits limitsOn product volumeN netZ sum boatM ruleU markedU plateU
+unfolding all-stand stands american massed stationed launch holds-of says-count refuses load seated power words allHold sheetLimits limitsOn product volumeN netZ sum boatM ruleU markedU plateU
 americans = refl
 
 -- ---- each kind is its own plate, and plate C has its rows' powers and weights each in its place

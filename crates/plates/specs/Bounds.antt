@@ -54,7 +54,7 @@ heaviest = 2000000 + 24 * 500000 + 5 * (500000 + 500000)
 pub record Figured (s : List ℕ) (gain : ℕ) (f : Figure) : Type 0 where
   pub bounds : Bounds s
   pub gains : gain ≡ volumeN s + gram * aft s
-  pub off-most : f .off ≤ heaviest
+  pub grams-most : f .lessGrams ≤ heaviest
   pub times-most : f .times ≤ 3
-  pub some-parts : 0 < f .parts
-  pub parts-most : f .parts ≤ 10
+  pub some-parts : 0 < f .outOf
+  pub parts-most : f .outOf ≤ 10

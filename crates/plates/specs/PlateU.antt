@@ -14,14 +14,14 @@ use Rattle.plates.specs.Weights.{boatM}
 
 -- ---- the figures
 
--- `times` / `parts` of what the displacement has above `off` grams
+-- `times` / `outOf` of what the displacement has above `lessGrams`
 pub record Figure : Type 0 where
-  pub off : ℕ
+  pub lessGrams : ℕ
   pub times : ℕ
-  pub parts : ℕ
+  pub outOf : ℕ
 
 abbrev pub figure : ℕ → ℕ → ℕ → Figure
-figure w a b = record { off = w; times = a; parts = b }
+figure w a b = record { lessGrams = w; times = a; outOf = b }
 
 -- boat weight: bare boat, fittings and permanent tanks with fuel
 abbrev pub boatB : List ℕ → ℕ
@@ -68,12 +68,12 @@ finer = 100000
 abbrev pub poundFine : ℕ
 poundFine = 45359237
 
--- a figure is a fraction of pounds, unreduced: 100000 × times × (Z − 180000 × off) over parts × 180000 × 45359237
+-- a figure is a fraction of pounds, unreduced: 100000 × times × (Z − 180000 × lessGrams) over outOf × 180000 × 45359237
 abbrev pub dividendU : List ℕ → Figure → ℤ
-dividendU s f = pos (f .times * finer) *ℤ (netZ s -ℤ pos gram *ℤ pos (f .off))
+dividendU s f = pos (f .times * finer) *ℤ (netZ s -ℤ pos gram *ℤ pos (f .lessGrams))
 
 abbrev pub divisorU : Figure → ℕ
-divisorU f = f .parts * (gram * poundFine)
+divisorU f = f .outOf * (gram * poundFine)
 
 -- the largest whole number not above it
 abbrev pub pounds : List ℕ → Figure → ℤ

@@ -1,4 +1,4 @@
--- 01, Sample sheets: the base hull, what a case changes of it and what it says. Starred cases 1 to 7, which are of a sheet. Assumes nothing: these are definitions.
+-- 01, Sample sheets, and 02 (i): the base hull, what a case changes of it and what it says. Starred cases 1 to 7, which are of a sheet. Assumes nothing: these are definitions.
 use mathlib.Core.Bool.{Bool, false, _&&_}
 use mathlib.Core.List.{List, [], _∷_, _++_}
 use Prim.Native.Nat.{ℕ}
@@ -31,7 +31,7 @@ pub record Hull : Type 0 where
 abbrev pub baseStation : List ℕ
 baseStation = 1000 ∷ replicate 6 500
 
--- by its reference length, and by the readings of station T
+-- by the readings of station T, and by its reference length
 abbrev pub wordsTo : List ℕ → ℕ → Hull → List ℕ
 wordsTo t reference h =
     h .long ∷ reference ∷ h .wide ∷ 500 ∷ h .flat ∷ h .remote

@@ -23,7 +23,7 @@ use Rattle.printout.specs.Input.{mostInput, sheetBytes}
 use Rattle.printout.specs.Printed.{inputText, platesText, rowsPrinted, printed}
 use Rattle.printout.proofs.Printed.{rows-fault, rows-plates, printed-fault, printed-rows, read-bounds}
 
--- ---- the two plates, one after the other
+-- ---- plates A and C, one after the other
 
 module _ {x o₀ o₁ : List ℕ} {end : ℕ} (p : Laid x o₀ 0 end o₁) where
   pub first-in : (y : List ℕ) → length (x ++ y) ≤ length o₀ → end ≤ length o₁

@@ -72,7 +72,7 @@ fn lay_plate(marked: &[u8], refused: &[u8], answer: Answer, out: &mut [u8]) -> u
     }
 }
 
-// Lays the lines of both plates.
+// Lays the lines of plates A and C.
 fn lay_plates(sheet: &[u32], powers: &[u32], weights: &[u32], out: &mut [u8]) -> usize
     requires { ⌜ Bounds (now sheet) × (length (platesText (now sheet) (now powers) (now weights)) ≤ length (now out)) ⌝ }
     ensures { λ r. ⌜ Laid (platesText (now (sheet .entry)) (now (powers .entry)) (now (weights .entry))) (now (out .entry)) 0 r (now (out .exit)) ⌝ }

@@ -26,7 +26,7 @@ figures tag count = record { tag = tag; limits = replicate count (ranging 0 4294
 abbrev pub inputText : ℕ → List ℕ
 inputText number = lineText (figures (bytes "INPUT\t") 1) (number ∷ [])
 
--- a plate's line, by the tags of a marked and of a refused one; a plate is one or the other
+-- a plate's line, by the tags of a marked and of a refused one; plates A and C are one or the other
 abbrev pub plateText : List ℕ → List ℕ → Answer → List ℕ
 plateText marked refused (Plate load figure) = lineText (figures marked 2) (load ∷ figure ∷ [])
 plateText marked refused (Refused number) = lineText (figures refused 1) (number ∷ [])

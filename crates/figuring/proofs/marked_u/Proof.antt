@@ -45,13 +45,13 @@ pounds-of-requires : tie.Need-pounds-of-requires
 pounds-of-requires c κs =
     let start = c .before .before .before .before .before .before .before .before .before in
     let at-gain-of = c .before .before .before .before .before .before .before in
-    record { bounds = start .pre; gains = at-gain-of .gain-of .ensures; off-most = omega (arith, fuelled (c .before .before .before .before), boat-most (start .args .sheet .now) (start .pre), start .pre .fuel-most); times-most = omega arith; some-parts = omega arith; parts-most = omega arith }
+    record { bounds = start .pre; gains = at-gain-of .gain-of .ensures; grams-most = omega (arith, fuelled (c .before .before .before .before), boat-most (start .args .sheet .now) (start .pre), start .pre .fuel-most); times-most = omega arith; some-parts = omega arith; parts-most = omega arith }
 
 pounds-of-requires-2 : tie.Need-pounds-of-requires-2
 pounds-of-requires-2 c κs =
     let start = c .before .before .before .before .before .before .before .before .before in
     let at-gain-of = c .before .before .before .before .before .before .before in
-    record { bounds = start .pre; gains = at-gain-of .gain-of .ensures; off-most = omega (arith, (c .before .before .before .before .before .before) .boat-of .ensures, boat-most (start .args .sheet .now) (start .pre), start .pre .fuel-most); times-most = omega arith; some-parts = omega arith; parts-most = omega arith }
+    record { bounds = start .pre; gains = at-gain-of .gain-of .ensures; grams-most = omega (arith, (c .before .before .before .before .before .before) .boat-of .ensures, boat-most (start .args .sheet .now) (start .pre), start .pre .fuel-most); times-most = omega arith; some-parts = omega arith; parts-most = omega arith }
 
 shared-slice-read-wide-2 : tie.Need-shared-slice-read-wide-2
 shared-slice-read-wide-2 c = search needs
@@ -71,13 +71,13 @@ pounds-of-requires-3 : tie.Need-pounds-of-requires-3
 pounds-of-requires-3 c κs =
     let start = c .before .before .before .before .before .before .before .before .before in
     let at-gain-of = c .before .before .before .before .before .before .before in
-    record { bounds = start .pre; gains = at-gain-of .gain-of .ensures; off-most = omega (arith, powered c, boat-most (start .args .sheet .now) (start .pre), start .pre .fuel-most, start .pre .machinery-most); times-most = omega arith; some-parts = omega arith; parts-most = omega arith }
+    record { bounds = start .pre; gains = at-gain-of .gain-of .ensures; grams-most = omega (arith, powered c, boat-most (start .args .sheet .now) (start .pre), start .pre .fuel-most, start .pre .machinery-most); times-most = omega arith; some-parts = omega arith; parts-most = omega arith }
 
 pounds-of-requires-4 : tie.Need-pounds-of-requires-4
 pounds-of-requires-4 c κs =
     let start = c .before .before .before .before .before .before .before .before .before .before in
     let at-gain-of = c .before .before .before .before .before .before .before .before in
-    record { bounds = start .pre; gains = at-gain-of .gain-of .ensures; off-most = omega (arith, fuelled (c .before .before .before .before .before), boat-most (start .args .sheet .now) (start .pre), start .pre .fuel-most); times-most = omega arith; some-parts = omega arith; parts-most = omega arith }
+    record { bounds = start .pre; gains = at-gain-of .gain-of .ensures; grams-most = omega (arith, fuelled (c .before .before .before .before .before), boat-most (start .args .sheet .now) (start .pre), start .pre .fuel-most); times-most = omega arith; some-parts = omega arith; parts-most = omega arith }
 
 greatest-of-requires : tie.Need-greatest-of-requires
 greatest-of-requires c κs = search needs

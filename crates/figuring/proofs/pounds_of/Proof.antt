@@ -22,7 +22,7 @@ loss-of-requires c κs = search needs
 mul-whole-part-2 : tie.Need-mul-whole-part-2
 mul-whole-part-2 c =
     let p = c .before .before .pre in
-    record { fits = lt-of-le-of-lt {m = 1566000000000000000} (rw (c .loss-of .ensures) (loss-fine (c .before .before .args .sheet .now) (p .bounds) (p .times-most) (p .off-most))) (lit< tt) }
+    record { fits = lt-of-le-of-lt {m = 1566000000000000000} (rw (c .loss-of .ensures) (loss-fine (c .before .before .args .sheet .now) (p .bounds) (p .times-most) (p .grams-most))) (lit< tt) }
 
 mul-whole-part-3 : tie.Need-mul-whole-part-3
 mul-whole-part-3 c = search needs
@@ -33,7 +33,7 @@ whole-part-requires c κs = search needs
 returns : tie.Need-returns
 returns c =
     let start = c .before .before .before in
-    c .whole-part .ensures ∙ rw (start .pre .gains, c .before .loss-of .ensures) (pounds-are (start .args .sheet .now) (figure (start .args .off) (start .args .times) (start .args .parts)))
+    c .whole-part .ensures ∙ rw (start .pre .gains, c .before .loss-of .ensures) (pounds-are (start .args .sheet .now) (figure (start .args .less) (start .args .times) (start .args .out_of)))
 
 pub pounds-of-spec : {M : Type 1} → statement M
 pounds-of-spec =
