@@ -446,13 +446,13 @@ const FINER: u64 = 100_000;
 
 const POUND: u64 = 45_359_237 * GRAM;
 
-// Whole pounds of times / out_of of what the displacement has above so many grams, or 0 where there are none.
-fn pounds_of(sheet: &[u32], gain: u64, less: u64, times: u64, out_of: u64) -> u64
-    requires { ⌜ Figured (now sheet) gain (figure less times out_of) ⌝ }
-    ensures { λ r. ⌜ r ≡ whole (pounds (now (sheet .entry)) (figure less times out_of)) ⌝ }
+// Whole pounds of times / divisor of what the displacement has above so many grams, or 0 where there are none.
+fn pounds_of(sheet: &[u32], gain: u64, less: u64, times: u64, divisor: u64) -> u64
+    requires { ⌜ Figured (now sheet) gain (figure less times divisor) ⌝ }
+    ensures { λ r. ⌜ r ≡ whole (pounds (now (sheet .entry)) (figure less times divisor)) ⌝ }
 {
     let fine = times * FINER;
-    whole_part(fine * gain, fine * loss_of(sheet, less), out_of * POUND)
+    whole_part(fine * gain, fine * loss_of(sheet, less), divisor * POUND)
 }
 
 // The greater of two numbers.

@@ -1,5 +1,5 @@
--- 02 (i), Plate U (001, 33 CFR 183.33, 183.35 and 183.37): the pounds that a hull may carry, rounded down. Net volume stands for maximum displacement. Every figure is
--- over whole numbers and may be below zero. Assumes nothing: these are definitions.
+-- 02 (i), Plate U (001, 33 CFR 183.33, 183.35 and 183.37): the pounds that a hull may carry, rounded down. The displacement is Z, the net volume as water. Every figure
+-- is over whole numbers and may be below zero. Assumes nothing: these are definitions.
 use Prim.Native.Nat.{ℕ, _+_, _*_}
 use mathlib.Core.Bool.{cond}
 use mathlib.Core.List.{List}
@@ -27,15 +27,15 @@ figure w a b = record { lessGrams = w; times = a; outOf = b }
 abbrev pub boatB : List ℕ → ℕ
 boatB s = boatM s + fuel s
 
--- 183.35, outboards: a fifth of displacement less boat weight
+-- 183.35, outboards: (displacement − boat weight) / 5
 abbrev pub outboardFifth : List ℕ → Figure
 outboardFifth s = figure (boatB s) 1 5
 
--- 183.37, outboards of two horsepower or less: three tenths, and the boat weight is without the tanks
+-- 183.37, outboards of two horsepower or less: 3 × (displacement − boat weight) / 10, and the tanks are no part of the boat weight
 abbrev pub outboardTenths : List ℕ → Figure
 outboardTenths s = figure (boatM s) 3 10
 
--- 183.33, inboards: a fifth of displacement less a fifth of boat weight less four fifths of machinery weight; and a seventh of displacement less boat weight
+-- 183.33, inboards: (displacement − boat weight − 4 × machinery weight) / 5, and (displacement − boat weight) / 7
 abbrev pub inboardFifth : List ℕ → Figure
 inboardFifth s = figure (boatB s + 4 * machinery s) 1 5
 
@@ -44,12 +44,12 @@ inboardSeventh s = figure (boatB s) 1 7
 
 -- ---- which of them apply
 
--- the greater of two figures, or the one that there is
+-- what a load is held to: the one figure that a hull has, or the greater of its two
 pub data Rule : Type 0 where
   onlyOne : Figure → Rule
   greaterOf : Figure → Figure → Rule
 
--- two horsepower is 1491.4 W
+-- the last whole watt within two horsepower, 1491.4 W
 abbrev pub twoHorses : ℕ
 twoHorses = 1491
 

@@ -33,7 +33,7 @@ whole-part-requires c κs = search needs
 returns : tie.Need-returns
 returns c =
     let start = c .before .before .before in
-    c .whole-part .ensures ∙ rw (start .pre .gains, c .before .loss-of .ensures) (pounds-are (start .args .sheet .now) (figure (start .args .less) (start .args .times) (start .args .out_of)))
+    c .whole-part .ensures ∙ rw (start .pre .gains, c .before .loss-of .ensures) (pounds-are (start .args .sheet .now) (figure (start .args .less) (start .args .times) (start .args .divisor)))
 
 pub pounds-of-spec : {M : Type 1} → statement M
 pounds-of-spec =
