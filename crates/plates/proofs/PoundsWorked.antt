@@ -14,10 +14,10 @@ use Rattle.plates.specs.Words.{machinery, outboard, declared}
 use Rattle.plates.specs.Volume.{gram}
 use Rattle.plates.specs.Weights.{boatM}
 use Rattle.plates.specs.PlateU.{Figure, figure, boatB, outboardFifth, outboardTenths, inboardFifth, inboardSeventh, Rule, twoHorses, finer, poundFine, divisorU, pounds, poundsBy, markedU, plateU}
-use Rattle.plates.specs.Bounds.{Bounds, heaviest}
+use Rattle.plates.specs.Bounds.{Bounds, heaviest, Figured}
 use Rattle.plates.proofs.Whole.{below-one}
 use Rattle.plates.proofs.Order.{whole-greatest}
-use Rattle.plates.proofs.Loads.{gain, loss, net-less, times-sub, floor-most, volume-most, loss-most}
+use Rattle.plates.proofs.Loads.{gain, loss, net-less, times-sub, floor-most, boat-most, volume-most, loss-most}
 use Rattle.plates.proofs.Pounds.{u-high, u-low, u-inboard, by-hull}
 
 -- ---- a figure
@@ -31,6 +31,11 @@ gain-fine s b h = mul-le-mul {n₂ = 300000} {m₂ = 10800000000000} (omega arit
 
 pub loss-fine : (s : List ℕ) {k w : ℕ} → Bounds s → k ≤ 3 → w ≤ heaviest → k * finer * loss w s ≤ 1566000000000000000
 loss-fine s b h l = mul-le-mul {n₂ = 300000} {m₂ = 5220000000000} (omega arith) (loss-most s b l)
+
+-- what the code asks of a figure, of a boat taken to weigh no more than plate U ever has it
+pub figured : (s : List ℕ) {g w : ℕ} (k d : ℕ) → Bounds s → g ≡ gain s → w ≤ boatB s + 4 * machinery s → k ≤ 3 → 0 < d → d ≤ 10 → Figured s g (figure w k d)
+figured s k d b e l t p m =
+    record { bounds = b; gains = e; grams-most = omega (arith, l, boat-most s b, b .fuel-most, b .machinery-most); times-most = t; some-parts = p; parts-most = m }
 
 -- ---- the marked pounds
 

@@ -5,7 +5,7 @@ use borrow.Author.Tests.{eq-eqb, ne-eqb}
 use Rattle.plates.specs.Words.{machinery}
 use Rattle.plates.specs.PlateU.{boatB}
 use Rattle.plates.proofs.Loads.{boat-most}
-use Rattle.plates.proofs.PoundsWorked.{marked-fifth, marked-tenths, marked-greater}
+use Rattle.plates.proofs.PoundsWorked.{figured, marked-fifth, marked-tenths, marked-greater}
 use native.Mathlib.Omega.{arith}
 use borrow.Author.Needs.{needs}
 use Rattle.figuring.proofs.marked_u.Statement.{statement}
@@ -44,14 +44,12 @@ shared-slice-read-if2 c = search needs
 pounds-of-requires : tie.Need-pounds-of-requires
 pounds-of-requires c κs =
     let start = c .before .before .before .before .before .before .before .before .before in
-    let at-gain-of = c .before .before .before .before .before .before .before in
-    record { bounds = start .pre; gains = at-gain-of .gain-of .ensures; grams-most = omega (arith, fuelled (c .before .before .before .before), boat-most (start .args .sheet .now) (start .pre), start .pre .fuel-most); times-most = omega arith; some-parts = omega arith; parts-most = omega arith }
+    figured (start .args .sheet .now) 1 5 (start .pre) (c .before .before .before .before .before .before .before .gain-of .ensures) (omega (arith, fuelled (c .before .before .before .before))) (omega arith) (omega arith) (omega arith)
 
 pounds-of-requires-2 : tie.Need-pounds-of-requires-2
 pounds-of-requires-2 c κs =
     let start = c .before .before .before .before .before .before .before .before .before in
-    let at-gain-of = c .before .before .before .before .before .before .before in
-    record { bounds = start .pre; gains = at-gain-of .gain-of .ensures; grams-most = omega (arith, (c .before .before .before .before .before .before) .boat-of .ensures, boat-most (start .args .sheet .now) (start .pre), start .pre .fuel-most); times-most = omega arith; some-parts = omega arith; parts-most = omega arith }
+    figured (start .args .sheet .now) 3 10 (start .pre) (c .before .before .before .before .before .before .before .gain-of .ensures) (omega (arith, c .before .before .before .before .before .before .boat-of .ensures)) (omega arith) (omega arith) (omega arith)
 
 shared-slice-read-wide-2 : tie.Need-shared-slice-read-wide-2
 shared-slice-read-wide-2 c = search needs
@@ -70,14 +68,12 @@ add-powered c =
 pounds-of-requires-3 : tie.Need-pounds-of-requires-3
 pounds-of-requires-3 c κs =
     let start = c .before .before .before .before .before .before .before .before .before in
-    let at-gain-of = c .before .before .before .before .before .before .before in
-    record { bounds = start .pre; gains = at-gain-of .gain-of .ensures; grams-most = omega (arith, powered c, boat-most (start .args .sheet .now) (start .pre), start .pre .fuel-most, start .pre .machinery-most); times-most = omega arith; some-parts = omega arith; parts-most = omega arith }
+    figured (start .args .sheet .now) 1 5 (start .pre) (c .before .before .before .before .before .before .before .gain-of .ensures) (omega (arith, powered c)) (omega arith) (omega arith) (omega arith)
 
 pounds-of-requires-4 : tie.Need-pounds-of-requires-4
 pounds-of-requires-4 c κs =
     let start = c .before .before .before .before .before .before .before .before .before .before in
-    let at-gain-of = c .before .before .before .before .before .before .before .before in
-    record { bounds = start .pre; gains = at-gain-of .gain-of .ensures; grams-most = omega (arith, fuelled (c .before .before .before .before .before), boat-most (start .args .sheet .now) (start .pre), start .pre .fuel-most); times-most = omega arith; some-parts = omega arith; parts-most = omega arith }
+    figured (start .args .sheet .now) 1 7 (start .pre) (c .before .before .before .before .before .before .before .before .gain-of .ensures) (omega (arith, fuelled (c .before .before .before .before .before))) (omega arith) (omega arith) (omega arith)
 
 greatest-of-requires : tie.Need-greatest-of-requires
 greatest-of-requires c κs = search needs
