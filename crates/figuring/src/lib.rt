@@ -5,10 +5,10 @@ ghost use mathlib.Core.List.{[]};
 ghost use Prim.Native.Nat.{_+_, _*_, _≤_, _<_, min, max};
 ghost use lib.IntN.{subℕ};
 ghost use lib.ListN.{length, getD, take, drop};
-ghost use Rattle.plates.specs.Whole.{floorDiv, whole};
+ghost use Rattle.plates.specs.Whole.{floorDiv, orZero};
 ghost use Rattle.plates.specs.Words.{aft, well, flooding, fuel, machinery};
-ghost use Rattle.plates.specs.Volume.{product, summed, volumeN, gram};
-ghost use Rattle.plates.specs.Weights.{sum, boatM};
+ghost use Rattle.plates.specs.Volume.{stationProduct, summed, volumeN, gram};
+ghost use Rattle.plates.specs.Weights.{addedUp, boatM};
 ghost use Rattle.plates.specs.PlateC.{markedC, rowFits, rising, rowsRight, wantsRow, rowFor, noRow, engineWeight, persons, untested, plateC};
 ghost use Rattle.plates.specs.PlateA.{markedA, factorP, tableEnd, rowOf, rowWatts, beforeWatts, raised, formulaWatts, powerA, noPower, plateA};
 ghost use Rattle.plates.specs.PlateU.{figure, pounds, markedU, plateU};
@@ -96,7 +96,7 @@ fn readings_at(sheet: &[u32], at: usize) -> [u32; 7]
 // Fifteen times a station's area.
 fn station_product(l: [u32; 7]) -> u64
     requires { ⌜ Readings l ⌝ }
-    ensures { λ r. ⌜ r ≡ product l ⌝ }
+    ensures { λ r. ⌜ r ≡ stationProduct l ⌝ }
 {
     wide(l[0])
         * (wide(l[1])
@@ -110,7 +110,7 @@ fn station_product(l: [u32; 7]) -> u64
 // N, of the readings of the four stations. Each product is kept, and then they are added.
 fn volume_of(readings: [[u32; 7]; 4], reference: u32) -> u64
     requires { ⌜ Stations readings reference ⌝ }
-    ensures { λ r. ⌜ r ≡ summed reference (product (getD readings 0 [])) (product (getD readings 1 [])) (product (getD readings 2 [])) (product (getD readings 3 [])) ⌝ }
+    ensures { λ r. ⌜ r ≡ summed reference (stationProduct (getD readings 0 [])) (stationProduct (getD readings 1 [])) (stationProduct (getD readings 2 [])) (stationProduct (getD readings 3 [])) ⌝ }
 {
     let q = station_product(readings[0]);
     let r = station_product(readings[1]);
@@ -122,7 +122,7 @@ fn volume_of(readings: [[u32; 7]; 4], reference: u32) -> u64
 // The largest whole number not above (gain - loss) / divisor, or 0 where that is below zero.
 fn whole_part(gain: u64, loss: u64, divisor: u64) -> u64
     requires { ⌜ 0 < divisor ⌝ }
-    ensures { λ r. ⌜ r ≡ whole (floorDiv (subℕ gain loss) divisor) ⌝ }
+    ensures { λ r. ⌜ r ≡ orZero (floorDiv (subℕ gain loss) divisor) ⌝ }
 {
     if gain < loss {
         0
@@ -134,7 +134,7 @@ fn whole_part(gain: u64, loss: u64, divisor: u64) -> u64
 // F, the sum of the fittings' weights.
 fn fittings_weight(weights: &[u32]) -> u64
     requires { ⌜ Weights (now weights) ⌝ }
-    ensures { λ r. ⌜ r ≡ sum (now (weights .entry)) ⌝ }
+    ensures { λ r. ⌜ r ≡ addedUp (now (weights .entry)) ⌝ }
 {
     let mut total = 0;
     let mut i = 0;
@@ -184,7 +184,7 @@ fn loss_of(sheet: &[u32], weight: u64) -> u64
 // The kilograms that plate C marks, or 0 where there are none.
 fn marked_c(sheet: &[u32]) -> u64
     requires { ⌜ Bounds (now sheet) ⌝ }
-    ensures { λ r. ⌜ r ≡ whole (markedC (now (sheet .entry))) ⌝ }
+    ensures { λ r. ⌜ r ≡ orZero (markedC (now (sheet .entry))) ⌝ }
 {
     let gain = gain_of(sheet);
     let loss = loss_of(sheet, boat_of(sheet) + carried_of(sheet));
@@ -198,7 +198,7 @@ fn marked_c(sheet: &[u32]) -> u64
 // The kilograms that plate A marks, or 0 where there are none: half a kilogram is added, so that a half goes upward. An inboard's tanks and machinery count five times.
 fn marked_a(sheet: &[u32]) -> u64
     requires { ⌜ Bounds (now sheet) ⌝ }
-    ensures { λ r. ⌜ r ≡ whole (markedA (now (sheet .entry))) ⌝ }
+    ensures { λ r. ⌜ r ≡ orZero (markedA (now (sheet .entry))) ⌝ }
 {
     let gain = gain_of(sheet) + HALF_MARKED;
     let boat = boat_of(sheet);
@@ -323,7 +323,7 @@ fn least_of(a: u64, b: u64) -> u64
 // Persons for a live load of so many grams, gross and engine apart, or 0 where there are none.
 fn persons_for(sheet: &[u32], gross: u64, engine: u64) -> u64
     requires { ⌜ Bounds (now sheet) ⌝ }
-    ensures { λ r. ⌜ r ≡ whole (persons (now (sheet .entry)) (subℕ gross engine)) ⌝ }
+    ensures { λ r. ⌜ r ≡ orZero (persons (now (sheet .entry)) (subℕ gross engine)) ⌝ }
 {
     let by_load = whole_part(gross, engine, PERSON_GRAMS);
     let seated = least_of(wide(sheet[POSITIONS]), by_load);
@@ -449,7 +449,7 @@ const POUND: u64 = 45_359_237 * GRAM;
 // Whole pounds of times / divisor of what the displacement has above so many grams, or 0 where there are none.
 fn pounds_of(sheet: &[u32], gain: u64, less: u64, times: u64, divisor: u64) -> u64
     requires { ⌜ Figured (now sheet) gain (figure less times divisor) ⌝ }
-    ensures { λ r. ⌜ r ≡ whole (pounds (now (sheet .entry)) (figure less times divisor)) ⌝ }
+    ensures { λ r. ⌜ r ≡ orZero (pounds (now (sheet .entry)) (figure less times divisor)) ⌝ }
 {
     let fine = times * FINER;
     whole_part(fine * gain, fine * loss_of(sheet, less), divisor * POUND)
@@ -465,7 +465,7 @@ fn greatest_of(a: u64, b: u64) -> u64
 // The pounds that plate U marks, or 0 where there are none.
 fn marked_u(sheet: &[u32]) -> u64
     requires { ⌜ Bounds (now sheet) ⌝ }
-    ensures { λ r. ⌜ r ≡ whole (markedU (now (sheet .entry))) ⌝ }
+    ensures { λ r. ⌜ r ≡ orZero (markedU (now (sheet .entry))) ⌝ }
 {
     let gain = gain_of(sheet);
     let boat = boat_of(sheet);

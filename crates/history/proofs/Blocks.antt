@@ -7,7 +7,7 @@ use mathlib.Core.List.{List, [], _∷_, _++_}
 use mathlib.Core.Option.{some}
 use lib.Dec.{eqb}
 use borrow.Author.Tests.{eqb-true}
-use Rattle.history.specs.Calls.{Work, newHull, openHull, work, save, drop, ask, Reply}
+use Rattle.history.specs.Calls.{Work, newHull, openHull, work, save, dropDraft, ask, Reply}
 use Rattle.history.specs.Runs.{Event, _⇒_, accepted}
 use Rattle.history.specs.History.{Role, itsOpen, itsCall, itsEnd, elsewhere, role, block}
 use Rattle.history.specs.Told.{Opening, opening}
@@ -20,7 +20,7 @@ callsBy d ((newHull t ⇒ r) ∷ es) = callsBy d es
 callsBy d ((openHull g h ⇒ r) ∷ es) = callsBy d es
 callsBy d ((work g w ⇒ r) ∷ es) = cond (eqb d g) ((work g w ⇒ r) ∷ callsBy d es) (callsBy d es)
 callsBy d ((save g ⇒ r) ∷ es) = cond (eqb d g) ((save g ⇒ r) ∷ callsBy d es) (callsBy d es)
-callsBy d ((drop g ⇒ r) ∷ es) = callsBy d es
+callsBy d ((dropDraft g ⇒ r) ∷ es) = callsBy d es
 callsBy d ((ask h q ⇒ r) ∷ es) = callsBy d es
 
 -- no open, save or drop of desk d among the events was accepted
@@ -30,7 +30,7 @@ stays d ((newHull t ⇒ r) ∷ es) = stays d es
 stays d ((openHull g h ⇒ r) ∷ es) = cond (eqb d g && accepted r) false (stays d es)
 stays d ((work g w ⇒ r) ∷ es) = stays d es
 stays d ((save g ⇒ r) ∷ es) = cond (eqb d g && accepted r) false (stays d es)
-stays d ((drop g ⇒ r) ∷ es) = cond (eqb d g && accepted r) false (stays d es)
+stays d ((dropDraft g ⇒ r) ∷ es) = cond (eqb d g && accepted r) false (stays d es)
 stays d ((ask h q ⇒ r) ∷ es) = stays d es
 
 -- ---- what is known of an event by its role
@@ -61,11 +61,11 @@ module _ (d g : ℕ) (r : Reply) where
   known-save true false p q = rw (← eqb-true d g p) (vain-save q)
   known-save false a p q = another (save g ⇒ r) (λ es. rw p) (λ es. rw p)
 
-  known-drop : (t a : Bool) → eqb d g ≡ t → accepted r ≡ a → Known d (drop g ⇒ r) (cond (t && a) itsEnd elsewhere)
+  known-drop : (t a : Bool) → eqb d g ≡ t → accepted r ≡ a → Known d (dropDraft g ⇒ r) (cond (t && a) itsEnd elsewhere)
   unfolding callsBy stays
   known-drop true true p q = an-end
-  known-drop true false p q = another (drop g ⇒ r) (λ es. rw (p, q)) (λ es. refl)
-  known-drop false a p q = another (drop g ⇒ r) (λ es. rw p) (λ es. refl)
+  known-drop true false p q = another (dropDraft g ⇒ r) (λ es. rw (p, q)) (λ es. refl)
+  known-drop false a p q = another (dropDraft g ⇒ r) (λ es. rw p) (λ es. refl)
 
 pub known : (d : ℕ) (e : Event) → Known d e (role d e)
 unfolding role callsBy stays
@@ -73,7 +73,7 @@ known d (newHull t ⇒ r) = another (newHull t ⇒ r) (λ es. refl) (λ es. refl
 known d (openHull g h ⇒ r) = known-open d g r h (eqb d g) (accepted r) refl refl
 known d (work g w ⇒ r) = known-work d g r w (eqb d g) refl
 known d (save g ⇒ r) = known-save d g r (eqb d g) (accepted r) refl refl
-known d (drop g ⇒ r) = known-drop d g r (eqb d g) (accepted r) refl refl
+known d (dropDraft g ⇒ r) = known-drop d g r (eqb d g) (accepted r) refl refl
 known d (ask h q ⇒ r) = another (ask h q ⇒ r) (λ es. refl) (λ es. refl)
 
 -- ---- the whole block
@@ -136,5 +136,5 @@ saveless ((newHull t ⇒ r) ∷ b) = saveless b
 saveless ((openHull d h ⇒ r) ∷ b) = saveless b
 saveless ((work d w ⇒ r) ∷ b) = saveless b
 saveless ((save d ⇒ r) ∷ b) = false
-saveless ((drop d ⇒ r) ∷ b) = saveless b
+saveless ((dropDraft d ⇒ r) ∷ b) = saveless b
 saveless ((ask h q ⇒ r) ∷ b) = saveless b

@@ -21,7 +21,7 @@ use Rattle.register.specs.Drafts.{openRefusal, putRefusal, takeRefusal, saveRef
 use Rattle.register.proofs.Refusals.{desk-high, desk-idle, desk-holds, room-left}
 use Rattle.register.proofs.Keeps.{new-keeps, open-keeps, save-keeps, drop-keeps}
 use Rattle.register.proofs.Effects.{new-makes, open-makes, save-makes, drop-makes}
-use Rattle.history.specs.Calls.{Work, put, takeOff, replace, tryPlate, Ask, plate, write, newHull, openHull, work, save, drop, Reply, says, askReply, reply, next}
+use Rattle.history.specs.Calls.{Work, put, takeOff, replace, tryPlate, Ask, plate, write, newHull, openHull, work, save, dropDraft, Reply, says, askReply, reply, next}
 use Rattle.history.proofs.Model.{Draft, State, askSays, askRefused, enter, store, opens, but, atDesk}
 use Rattle.history.proofs.Rules.{editsOf}
 use Rattle.history.proofs.Tools.{at-or, self}
@@ -73,7 +73,7 @@ module _ {m : List ℕ} {s : State} (S : Shows m s) where
       let ok = open-keeps m d h (S .ok) in
       rw (c .is) (desk-shows S (rw (c .is) at ok) (x .rest) (rw (x .holds, x .hull, x .number, x .sheet, S .numbers h (shown-few S q), S .sheets h (shown-few S q)) refl))
 
-  pub drops-shown : (d : ℕ) → deskRefusal m d ≡ 0 → Shows (next m (drop d)) (atDesk s d none)
+  pub drops-shown : (d : ℕ) → deskRefusal m d ≡ 0 → Shows (next m (dropDraft d)) (atDesk s d none)
   unfolding next
   drops-shown d z =
       let c = drop-makes m d z in
@@ -124,7 +124,7 @@ module _ {m : List ℕ} {s : State} (S : Shows m s) where
   work-kept d n (replace t) f z = record { shows = rw (z, f) S; replies = rw (z, f) refl }
   work-kept d n (tryPlate k) f z = record { shows = S; replies = rw (z, f) refl }
 
-  pub drop-kept : (d n : ℕ) → eqb n 0 ≡ false → deskRefusal m d ≡ n → Tied (next m (drop d)) (reply m (drop d)) s (says (Refused n))
+  pub drop-kept : (d n : ℕ) → eqb n 0 ≡ false → deskRefusal m d ≡ n → Tied (next m (dropDraft d)) (reply m (dropDraft d)) s (says (Refused n))
   unfolding next reply
   drop-kept d n f z = record { shows = rw (z, f) S; replies = rw (z, f) refl }
 

@@ -14,8 +14,8 @@ use Rattle.text.specs.Line.{readEntry, readNumbers, readLine, numbersText}
 use Rattle.sheet.specs.declared.Answer.the-variants.{Refused, Done, Count, Plate}
 use Rattle.sheet.specs.Sheet.{limitsOn, sheetLimits, fitText, fitsText, linesText, sheetText}
 use Rattle.sheet.specs.Reading.{readLines, readFits, readEnd, readRest, readSheet}
-use Rattle.plates.specs.Volume.{product, volumeN, netZ}
-use Rattle.plates.specs.Weights.{sum, boatM}
+use Rattle.plates.specs.Volume.{stationProduct, volumeN, netZ}
+use Rattle.plates.specs.Weights.{addedUp, boatM}
 use Rattle.plates.specs.PlateC.{exactX, markedC, rising, rowsRight, rowFor, noRow, engineWeight, liveLoad, persons, untested, plateC}
 use Rattle.plates.specs.PlateA.{inboardX, loadX, markedA, formulaWatts, powerA, plateA}
 use Rattle.plates.specs.PlateU.{ruleU, markedU, plateU}
@@ -25,7 +25,7 @@ use Rattle.memory.specs.Updates.{freshWords, entered, opened, fitted, replaced,
 use Rattle.register.specs.Refusals.{hullRefusal, deskRefusal}
 use Rattle.register.specs.Hulls.{roomRefusal}
 use Rattle.register.specs.Drafts.{openRefusal, putRefusal, takeRefusal, saveRefusal}
-use Rattle.history.specs.Calls.{put, takeOff, tryPlate, plate, write, newHull, openHull, work, save, drop, ask, says, reply, next}
+use Rattle.history.specs.Calls.{put, takeOff, tryPlate, plate, write, newHull, openHull, work, save, dropDraft, ask, says, reply, next}
 use Rattle.history.specs.Runs.{Event, _⇒_, call}
 use Rattle.history.specs.History.{role, block, spot, serial}
 use Rattle.history.specs.Told.{opening, isSaveOf, savesOf, quietSince}
@@ -63,7 +63,7 @@ day =
     ∷ (save 0 ⇒ says (Refused 8)) ∷ (openHull 0 0 ⇒ says (Count 1)) ∷ (openHull 3 0 ⇒ says (Count 1)) ∷ (work 0 (takeOff 1) ⇒ says (Refused 17)) ∷ trialC
     ∷ writing ∷ (work 0 (takeOff 2) ⇒ says Done) ∷ (save 0 ⇒ says (Count 2))
     -- desk 3 is behind, and gives up
-    ∷ (save 3 ⇒ says (Refused 8)) ∷ (drop 3 ⇒ says Done) ∷ (save 3 ⇒ says (Refused 7))
+    ∷ (save 3 ⇒ says (Refused 8)) ∷ (dropDraft 3 ⇒ says Done) ∷ (save 3 ⇒ says (Refused 7))
     ∷ faulty ∷ (ask 1 (plate kindA) ⇒ says (Refused 5)) ∷ (ask 0 (plate kindA) ⇒ says (Plate 327 20000))
     ∷ []
 
@@ -81,7 +81,7 @@ serial-day =
 
 -- the day is as it says
 a-day : transcript freshWords (map call day) ≡ day
-unfolding transcript reply next day text stations freshWords entered opened fitted replaced dropped saved each hullOk draftOk formed hullRefusal deskRefusal roomRefusal openRefusal putRefusal takeRefusal saveRefusal readSheet readLines readLine agreed readNumbers readEntry fieldOf numberOf restOf readRest readFits readEnd allHold sheetLimits limitsOn sheetText linesText fitsText fitText numbersText digitsOf digitsIn product volumeN netZ sum boatM exactX markedC rising rowsRight rowFor noRow engineWeight liveLoad persons untested plateC inboardX loadX markedA formulaWatts powerA plateA ruleU markedU plateU
+unfolding transcript reply next day text stations freshWords entered opened fitted replaced dropped saved each hullOk draftOk formed hullRefusal deskRefusal roomRefusal openRefusal putRefusal takeRefusal saveRefusal readSheet readLines readLine agreed readNumbers readEntry fieldOf numberOf restOf readRest readFits readEnd allHold sheetLimits limitsOn sheetText linesText fitsText fitText numbersText digitsOf digitsIn stationProduct volumeN netZ addedUp boatM exactX markedC rising rowsRight rowFor noRow engineWeight liveLoad persons untested plateC inboardX loadX markedA formulaWatts powerA plateA ruleU markedU plateU
 a-day = refl
 
 -- its serial list is this one
@@ -91,7 +91,7 @@ a-day-in-order = refl
 
 -- and that list, run from fresh, has the same replies
 a-day-again : transcript freshWords (map call serial-day) ≡ serial-day
-unfolding transcript reply next serial-day text stations freshWords entered opened fitted replaced dropped saved each hullOk draftOk formed hullRefusal deskRefusal roomRefusal openRefusal putRefusal takeRefusal saveRefusal readSheet readLines readLine agreed readNumbers readEntry fieldOf numberOf restOf readRest readFits readEnd allHold sheetLimits limitsOn sheetText linesText fitsText fitText numbersText digitsOf digitsIn product volumeN netZ sum boatM exactX markedC rising rowsRight rowFor noRow engineWeight liveLoad persons untested plateC inboardX loadX markedA formulaWatts powerA plateA ruleU markedU plateU
+unfolding transcript reply next serial-day text stations freshWords entered opened fitted replaced dropped saved each hullOk draftOk formed hullRefusal deskRefusal roomRefusal openRefusal putRefusal takeRefusal saveRefusal readSheet readLines readLine agreed readNumbers readEntry fieldOf numberOf restOf readRest readFits readEnd allHold sheetLimits limitsOn sheetText linesText fitsText fitText numbersText digitsOf digitsIn stationProduct volumeN netZ addedUp boatM exactX markedC rising rowsRight rowFor noRow engineWeight liveLoad persons untested plateC inboardX loadX markedA formulaWatts powerA plateA ruleU markedU plateU
 a-day-again = refl
 
 -- what the day's history tells: hull 0 has had two accepted saves, though five were tried

@@ -5,7 +5,7 @@ use mathlib.Core.Bool.{true}
 use mathlib.Core.List.{List, [], _∷_, map, reverse, reverseAux, reverse-reverse}
 use mathlib.Core.Logic.{_↔_}
 use lib.ListN.{length}
-use Rattle.memory.specs.Layout.{registerWords, count, edit}
+use Rattle.memory.specs.Layout.{registerWords, hullCount, edit}
 use Rattle.register.specs.Hulls.{freshMemory}
 use Rattle.history.specs.Calls.{Call, save, reply, next}
 use Rattle.history.specs.Runs.{Event, call, after, history, accepted}
@@ -76,7 +76,7 @@ module _ (m : List ℕ) (z : length m ≡ registerWords) where
   save-does-in-order cs d = rw (← newest-last m cs, ← newest-first m cs) (λ u. rw (oldest-last m (map call (u .draft .before))) (save-does m z (reverse cs) d u))
 
   -- Edit numbers count accepted saves.
-  pub edits-count-in-order : (cs : List Call) (h : ℕ) → h < count (lastly (freshMemory m) cs) → edit (lastly (freshMemory m) cs) h ≡ savesOf h (reverse (transcript (freshMemory m) cs))
+  pub edits-count-in-order : (cs : List Call) (h : ℕ) → h < hullCount (lastly (freshMemory m) cs) → edit (lastly (freshMemory m) cs) h ≡ savesOf h (reverse (transcript (freshMemory m) cs))
   edits-count-in-order cs h = rw (← newest-last m cs, ← newest-first m cs) (edits-count m z (reverse cs) h)
 
 pub demand-3-in-order : (m : List ℕ) → length m ≡ registerWords → DemandInOrder m

@@ -15,7 +15,7 @@ use Rattle.memory.specs.Formed.{mostEdits}
 use Rattle.memory.specs.Updates.{freshWords}
 use Rattle.register.specs.Refusals.{orRefused, sheetOf, onText}
 use Rattle.register.specs.Drafts.{putOwn}
-use Rattle.history.specs.Calls.{Work, put, takeOff, replace, tryPlate, Ask, plate, write, Call, newHull, openHull, work, save, drop, ask, Reply, says}
+use Rattle.history.specs.Calls.{Work, put, takeOff, replace, tryPlate, Ask, plate, write, Call, newHull, openHull, work, save, dropDraft, ask, Reply, says}
 use Rattle.history.specs.Runs.{Event, _⇒_, accepted}
 use Rattle.sheet.specs.Sheet.{fittingWord}
 use Rattle.history.specs.Told.{worked}
@@ -120,7 +120,7 @@ step s (openHull d h) =
     (refuse s 6)
 step s (work d w) = cond (ltb d desks) (workOn s d w (s .draft d)) (refuse s 6)
 step s (save d) = cond (ltb d desks) (saveOf s d (s .draft d)) (refuse s 6)
-step s (drop d) = cond (ltb d desks) (dropOf s d (s .draft d)) (refuse s 6)
+step s (dropDraft d) = cond (ltb d desks) (dropOf s d (s .draft d)) (refuse s 6)
 step s (ask h q) = cond (ltb h (s .register .entered)) (record { state = s; reply = askSays h q (s .register .hull h .sheet) }) (record { state = s; reply = askRefused q })
 
 -- ---- a run from fresh, newest first. The slots of hulls not entered are as fresh start leaves them.

@@ -8,7 +8,7 @@ use mathlib.Core.List.{List, [], _∷_, _++_}
 use mathlib.Core.Logic.{inl, inr}
 use lib.Dec.{eqb}
 use borrow.Author.Tests.{ne-eqb}
-use Rattle.history.specs.Calls.{newHull, openHull, work, save, drop, ask, Reply}
+use Rattle.history.specs.Calls.{newHull, openHull, work, save, dropDraft, ask, Reply}
 use Rattle.history.specs.Runs.{Event, _⇒_, accepted}
 use Rattle.history.specs.History.{Role, itsOpen, itsCall, itsEnd, elsewhere, role, block, spot, serial}
 use Rattle.history.proofs.Tools.{self, below}
@@ -107,7 +107,7 @@ module _ (w : Event → ℕ) where
   within ((openHull g k ⇒ r) ∷ past) n = let h = within past n in let a = blocks-grow (openHull g k ⇒ r) g past n (λ d o. rw o) in omega arith
   within ((work g x ⇒ r) ∷ past) n = let h = within past n in let a = blocks-grow (work g x ⇒ r) g past n (λ d o. rw o) in omega arith
   within ((save g ⇒ r) ∷ past) n = saved-within g r past n (within past) (accepted r) refl
-  within ((drop g ⇒ r) ∷ past) n = let h = within past n in let a = blocks-grow (drop g ⇒ r) g past n (λ d o. rw o) in omega arith
+  within ((dropDraft g ⇒ r) ∷ past) n = let h = within past n in let a = blocks-grow (dropDraft g ⇒ r) g past n (λ d o. rw o) in omega arith
   within ((ask h q ⇒ r) ∷ past) n = let h = within past n in omega arith
 
   -- Each call of a history is taken at most once.

@@ -4,7 +4,7 @@ use Prim.Native.Nat.{ℕ}
 use mathlib.Core.Path.{_≡_, refl, ap}
 use mathlib.Core.Bool.{Bool, true, false, cond}
 use mathlib.Core.List.{List, [], _∷_, _++_}
-use Rattle.history.specs.Calls.{newHull, openHull, work, save, drop, ask}
+use Rattle.history.specs.Calls.{newHull, openHull, work, save, dropDraft, ask}
 use Rattle.history.specs.Runs.{Event, _⇒_, accepted}
 use Rattle.history.specs.History.{Role, itsOpen, itsCall, itsEnd, elsewhere, role, block, spot, serial}
 use Rattle.history.proofs.Blocks.{Known, an-open, some-work, vain-save, an-end, another, known}
@@ -42,7 +42,7 @@ placed ((newHull t ⇒ r) ∷ es) = (newHull t ⇒ r) ∷ placed es
 placed ((openHull d h ⇒ r) ∷ es) = placed es
 placed ((work d w ⇒ r) ∷ es) = placed es
 placed ((save d ⇒ r) ∷ es) = cond (accepted r) ((save d ⇒ r) ∷ placed es) (placed es)
-placed ((drop d ⇒ r) ∷ es) = placed es
+placed ((dropDraft d ⇒ r) ∷ es) = placed es
 placed ((ask h q ⇒ r) ∷ es) = (ask h q ⇒ r) ∷ placed es
 
 placed-append : (a b : List Event) → placed (a ++ b) ≡ placed a ++ placed b
@@ -56,7 +56,7 @@ placed-append ((save d ⇒ r) ∷ a) b = go (accepted r) (placed-append a b)
     go : (t : Bool) → placed (a ++ b) ≡ placed a ++ placed b → cond t ((save d ⇒ r) ∷ placed (a ++ b)) (placed (a ++ b)) ≡ cond t ((save d ⇒ r) ∷ placed a) (placed a) ++ placed b
     go true h = ap (λ (es : List Event). (save d ⇒ r) ∷ es) h
     go false h = h
-placed-append ((drop d ⇒ r) ∷ a) b = placed-append a b
+placed-append ((dropDraft d ⇒ r) ∷ a) b = placed-append a b
 placed-append ((ask h q ⇒ r) ∷ a) b = ap (λ (es : List Event). (ask h q ⇒ r) ∷ es) (placed-append a b)
 
 -- the calls of a block have no place of their own
@@ -85,5 +85,5 @@ places-kept ((save d ⇒ r) ∷ past) = go (accepted r) refl (places-kept past)
     go : (t : Bool) → accepted r ≡ t → placed (serial past) ≡ placed past → placed (serial ((save d ⇒ r) ∷ past)) ≡ placed ((save d ⇒ r) ∷ past)
     go true e h = rw (e, serial) (rw (e, placed-append (block d past) (serial past), block-none d past, h))
     go false e h = rw (e, serial) h
-places-kept ((drop d ⇒ r) ∷ past) = places-kept past
+places-kept ((dropDraft d ⇒ r) ∷ past) = places-kept past
 places-kept ((ask h q ⇒ r) ∷ past) = ap (λ (es : List Event). (ask h q ⇒ r) ∷ es) (places-kept past)

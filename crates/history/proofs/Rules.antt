@@ -13,7 +13,7 @@ use Rattle.memory.specs.Layout.{mostHulls, desks}
 use Rattle.memory.specs.Formed.{mostEdits}
 use Rattle.memory.proofs.Same.{same-or-not}
 use Rattle.register.specs.Refusals.{onText}
-use Rattle.history.specs.Calls.{Work, Ask, Call, newHull, openHull, work, save, drop, ask, Reply, says}
+use Rattle.history.specs.Calls.{Work, Ask, Call, newHull, openHull, work, save, dropDraft, ask, Reply, says}
 use Rattle.history.proofs.Tools.{below}
 use Rattle.history.proofs.Model.{Draft, State, workSays, askSays, askRefused, but, atDesk, enter, store, opens, edited, step}
 
@@ -36,9 +36,9 @@ pub data Way (s : State) : Call → State → Reply → Type 0 where
   save-stale : {d : ℕ} (x : Draft) → d < desks → s .draft d ≡ some x → (editsOf s x ≡ x .opening → ⊥) → Way s (save d) s (says (Refused 8))
   save-idle : {d : ℕ} → d < desks → s .draft d ≡ none → Way s (save d) s (says (Refused 7))
   save-high : {d : ℕ} → desks ≤ d → Way s (save d) s (says (Refused 6))
-  drop-done : {d : ℕ} (x : Draft) → d < desks → s .draft d ≡ some x → Way s (drop d) (atDesk s d none) (says Done)
-  drop-idle : {d : ℕ} → d < desks → s .draft d ≡ none → Way s (drop d) s (says (Refused 7))
-  drop-high : {d : ℕ} → desks ≤ d → Way s (drop d) s (says (Refused 6))
+  drop-done : {d : ℕ} (x : Draft) → d < desks → s .draft d ≡ some x → Way s (dropDraft d) (atDesk s d none) (says Done)
+  drop-idle : {d : ℕ} → d < desks → s .draft d ≡ none → Way s (dropDraft d) s (says (Refused 7))
+  drop-high : {d : ℕ} → desks ≤ d → Way s (dropDraft d) s (says (Refused 6))
   ask-done : {h : ℕ} {q : Ask} → h < s .register .entered → Way s (ask h q) s (askSays h q (s .register .hull h .sheet))
   ask-unknown : {h : ℕ} {q : Ask} → s .register .entered ≤ h → Way s (ask h q) s (askRefused q)
 
@@ -91,7 +91,7 @@ find-work : (s : State) (d : ℕ) (w : Work) → d < desks → (o : Option Draft
 find-work s d w p none e = found (work-idle p e)
 find-work s d w p (some x) e = found (work-done x p e)
 
-find-drop : (s : State) (d : ℕ) → d < desks → (o : Option Draft) → s .draft d ≡ o → Found s (drop d)
+find-drop : (s : State) (d : ℕ) → d < desks → (o : Option Draft) → s .draft d ≡ o → Found s (dropDraft d)
 find-drop s d p none e = found (drop-idle p e)
 find-drop s d p (some x) e = found (drop-done x p e)
 
@@ -100,7 +100,7 @@ some-way s (newHull t) = elim (below (s .register .entered) mostHulls) [ inl p �
 some-way s (openHull d h) = elim (below d desks) [ inl p ↦ elim (below h (s .register .entered)) [ inl q ↦ found (open-done p q) | inr q ↦ found (open-unknown p q) ] | inr p ↦ found (open-high p) ]
 some-way s (work d w) = elim (below d desks) [ inl p ↦ find-work s d w p (s .draft d) refl | inr p ↦ found (work-high p) ]
 some-way s (save d) = elim (below d desks) [ inl p ↦ find-save s d p (s .draft d) refl | inr p ↦ found (save-high p) ]
-some-way s (drop d) = elim (below d desks) [ inl p ↦ find-drop s d p (s .draft d) refl | inr p ↦ found (drop-high p) ]
+some-way s (dropDraft d) = elim (below d desks) [ inl p ↦ find-drop s d p (s .draft d) refl | inr p ↦ found (drop-high p) ]
 some-way s (ask h q) = elim (below h (s .register .entered)) [ inl p ↦ found (ask-done p) | inr p ↦ found (ask-unknown p) ]
 
 -- what every rule has, every step has

@@ -8,7 +8,7 @@ use mathlib.Core.List.{List}
 use mathlib.Core.Option.{Option, none, some}
 use lib.Dec.{eqb}
 use borrow.Author.Tests.{eqb-true, eqb-false}
-use Rattle.memory.specs.Layout.{mostHulls, desks, hullAt, draftAt, count, edit, hullSheet, held, draftHull, opening, draftSheet}
+use Rattle.memory.specs.Layout.{mostHulls, desks, hullAt, draftAt, hullCount, edit, hullSheet, held, draftHull, opening, draftSheet}
 use Rattle.memory.specs.Formed.{formed}
 use Rattle.memory.specs.Updates.{freshWords}
 use Rattle.memory.proofs.Sound.{sound, held-draft}
@@ -28,7 +28,7 @@ draftIn m d = cond (eqb (held m d) 0) none (some (slot m d))
 
 pub record Shows (m : List ℕ) (s : State) : Type 0 where
   pub ok : formed m ≡ true
-  pub counts : count m ≡ s .register .entered
+  pub counts : hullCount m ≡ s .register .entered
   pub numbers : (h : ℕ) → h < mostHulls → edit m h ≡ s .register .hull h .edits
   pub sheets : (h : ℕ) → h < mostHulls → hullSheet m h ≡ s .register .hull h .sheet
   pub drafts : (d : ℕ) → d < desks → draftIn m d ≡ s .draft d
@@ -95,7 +95,7 @@ module _ {m : List ℕ} {s : State} (S : Shows m s) where
   pub shown-few : {h : ℕ} → h < s .register .entered → h < mostHulls
   shown-few l = omega (arith, S .counts, sound m (S .ok) .few)
 
-  pub there-few : {h : ℕ} → h < count m → h < mostHulls
+  pub there-few : {h : ℕ} → h < hullCount m → h < mostHulls
   there-few l = omega (arith, sound m (S .ok) .few)
 
   pub shown-holds : {d : ℕ} {x : Draft} → d < desks → s .draft d ≡ some x → Holds m d x

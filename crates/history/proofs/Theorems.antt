@@ -6,7 +6,7 @@ use mathlib.Core.List.{List, _∷_, map}
 use mathlib.Core.Logic.{_↔_}
 use lib.ListN.{length}
 use borrow.Author.Tests.{ne-eqb}
-use Rattle.memory.specs.Layout.{registerWords, count, edit}
+use Rattle.memory.specs.Layout.{registerWords, hullCount, edit}
 use Rattle.memory.specs.Formed.{mostEdits, formed}
 use Rattle.memory.proofs.Sound
 use Rattle.history.specs.Calls.{Call, save, Reply, reply}
@@ -31,7 +31,7 @@ module _ (m : List ℕ) (z : length m ≡ registerWords) where
   run-formed cs = run-shows m z cs .ok
 
   -- Edit numbers count accepted saves.
-  pub edits-count : (cs : List Call) (h : ℕ) → h < count (after m cs) → edit (after m cs) h ≡ savesOf h (history m cs)
+  pub edits-count : (cs : List Call) (h : ℕ) → h < hullCount (after m cs) → edit (after m cs) h ≡ savesOf h (history m cs)
   edits-count cs h l =
       let S = run-shows m z cs in
       rw (run-history m z cs) (S .numbers h (there-few S l) ∙ history-tells cs .edits h)

@@ -25,7 +25,7 @@ pub data Call : Type 0 where
   openHull : ℕ → ℕ → Call
   work : ℕ → Work → Call
   save : ℕ → Call
-  drop : ℕ → Call
+  dropDraft : ℕ → Call
   ask : ℕ → Ask → Call
 
 -- an answer, and the lent output after the call; a call without one has none
@@ -53,7 +53,7 @@ reply m (newHull t) = says (newAnswer m t)
 reply m (openHull d h) = says (openAnswer m d h)
 reply m (work d w) = workReply m d w
 reply m (save d) = says (saveAnswer m d)
-reply m (drop d) = says (dropAnswer m d)
+reply m (dropDraft d) = says (dropAnswer m d)
 reply m (ask h q) = askReply m h q
 
 -- ---- the memory that it leaves; trial plates, plates and writing are lent it to read
@@ -69,5 +69,5 @@ next m (newHull t) = newMemory m t
 next m (openHull d h) = openMemory m d h
 next m (work d w) = workMemory m d w
 next m (save d) = saveMemory m d
-next m (drop d) = dropMemory m d
+next m (dropDraft d) = dropMemory m d
 next m (ask h q) = m

@@ -7,7 +7,7 @@ use mathlib.Core.List.{List, _∷_, map}
 use mathlib.Core.Option.{some}
 use Rattle.sheet.specs.declared.Answer.{Answer}
 use Rattle.sheet.specs.declared.Answer.the-variants.{Count}
-use Rattle.memory.specs.Layout.{count, edit, hullSheet}
+use Rattle.memory.specs.Layout.{hullCount, edit, hullSheet}
 use Rattle.memory.specs.Formed.{mostEdits}
 use Rattle.history.specs.Calls.{Call, save, reply}
 use Rattle.history.specs.Runs.{Event, call, after, history, accepted}
@@ -30,14 +30,14 @@ pub record SaveDoes (d : ℕ) (o : Opening) (past : List Event) (opened before :
   -- the hull holds its sheet at the opening with the draft's accepted work done on it, in order, and nothing else
   pub sheet : hullSheet saved (o .hull) ≡ redo (block d past) (hullSheet opened (o .hull))
   -- every other hull is as it was, and no hull comes or goes
-  pub hulls : count saved ≡ count before
-  pub others : (h : ℕ) → h < count before → (h ≡ o .hull → ⊥) → (edit saved h ≡ edit before h) × (hullSheet saved h ≡ hullSheet before h)
+  pub hulls : hullCount saved ≡ hullCount before
+  pub others : (h : ℕ) → h < hullCount before → (h ≡ o .hull → ⊥) → (edit saved h ≡ edit before h) × (hullSheet saved h ≡ hullSheet before h)
 
 -- two memories hold the same hulls with the same edit numbers
 pub record SameHulls (o m : List ℕ) : Type 0 where
-  pub counts : count o ≡ count m
-  pub numbers : (h : ℕ) → h < count m → edit o h ≡ edit m h
-  pub sheets : (h : ℕ) → h < count m → hullSheet o h ≡ hullSheet m h
+  pub counts : hullCount o ≡ hullCount m
+  pub numbers : (h : ℕ) → h < hullCount m → edit o h ≡ edit m h
+  pub sheets : (h : ℕ) → h < hullCount m → hullSheet o h ≡ hullSheet m h
 
 -- (b) run from fresh, the calls of the list es give the hulls of the memory r, and each the reply that it has in es
 pub record Gives (m : List ℕ) (es : List Event) (r : List ℕ) : Type 0 where
@@ -50,6 +50,6 @@ pub record Demand (m : List ℕ) : Type 0 where
   pub accepts : (cs : List Call) (d : ℕ) → (accepted (reply (after m cs) (save d)) ≡ true) ↔ Due d (history m cs)
   pub saves : (cs : List Call) (d : ℕ) (u : Due d (history m cs))
       → SaveDoes d (u .draft) (history m cs) (after m (map call (u .draft .before))) (after m cs) (reply (after m cs) (save d) .answer) (after m (save d ∷ cs))
-  pub counts : (cs : List Call) (h : ℕ) → h < count (after m cs) → edit (after m cs) h ≡ savesOf h (history m cs)
+  pub counts : (cs : List Call) (h : ℕ) → h < hullCount (after m cs) → edit (after m cs) h ≡ savesOf h (history m cs)
   -- (b) the list with each accepted save's block at the save's place gives the same
   pub serves : (cs : List Call) → Gives m (serial (history m cs)) (after m cs)

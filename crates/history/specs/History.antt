@@ -4,7 +4,7 @@ use Prim.Native.Nat.{ℕ}
 use mathlib.Core.Bool.{cond, _&&_}
 use mathlib.Core.List.{List, [], _∷_, _++_}
 use lib.Dec.{eqb}
-use Rattle.history.specs.Calls.{newHull, openHull, work, save, drop, ask}
+use Rattle.history.specs.Calls.{newHull, openHull, work, save, dropDraft, ask}
 use Rattle.history.specs.Runs.{Event, _⇒_, accepted}
 
 -- what an event is to the draft of desk d: its open, the accepted one that made it; a call on it, be it a trial or a refused save; its end, an accepted save or drop;
@@ -20,7 +20,7 @@ role d (newHull t ⇒ r) = elsewhere
 role d (openHull e h ⇒ r) = cond (eqb d e && accepted r) itsOpen elsewhere
 role d (work e w ⇒ r) = cond (eqb d e) itsCall elsewhere
 role d (save e ⇒ r) = cond (eqb d e) (cond (accepted r) itsEnd itsCall) elsewhere
-role d (drop e ⇒ r) = cond (eqb d e && accepted r) itsEnd elsewhere
+role d (dropDraft e ⇒ r) = cond (eqb d e && accepted r) itsEnd elsewhere
 role d (ask h q ⇒ r) = elsewhere
 
 -- the open of desk d's draft and the calls on it. (Of a desk that holds none it is the work and the saves that were refused since its last. The block of its next
@@ -40,7 +40,7 @@ spot (newHull t ⇒ r) = alone
 spot (openHull d h ⇒ r) = nowhere
 spot (work d w ⇒ r) = nowhere
 spot (save d ⇒ r) = cond (accepted r) (withBlock d) nowhere
-spot (drop d ⇒ r) = nowhere
+spot (dropDraft d ⇒ r) = nowhere
 spot (ask h q ⇒ r) = alone
 
 -- the list of demand 3

@@ -4,7 +4,7 @@ use mathlib.Core.Path.{_≡_}
 use mathlib.Core.Bool.{true}
 use mathlib.Core.Logic.{_↔_}
 use mathlib.Core.List.{List, [], _∷_, map, reverse}
-use Rattle.memory.specs.Layout.{count, edit}
+use Rattle.memory.specs.Layout.{hullCount, edit}
 use Rattle.register.specs.Hulls.{freshMemory}
 use Rattle.history.specs.Calls.{Call, save, reply, next}
 use Rattle.history.specs.Runs.{Event, _⇒_, call, accepted}
@@ -36,5 +36,5 @@ pub record DemandInOrder (m : List ℕ) : Type 0 where
   pub saves : (cs : List Call) (d : ℕ) (u : Due d (reverse (transcript (freshMemory m) cs)))
       → SaveDoes d (u .draft) (reverse (transcript (freshMemory m) cs)) (lastly (freshMemory m) (reverse (map call (u .draft .before)))) (lastly (freshMemory m) cs)
       (reply (lastly (freshMemory m) cs) (save d) .answer) (next (lastly (freshMemory m) cs) (save d))
-  pub counts : (cs : List Call) (h : ℕ) → h < count (lastly (freshMemory m) cs) → edit (lastly (freshMemory m) cs) h ≡ savesOf h (reverse (transcript (freshMemory m) cs))
+  pub counts : (cs : List Call) (h : ℕ) → h < hullCount (lastly (freshMemory m) cs) → edit (lastly (freshMemory m) cs) h ≡ savesOf h (reverse (transcript (freshMemory m) cs))
   pub serves : (cs : List Call) → GivesInOrder m (transcript (freshMemory m) cs) (lastly (freshMemory m) cs)

@@ -8,7 +8,7 @@ use lib.Dec.{eqb}
 use lib.ListN.{set}
 use Rattle.sheet.specs.Sheet.{fittingWord}
 use Rattle.register.specs.Refusals.{sheetOf}
-use Rattle.history.specs.Calls.{Work, put, takeOff, replace, tryPlate, newHull, openHull, work, save, drop, ask}
+use Rattle.history.specs.Calls.{Work, put, takeOff, replace, tryPlate, newHull, openHull, work, save, dropDraft, ask}
 use Rattle.history.specs.Runs.{Event, _⇒_, accepted}
 use Rattle.history.specs.History.{itsOpen, itsCall, itsEnd, elsewhere, role}
 
@@ -20,7 +20,7 @@ hullOf (newHull t ⇒ r) = 0
 hullOf (openHull d h ⇒ r) = h
 hullOf (work d w ⇒ r) = 0
 hullOf (save d ⇒ r) = 0
-hullOf (drop d ⇒ r) = 0
+hullOf (dropDraft d ⇒ r) = 0
 hullOf (ask h q ⇒ r) = 0
 
 -- how desk d's draft was opened: which hull, and what had happened by then; a desk that holds no draft has none
@@ -43,7 +43,7 @@ isSaveOf h (newHull t ⇒ r) past = false
 isSaveOf h (openHull d k ⇒ r) past = false
 isSaveOf h (work d w ⇒ r) past = false
 isSaveOf h (save d ⇒ r) past = accepted r && isOf h (opening d past)
-isSaveOf h (drop d ⇒ r) past = false
+isSaveOf h (dropDraft d ⇒ r) past = false
 isSaveOf h (ask k q ⇒ r) past = false
 
 -- the accepted saves of hull h, counted
@@ -73,7 +73,7 @@ did (newHull t ⇒ r) s = s
 did (openHull d h ⇒ r) s = s
 did (work d w ⇒ r) s = cond (accepted r) (worked w s) s
 did (save d ⇒ r) s = s
-did (drop d ⇒ r) s = s
+did (dropDraft d ⇒ r) s = s
 did (ask h q ⇒ r) s = s
 
 -- the sheet s after the work of a block, oldest first

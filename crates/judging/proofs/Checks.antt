@@ -7,7 +7,7 @@ use borrow.Author.Tests.{le-leb, lt-leb, lt-ltb, le-ltb, eq-eqb, ne-eqb}
 use native.Mathlib.Omega.{arith}
 use lib.ListN.{length, getD}
 use Rattle.sheet.specs.Sheet.{sheetWords, wordsOk}
-use Rattle.memory.specs.Layout.{mostHulls, desks, registerWords, hullAt, draftAt, part, count, edit, held, draftHull, opening}
+use Rattle.memory.specs.Layout.{mostHulls, desks, registerWords, hullAt, draftAt, part, hullCount, edit, held, draftHull, opening}
 use Rattle.memory.specs.Formed.{mostEdits, each, hullOk, draftOk, formed}
 
 -- ---- a hull
@@ -33,15 +33,15 @@ module _ (m : List ℕ) (d : ℕ) {at : ℕ} (q : at ≡ draftAt d) where
     unfolding draftOk
     draft-odd o = rw (ne-eqb (held m d) 0 (rw q at z), ne-eqb (held m d) 1 (rw q at o)) refl
 
-    module _ (o : getD m at 0 ≡ 1) {h n : ℕ} (e : h ≡ getD m (at + 1) 0) (f : n ≡ count m) where
+    module _ (o : getD m at 0 ≡ 1) {h n : ℕ} (e : h ≡ getD m (at + 1) 0) (f : n ≡ hullCount m) where
       pub draft-unentered : n ≤ h → false ≡ draftOk m d
       unfolding draftOk
       draft-unentered l =
-          let k : count m ≤ draftHull m d = rw (e, f, q) at l in
-          rw (ne-eqb (held m d) 0 (rw q at z), eq-eqb (held m d) 1 (rw q at o), le-ltb (draftHull m d) (count m) k) refl
+          let k : hullCount m ≤ draftHull m d = rw (e, f, q) at l in
+          rw (ne-eqb (held m d) 0 (rw q at z), eq-eqb (held m d) 1 (rw q at o), le-ltb (draftHull m d) (hullCount m) k) refl
 
       module _ (l : h < n) {hat : ℕ} (g : hat ≡ hullAt h) where
-        entered-hull : draftHull m d < count m
+        entered-hull : draftHull m d < hullCount m
         entered-hull = rw (e, f, q) at l
 
         edits-are : getD m hat 0 ≡ edit m (draftHull m d)
@@ -53,12 +53,12 @@ module _ (m : List ℕ) (d : ℕ) {at : ℕ} (q : at ≡ draftAt d) where
         pub draft-early : getD m hat 0 < getD m (at + 2) 0 → false ≡ draftOk m d
         unfolding draftOk
         draft-early k =
-            rw (ne-eqb (held m d) 0 (rw q at z), eq-eqb (held m d) 1 (rw q at o), lt-ltb (draftHull m d) (count m) entered-hull, lt-leb (opening m d) (edit m (draftHull m d)) (omega (arith, edits-are, opening-is))) refl
+            rw (ne-eqb (held m d) 0 (rw q at z), eq-eqb (held m d) 1 (rw q at o), lt-ltb (draftHull m d) (hullCount m) entered-hull, lt-leb (opening m d) (edit m (draftHull m d)) (omega (arith, edits-are, opening-is))) refl
 
         pub draft-judged : {t : Bool} → getD m (at + 2) 0 ≤ getD m hat 0 → t ≡ wordsOk (part m (at + 3) sheetWords) → t ≡ draftOk m d
         unfolding draftOk
         draft-judged k j =
-            rw (ne-eqb (held m d) 0 (rw q at z), eq-eqb (held m d) 1 (rw q at o), lt-ltb (draftHull m d) (count m) entered-hull, le-leb (opening m d) (edit m (draftHull m d)) (omega (arith, edits-are, opening-is)))
+            rw (ne-eqb (held m d) 0 (rw q at z), eq-eqb (held m d) 1 (rw q at o), lt-ltb (draftHull m d) (hullCount m) entered-hull, le-leb (opening m d) (edit m (draftHull m d)) (omega (arith, edits-are, opening-is)))
             (j ∙ ap (λ (x : ℕ). wordsOk (part m (x + 3) sheetWords)) q)
 
 -- ---- the whole
@@ -67,15 +67,15 @@ pub formed-size : (m : List ℕ) → (length m ≡ registerWords → ⊥) → fa
 unfolding formed
 formed-size m h = rw (ne-eqb (length m) registerWords h) refl
 
-module _ (m : List ℕ) (h : length m ≡ registerWords) {n : ℕ} (e : n ≡ count m) where
+module _ (m : List ℕ) (h : length m ≡ registerWords) {n : ℕ} (e : n ≡ hullCount m) where
   pub formed-many : mostHulls < n → false ≡ formed m
   unfolding formed
-  formed-many l = rw (eq-eqb (length m) registerWords h, lt-leb (count m) mostHulls (rw e at l)) refl
+  formed-many l = rw (eq-eqb (length m) registerWords h, lt-leb (hullCount m) mostHulls (rw e at l)) refl
 
   pub formed-hulls : n ≤ mostHulls → each n (hullOk m) ≡ false → false ≡ formed m
   unfolding formed
-  formed-hulls l f = rw (eq-eqb (length m) registerWords h, le-leb (count m) mostHulls (rw e at l), rw e at f) refl
+  formed-hulls l f = rw (eq-eqb (length m) registerWords h, le-leb (hullCount m) mostHulls (rw e at l), rw e at f) refl
 
   pub formed-judged : {t : Bool} → n ≤ mostHulls → each n (hullOk m) ≡ true → t ≡ each desks (draftOk m) → t ≡ formed m
   unfolding formed
-  formed-judged l f g = rw (eq-eqb (length m) registerWords h, le-leb (count m) mostHulls (rw e at l), rw e at f) g
+  formed-judged l f g = rw (eq-eqb (length m) registerWords h, le-leb (hullCount m) mostHulls (rw e at l), rw e at f) g

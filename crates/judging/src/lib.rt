@@ -3,7 +3,7 @@ ghost use mathlib.Core.Path.{_≡_};
 ghost use Prim.Native.Nat.{_+_, _≤_, _<_};
 ghost use lib.ListN.{length};
 ghost use Rattle.sheet.specs.Sheet.{sheetWords, wordsOk};
-ghost use Rattle.memory.specs.Layout.{mostHulls, desks, registerWords, part, count};
+ghost use Rattle.memory.specs.Layout.{mostHulls, desks, registerWords, part, hullCount};
 ghost use Rattle.memory.specs.Formed.{each, hullOk, draftOk, formed};
 use memory::DESKS;
 use memory::MOST_EDITS;
@@ -49,7 +49,7 @@ fn hulls_ok(mem: &[u32], hulls: usize) -> bool
 
 // Whether a desk is well formed: it holds no draft, or one of a hull that is there, of an edit number not above the hull's, with a sheet within limits.
 fn draft_ok(mem: &[u32], desk: usize) -> bool
-    requires { ⌜ (length (now mem) ≡ registerWords) × (count (now mem) ≤ mostHulls) × (desk < desks) ⌝ }
+    requires { ⌜ (length (now mem) ≡ registerWords) × (hullCount (now mem) ≤ mostHulls) × (desk < desks) ⌝ }
     ensures { λ r. ⌜ r ≡ draftOk (now (mem .entry)) desk ⌝ }
 {
     let at = keeping::draft_at(desk);
@@ -72,7 +72,7 @@ fn draft_ok(mem: &[u32], desk: usize) -> bool
 
 // The same of every desk.
 fn drafts_ok(mem: &[u32]) -> bool
-    requires { ⌜ (length (now mem) ≡ registerWords) × (count (now mem) ≤ mostHulls) ⌝ }
+    requires { ⌜ (length (now mem) ≡ registerWords) × (hullCount (now mem) ≤ mostHulls) ⌝ }
     ensures { λ r. ⌜ r ≡ each desks (draftOk (now (mem .entry))) ⌝ }
 {
     let mut desk = 0;

@@ -10,7 +10,7 @@ use lib.Seq.{sets, take-all}
 use Rattle.text.proofs.Stores.{putBack, part-sets, rest-part, sets-whole, sets-start}
 use Rattle.sheet.specs.Sheet.{sheetWords}
 use Rattle.sheet.specs.Calls.{putFirst}
-use Rattle.memory.specs.Layout.{hullAt, draftAt, part, count, edit, hullSheet, draftHull, draftSheet}
+use Rattle.memory.specs.Layout.{hullAt, draftAt, part, hullCount, edit, hullSheet, draftHull, draftSheet}
 use Rattle.memory.specs.Updates.{entered, opened, dropped, saved}
 use Rattle.memory.proofs.Parts.{Outside, word-outside, set-before, part-length, part-word, write-more}
 
@@ -57,9 +57,9 @@ sheet-laid m s ys at h e =
 
 -- ---- the changes that write more than a word
 
-pub entered-as : (m s : List ℕ) {at : ℕ} {o : List ℕ} → at ≡ hullAt (count m) → o ≡ sets (set m at 0) (at + 1) s → set o 0 (count m + 1) ≡ entered m s
+pub entered-as : (m s : List ℕ) {at : ℕ} {o : List ℕ} → at ≡ hullAt (hullCount m) → o ≡ sets (set m at 0) (at + 1) s → set o 0 (hullCount m + 1) ≡ entered m s
 unfolding entered
-entered-as m s {at} q e = rw (e, q, add-one (hullAt (count m))) refl
+entered-as m s {at} q e = rw (e, q, add-one (hullAt (hullCount m))) refl
 
 pub opened-as : (m : List ℕ) (d h : ℕ) {at from : ℕ} {o : List ℕ} → at ≡ draftAt d → from ≡ hullAt h → o ≡ sets m (at + 3) (part m (from + 1) sheetWords)
     → set (set (set o at 1) (at + 1) h) (at + 2) (getD m from 0) ≡ opened m d h

@@ -5,7 +5,7 @@ ghost use Prim.Native.Nat.{_+_, _≤_, _<_};
 ghost use lib.ListN.{length, getD, replicate};
 ghost use lib.Seq.{sets};
 ghost use Rattle.sheet.specs.Sheet.{sheetWords};
-ghost use Rattle.memory.specs.Layout.{mostHulls, desks, registerWords, hullAt, draftAt, part, count, edit, draftHull, fittingAt};
+ghost use Rattle.memory.specs.Layout.{mostHulls, desks, registerWords, hullAt, draftAt, part, hullCount, edit, draftHull, fittingAt};
 ghost use Rattle.memory.specs.Formed.{mostEdits};
 ghost use Rattle.memory.specs.Updates.{entered, opened, fitted, replaced, dropped, saved};
 use memory::DRAFT_WORDS;
@@ -102,8 +102,8 @@ fn lay_sheet(mem: &mut [u32], at: usize, sheet: &[u32])
 
 // Enters a new hull, with edit number 0, and answers its number.
 pub fn enter_hull(mem: &mut [u32], sheet: &[u32]) -> u32
-    requires { ⌜ (length (now mem) ≡ registerWords) × (count (now mem) < mostHulls) × (length (now sheet) ≡ sheetWords) ⌝ }
-    ensures { λ r. ⌜ (r ≡ count (now (mem .entry))) × (now (mem .exit) ≡ entered (now (mem .entry)) (now (sheet .entry))) ⌝ }
+    requires { ⌜ (length (now mem) ≡ registerWords) × (hullCount (now mem) < mostHulls) × (length (now sheet) ≡ sheetWords) ⌝ }
+    ensures { λ r. ⌜ (r ≡ hullCount (now (mem .entry))) × (now (mem .exit) ≡ entered (now (mem .entry)) (now (sheet .entry))) ⌝ }
 {
     let hull = mem[0];
     let at = hull_at(hull as usize);

@@ -7,7 +7,7 @@ use native.Mathlib.Omega.{arith}
 use lib.ListN.{length, getD, set, replicate, length-replicate}
 use lib.Seq.{sets, take-all, getD-set-same}
 use Rattle.sheet.specs.Sheet.{sheetWords}
-use Rattle.memory.specs.Layout.{mostHulls, desks, draftWords, registerWords, hullAt, draftAt, count, edit, hullSheet, held, draftHull, opening, draftSheet, fittingAt}
+use Rattle.memory.specs.Layout.{mostHulls, desks, draftWords, registerWords, hullAt, draftAt, hullCount, edit, hullSheet, held, draftHull, opening, draftSheet, fittingAt}
 use Rattle.memory.specs.Updates.{freshWords, entered, opened, fitted, replaced, dropped, saved}
 use Rattle.memory.proofs.Parts.{word-outside, word-inside, word-first, part-length, part-whole, part-inside, part-set}
 use Rattle.memory.proofs.Slots.{SameHull, SameDraft, OnlyIn, kept-hull, kept-draft, hull-count, hull-others, hull-drafts}
@@ -30,25 +30,25 @@ fresh-changes = record { size = length-replicate {A = ℕ} registerWords 0; word
 
 pub record EnteredChanges (m s : List ℕ) : Type 0 where
   pub size : length (entered m s) ≡ registerWords
-  pub counts : count (entered m s) ≡ count m + 1
-  pub number : edit (entered m s) (count m) ≡ 0
-  pub sheet : hullSheet (entered m s) (count m) ≡ s
-  pub others : (i : ℕ) → i < mostHulls → (i ≡ count m → ⊥) → SameHull (entered m s) m i
+  pub counts : hullCount (entered m s) ≡ hullCount m + 1
+  pub number : edit (entered m s) (hullCount m) ≡ 0
+  pub sheet : hullSheet (entered m s) (hullCount m) ≡ s
+  pub others : (i : ℕ) → i < mostHulls → (i ≡ hullCount m → ⊥) → SameHull (entered m s) m i
   pub drafts : (d : ℕ) → d < desks → SameDraft (entered m s) m d
 
-pub entered-changes : (m s : List ℕ) → length m ≡ registerWords → count m < mostHulls → length s ≡ sheetWords → EnteredChanges m s
+pub entered-changes : (m s : List ℕ) → length m ≡ registerWords → hullCount m < mostHulls → length s ≡ sheetWords → EnteredChanges m s
 unfolding entered
 entered-changes m s h l e =
-    let o : List ℕ = sets m (hullAt (count m)) (0 ∷ s) in
-    let a : Laid m (count m) 0 s = hull-laid m (count m) 0 s h l e in
-    let w : OnlyIn (sets o 0 ((count m + 1) ∷ [])) o 0 1 = only-in o 0 1 0 ((count m + 1) ∷ []) (a .only .same-size) (omega arith) (omega arith) in
-    let new = kept-hull w (count m) l (inr (omega arith)) in
+    let o : List ℕ = sets m (hullAt (hullCount m)) (0 ∷ s) in
+    let a : Laid m (hullCount m) 0 s = hull-laid m (hullCount m) 0 s h l e in
+    let w : OnlyIn (sets o 0 ((hullCount m + 1) ∷ [])) o 0 1 = only-in o 0 1 0 ((hullCount m + 1) ∷ []) (a .only .same-size) (omega arith) (omega arith) in
+    let new = kept-hull w (hullCount m) l (inr (omega arith)) in
     record {
       size = w .same-size;
-      counts = getD-set-same o 0 (count m + 1) 0 (omega (arith, a .only .same-size));
+      counts = getD-set-same o 0 (hullCount m + 1) 0 (omega (arith, a .only .same-size));
       number = new .number ∙ a .number;
       sheet = new .sheet ∙ a .sheet;
-      others = λ (i : ℕ) (k : i < mostHulls) (n : i ≡ count m → ⊥). hull-twice (kept-hull w i k (inr (omega arith))) (hull-others l (a .only) i k n);
+      others = λ (i : ℕ) (k : i < mostHulls) (n : i ≡ hullCount m → ⊥). hull-twice (kept-hull w i k (inr (omega arith))) (hull-others l (a .only) i k n);
       drafts = λ (d : ℕ) (k : d < desks). draft-twice (kept-draft w d k (inr (omega arith))) (hull-drafts l (a .only) d k);
     }
 
@@ -122,7 +122,7 @@ dropped-changes m d h l = record { rest = but-desk m d (draftAt d) (0 ∷ []) h 
 
 pub record SavedChanges (m : List ℕ) (d : ℕ) : Type 0 where
   pub size : length (saved m d) ≡ registerWords
-  pub counts : count (saved m d) ≡ count m
+  pub counts : hullCount (saved m d) ≡ hullCount m
   pub number : edit (saved m d) (draftHull m d) ≡ edit m (draftHull m d) + 1
   pub sheet : hullSheet (saved m d) (draftHull m d) ≡ draftSheet m d
   pub others : (i : ℕ) → i < mostHulls → (i ≡ draftHull m d → ⊥) → SameHull (saved m d) m i

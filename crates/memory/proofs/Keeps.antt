@@ -6,7 +6,7 @@ use mathlib.Core.List.{List}
 use Prim.Native.Nat.{ℕ, _≤_, _<_}
 use native.Mathlib.Omega.{arith}
 use Rattle.sheet.specs.Sheet.{wordsOk}
-use Rattle.memory.specs.Layout.{mostHulls, desks, draftAt, count, edit, held, draftHull, draftSheet}
+use Rattle.memory.specs.Layout.{mostHulls, desks, draftAt, hullCount, edit, held, draftHull, draftSheet}
 use Rattle.memory.specs.Formed.{mostEdits, formed}
 use Rattle.memory.specs.Updates.{freshWords, entered, opened, fitted, replaced, dropped, saved}
 use Rattle.memory.proofs.Sound.{Draft, sound, sound-formed, held-draft}
@@ -24,11 +24,11 @@ fresh-formed =
     (record {
       size = fresh-changes .size;
       few = omega (arith, zeros 0);
-      hulls = λ (i : ℕ) (l : i < count freshWords). absurd (omega (arith, zeros 0));
+      hulls = λ (i : ℕ) (l : i < hullCount freshWords). absurd (omega (arith, zeros 0));
       drafts = λ (d : ℕ) (l : d < desks). inl (zeros (draftAt d));
     })
 
-pub entered-formed : (m s : List ℕ) → formed m ≡ true → count m < mostHulls → wordsOk s ≡ true → formed (entered m s) ≡ true
+pub entered-formed : (m s : List ℕ) → formed m ≡ true → hullCount m < mostHulls → wordsOk s ≡ true → formed (entered m s) ≡ true
 entered-formed m s f l w =
     let a = sound m f in
     let c = entered-changes m s (a .size) l (words-length s w) in
@@ -36,9 +36,9 @@ entered-formed m s f l w =
     (record {
       size = c .size;
       few = omega (arith, c .counts);
-      hulls = λ (i : ℕ) (k : i < count (entered m s)). elim (same-or-not i (count m)) [
+      hulls = λ (i : ℕ) (k : i < hullCount (entered m s)). elim (same-or-not i (hullCount m)) [
         | inl q ↦ rw q (record { number = omega (arith, c .number); sheet = rw (c .sheet) w })
-        | inr n ↦ let j : i < count m = omega (arith, c .counts) in same-hull (c .others i (omega arith) n) (a .hulls i j)
+        | inr n ↦ let j : i < hullCount m = omega (arith, c .counts) in same-hull (c .others i (omega arith) n) (a .hulls i j)
       ];
       drafts = λ (d : ℕ) (k : d < desks). same-draft (c .drafts d k) (omega (arith, c .counts))
           (λ (h : Draft m d). omega (arith, c .others (draftHull m d) (omega (arith, h .entered)) (λ q. omega (arith, h .entered)) .number)) (a .drafts d k);
@@ -53,14 +53,14 @@ desk-formed m o d f c own =
     (record {
       size = c .size;
       few = omega (arith, c .counts, a .few);
-      hulls = λ (i : ℕ) (l : i < count o). let j : i < count m = omega (arith, c .counts) in same-hull (c .hulls i (omega (arith, a .few))) (a .hulls i j);
+      hulls = λ (i : ℕ) (l : i < hullCount o). let j : i < hullCount m = omega (arith, c .counts) in same-hull (c .hulls i (omega (arith, a .few))) (a .hulls i j);
       drafts = λ (e : ℕ) (l : e < desks). elim (same-or-not e d) [
         | inl q ↦ rw q own
         | inr n ↦ same-draft (c .others e l n) (omega (arith, c .counts)) (λ (h : Draft m e). omega (arith, c .hulls (draftHull m e) (omega (arith, a .few, h .entered)) .number)) (a .drafts e l)
       ];
     })
 
-pub opened-formed : (m : List ℕ) (d h : ℕ) → formed m ≡ true → d < desks → h < count m → formed (opened m d h) ≡ true
+pub opened-formed : (m : List ℕ) (d h : ℕ) → formed m ≡ true → d < desks → h < hullCount m → formed (opened m d h) ≡ true
 opened-formed m d h f l k =
     let a = sound m f in
     let j : h < mostHulls = omega (arith, a .few) in
@@ -113,7 +113,7 @@ saved-formed m d f l n b =
     (record {
       size = c .size;
       few = omega (arith, c .counts, a .few);
-      hulls = λ (i : ℕ) (k : i < count (saved m d)). let j : i < count m = omega (arith, c .counts) in elim (same-or-not i g) [
+      hulls = λ (i : ℕ) (k : i < hullCount (saved m d)). let j : i < hullCount m = omega (arith, c .counts) in elim (same-or-not i g) [
         | inl q ↦ rw q (record { number = omega (arith, c .number); sheet = rw (c .sheet) (h .sheet) })
         | inr o ↦ same-hull (c .others i (omega (arith, a .few)) o) (a .hulls i j)
       ];

@@ -7,7 +7,7 @@ use native.Mathlib.Omega.{arith}
 use lib.ListN.{length, getD}
 use lib.Seq.{sets, take-all, length-sets}
 use Rattle.sheet.specs.Sheet.{sheetWords}
-use Rattle.memory.specs.Layout.{mostHulls, desks, hullWords, draftWords, registerWords, hullAt, draftAt, count, edit, hullSheet}
+use Rattle.memory.specs.Layout.{mostHulls, desks, hullWords, draftWords, registerWords, hullAt, draftAt, hullCount, edit, hullSheet}
 use Rattle.memory.proofs.Parts.{Outside, word-outside, word-first, part-inside}
 use Rattle.memory.proofs.Slots.{SameHull, SameDraft, OnlyIn, draft-count, draft-hulls, draft-others}
 
@@ -45,7 +45,7 @@ hull-laid m h n s k l e =
 
 pub record ButDesk (o m : List ℕ) (d : ℕ) : Type 0 where
   pub size : length o ≡ registerWords
-  pub counts : count o ≡ count m
+  pub counts : hullCount o ≡ hullCount m
   pub hulls : (i : ℕ) → i < mostHulls → SameHull o m i
   pub others : (e : ℕ) → e < desks → (e ≡ d → ⊥) → SameDraft o m e
 

@@ -7,7 +7,7 @@ use Prim.Native.Nat.{ℕ, _≤_}
 use native.Mathlib.Nat.{le-trans}
 use borrow.Author.Tests.{eqb-true, eqb-false}
 use lib.Dec.{eqb}
-use Rattle.memory.specs.Layout.{count, edit, held, draftHull}
+use Rattle.memory.specs.Layout.{hullCount, edit, held, draftHull}
 use Rattle.memory.proofs.Slots.{SameHull, SameDraft}
 use Rattle.memory.proofs.Sound.{Hull, Draft}
 
@@ -21,7 +21,7 @@ same-or-not a b = go (eqb a b) refl
 pub same-hull : {o m : List ℕ} {i : ℕ} → SameHull o m i → Hull m i → Hull o i
 same-hull s h = record { number = rw (s .number) (h .number); sheet = rw (s .sheet) (h .sheet) }
 
-pub same-draft : {o m : List ℕ} {d : ℕ} → SameDraft o m d → count m ≤ count o → (Draft m d → edit m (draftHull m d) ≤ edit o (draftHull m d))
+pub same-draft : {o m : List ℕ} {d : ℕ} → SameDraft o m d → hullCount m ≤ hullCount o → (Draft m d → edit m (draftHull m d) ≤ edit o (draftHull m d))
     → (held m d ≡ 0) ⊎ Draft m d → (held o d ≡ 0) ⊎ Draft o d
 same-draft s c n (inl z) = inl (s .holds ∙ z)
 same-draft s c n (inr h) =

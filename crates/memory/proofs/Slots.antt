@@ -9,7 +9,7 @@ use borrow.Author.Tests.{ltb-true, ltb-false}
 use lib.Dec.{ltb}
 use lib.ListN.{length, getD}
 use Rattle.sheet.specs.Sheet.{sheetWords}
-use Rattle.memory.specs.Layout.{mostHulls, desks, hullWords, draftWords, registerWords, hullAt, draftAt, count, edit, hullSheet, held, draftHull, opening, draftSheet}
+use Rattle.memory.specs.Layout.{mostHulls, desks, hullWords, draftWords, registerWords, hullAt, draftAt, hullCount, edit, hullSheet, held, draftHull, opening, draftSheet}
 use Rattle.memory.proofs.Parts.{Outside, part-same}
 
 -- hull i, and desk d, are in o as they were in m
@@ -32,7 +32,7 @@ pub record OnlyIn (o m : List ℕ) (at n : ℕ) : Type 0 where
 -- ---- slots that lie outside
 
 module _ {o m : List ℕ} {at n : ℕ} (w : OnlyIn o m at n) where
-  pub kept-count : 1 ≤ at → count o ≡ count m
+  pub kept-count : 1 ≤ at → hullCount o ≡ hullCount m
   kept-count l = w .outside 0 (inl (omega arith))
 
   pub kept-hull : (i : ℕ) → i < mostHulls → (hullAt i + hullWords ≤ at) ⊎ (at + n ≤ hullAt i) → SameHull o m i
@@ -73,7 +73,7 @@ apart i h n = go (ltb i h) refl
 -- ---- a write to hull h's slot
 
 module _ {o m : List ℕ} {h : ℕ} (l : h < mostHulls) (w : OnlyIn o m (hullAt h) hullWords) where
-  pub hull-count : count o ≡ count m
+  pub hull-count : hullCount o ≡ hullCount m
   hull-count = kept-count w (omega arith)
 
   pub hull-others : (i : ℕ) → i < mostHulls → (i ≡ h → ⊥) → SameHull o m i
@@ -85,7 +85,7 @@ module _ {o m : List ℕ} {h : ℕ} (l : h < mostHulls) (w : OnlyIn o m (hullAt 
 -- ---- a write to desk d's slot
 
 module _ {o m : List ℕ} {d : ℕ} (l : d < desks) (w : OnlyIn o m (draftAt d) draftWords) where
-  pub draft-count : count o ≡ count m
+  pub draft-count : hullCount o ≡ hullCount m
   draft-count = kept-count w (omega arith)
 
   pub draft-hulls : (i : ℕ) → i < mostHulls → SameHull o m i

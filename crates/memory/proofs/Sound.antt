@@ -9,7 +9,7 @@ use lib.Dec.{eqb, leb, ltb}
 use lib.ListN.{length}
 use Rattle.text.proofs.Number.{both-hold}
 use Rattle.sheet.specs.Sheet.{wordsOk}
-use Rattle.memory.specs.Layout.{mostHulls, desks, registerWords, count, edit, hullSheet, held, draftHull, opening, draftSheet}
+use Rattle.memory.specs.Layout.{mostHulls, desks, registerWords, hullCount, edit, hullSheet, held, draftHull, opening, draftSheet}
 use Rattle.memory.specs.Formed.{mostEdits, each, hullOk, draftOk, formed}
 use Rattle.memory.proofs.Each.{each-at, each-every}
 
@@ -21,14 +21,14 @@ pub record Hull (m : List ℕ) (i : ℕ) : Type 0 where
 -- desk d holds a draft that is as it should be
 pub record Draft (m : List ℕ) (d : ℕ) : Type 0 where
   pub holds : held m d ≡ 1
-  pub entered : draftHull m d < count m
+  pub entered : draftHull m d < hullCount m
   pub opened : opening m d ≤ edit m (draftHull m d)
   pub sheet : wordsOk (draftSheet m d) ≡ true
 
 pub record Sound (m : List ℕ) : Type 0 where
   pub size : length m ≡ registerWords
-  pub few : count m ≤ mostHulls
-  pub hulls : (i : ℕ) → i < count m → Hull m i
+  pub few : hullCount m ≤ mostHulls
+  pub hulls : (i : ℕ) → i < hullCount m → Hull m i
   pub drafts : (d : ℕ) → d < desks → (held m d ≡ 0) ⊎ Draft m d
 
 -- ---- what a test that holds says of its slot
@@ -44,7 +44,7 @@ unfolding draftOk
 draft-sound m d e = go (eqb (held m d) 0) refl
   where
     known : Bool
-    known = ltb (draftHull m d) (count m)
+    known = ltb (draftHull m d) (hullCount m)
 
     ordered : Bool
     ordered = leb (opening m d) (edit m (draftHull m d))
@@ -58,7 +58,7 @@ draft-sound m d e = go (eqb (held m d) 0) refl
         let r = both-hold ordered (wordsOk (draftSheet m d)) (q .1) in
         inr (record {
           holds = eqb-true (held m d) 1 (p .0);
-          entered = ltb-true (draftHull m d) (count m) (q .0);
+          entered = ltb-true (draftHull m d) (hullCount m) (q .0);
           opened = leb-true (opening m d) (edit m (draftHull m d)) (r .0);
           sheet = r .1;
         })
@@ -66,15 +66,15 @@ draft-sound m d e = go (eqb (held m d) 0) refl
 pub sound : (m : List ℕ) → formed m ≡ true → Sound m
 unfolding formed
 sound m e =
-    let hulls : Bool = each (count m) (hullOk m) in
+    let hulls : Bool = each (hullCount m) (hullOk m) in
     let drafts : Bool = each desks (draftOk m) in
-    let p = both-hold (eqb (length m) registerWords) (leb (count m) mostHulls && (hulls && drafts)) e in
-    let q = both-hold (leb (count m) mostHulls) (hulls && drafts) (p .1) in
+    let p = both-hold (eqb (length m) registerWords) (leb (hullCount m) mostHulls && (hulls && drafts)) e in
+    let q = both-hold (leb (hullCount m) mostHulls) (hulls && drafts) (p .1) in
     let r = both-hold hulls drafts (q .1) in
     record {
       size = eqb-true (length m) registerWords (p .0);
-      few = leb-true (count m) mostHulls (q .0);
-      hulls = λ (i : ℕ) (l : i < count m). hull-sound m i (each-at (hullOk m) (count m) i l (r .0));
+      few = leb-true (hullCount m) mostHulls (q .0);
+      hulls = λ (i : ℕ) (l : i < hullCount m). hull-sound m i (each-at (hullOk m) (hullCount m) i l (r .0));
       drafts = λ (d : ℕ) (l : d < desks). draft-sound m d (each-at (draftOk m) desks d l (r .1));
     }
 
@@ -88,14 +88,14 @@ draft-holds : (m : List ℕ) (d : ℕ) → (held m d ≡ 0) ⊎ Draft m d → dr
 unfolding draftOk
 draft-holds m d (inl z) = rw (eq-eqb (held m d) 0 z) refl
 draft-holds m d (inr h) =
-    rw (h .holds, lt-ltb (draftHull m d) (count m) (h .entered), le-leb (opening m d) (edit m (draftHull m d)) (h .opened), h .sheet) refl
+    rw (h .holds, lt-ltb (draftHull m d) (hullCount m) (h .entered), le-leb (opening m d) (edit m (draftHull m d)) (h .opened), h .sheet) refl
 
 pub sound-formed : (m : List ℕ) → Sound m → formed m ≡ true
 unfolding formed
 sound-formed m s =
-    let hulls : each (count m) (hullOk m) ≡ true = each-every (hullOk m) (count m) (λ (i : ℕ) (l : i < count m). hull-holds m i (s .hulls i l)) in
+    let hulls : each (hullCount m) (hullOk m) ≡ true = each-every (hullOk m) (hullCount m) (λ (i : ℕ) (l : i < hullCount m). hull-holds m i (s .hulls i l)) in
     let drafts : each desks (draftOk m) ≡ true = each-every (draftOk m) desks (λ (d : ℕ) (l : d < desks). draft-holds m d (s .drafts d l)) in
-    rw (eq-eqb (length m) registerWords (s .size), le-leb (count m) mostHulls (s .few), hulls, drafts) refl
+    rw (eq-eqb (length m) registerWords (s .size), le-leb (hullCount m) mostHulls (s .few), hulls, drafts) refl
 
 -- a desk that is not free holds a draft that is as it should be
 pub held-draft : (m : List ℕ) (d : ℕ) → formed m ≡ true → d < desks → (held m d ≡ 0 → ⊥) → Draft m d

@@ -33,8 +33,8 @@ registerWords = draftAt desks
 abbrev pub part : List ℕ → ℕ → ℕ → List ℕ
 part m at n = take n (drop at m)
 
-abbrev pub count : List ℕ → ℕ
-count m = getD m 0 0
+abbrev pub hullCount : List ℕ → ℕ
+hullCount m = getD m 0 0
 
 abbrev pub edit : List ℕ → ℕ → ℕ
 edit m i = getD m (hullAt i) 0

@@ -4,7 +4,7 @@ use Prim.Native.Nat.{ℕ, _+_}
 use mathlib.Core.List.{List, _∷_}
 use lib.ListN.{set, replicate}
 use lib.Seq.{sets}
-use Rattle.memory.specs.Layout.{registerWords, hullAt, draftAt, count, edit, hullSheet, draftHull, draftSheet, fittingAt}
+use Rattle.memory.specs.Layout.{registerWords, hullAt, draftAt, hullCount, edit, hullSheet, draftHull, draftSheet, fittingAt}
 
 -- fresh start: no hull, no draft, and every word 0
 unfoldable pub freshWords : List ℕ
@@ -12,7 +12,7 @@ freshWords = replicate registerWords 0
 
 -- a new hull: the sheet given, at edit number 0, counted
 unfoldable pub entered : List ℕ → List ℕ → List ℕ
-entered m s = set (sets m (hullAt (count m)) (0 ∷ s)) 0 (count m + 1)
+entered m s = set (sets m (hullAt (hullCount m)) (0 ∷ s)) 0 (hullCount m + 1)
 
 -- open: the draft is a copy of the hull as it stands; a draft that the desk held is discarded
 unfoldable pub opened : List ℕ → ℕ → ℕ → List ℕ

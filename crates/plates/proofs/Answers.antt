@@ -5,20 +5,20 @@ use mathlib.Core.List.{List}
 use Prim.Native.Nat.{ℕ}
 use lib.Dec.{eqb}
 use Rattle.sheet.specs.declared.Answer.the-variants.{Refused, Plate}
-use Rattle.plates.specs.Whole.{whole}
+use Rattle.plates.specs.Whole.{orZero}
 use Rattle.plates.specs.PlateC.{markedC, rowsRight, noRow, liveLoad, persons, untested, plateC}
 use Rattle.plates.specs.PlateA.{markedA, powerA, noPower, plateA}
 use Rattle.plates.proofs.Whole.{below-one}
 
-pub a-unloaded : (s : List ℕ) → eqb (whole (markedA s)) 0 ≡ true → Refused 12 ≡ plateA s
+pub a-unloaded : (s : List ℕ) → eqb (orZero (markedA s)) 0 ≡ true → Refused 12 ≡ plateA s
 unfolding plateA
 a-unloaded s e = rw (below-one (markedA s) ∙ e) refl
 
-pub a-unpowered : (s : List ℕ) → eqb (whole (markedA s)) 0 ≡ false → noPower s ≡ true → Refused 13 ≡ plateA s
+pub a-unpowered : (s : List ℕ) → eqb (orZero (markedA s)) 0 ≡ false → noPower s ≡ true → Refused 13 ≡ plateA s
 unfolding plateA
 a-unpowered s e f = rw (below-one (markedA s) ∙ e, f) refl
 
-pub a-marks : (s : List ℕ) {load watts : ℕ} → eqb (whole (markedA s)) 0 ≡ false → noPower s ≡ false → load ≡ whole (markedA s) → watts ≡ powerA s → Plate load watts ≡ plateA s
+pub a-marks : (s : List ℕ) {load watts : ℕ} → eqb (orZero (markedA s)) 0 ≡ false → noPower s ≡ false → load ≡ orZero (markedA s) → watts ≡ powerA s → Plate load watts ≡ plateA s
 unfolding plateA
 a-marks s e f g h = rw (below-one (markedA s) ∙ e, f, g, h) refl
 
@@ -28,22 +28,22 @@ pub c-rows : (s ps ws : List ℕ) → rowsRight ps ws ≡ false → Refused 10 �
 unfolding plateC
 c-rows s ps ws r = rw r refl
 
-pub c-unloaded : (s ps ws : List ℕ) → rowsRight ps ws ≡ true → eqb (whole (markedC s)) 0 ≡ true → Refused 12 ≡ plateC s ps ws
+pub c-unloaded : (s ps ws : List ℕ) → rowsRight ps ws ≡ true → eqb (orZero (markedC s)) 0 ≡ true → Refused 12 ≡ plateC s ps ws
 unfolding plateC
 c-unloaded s ps ws r e = rw (r, below-one (markedC s) ∙ e) refl
 
-pub c-unreached : (s ps ws : List ℕ) → rowsRight ps ws ≡ true → eqb (whole (markedC s)) 0 ≡ false → noRow s ps ≡ true → Refused 11 ≡ plateC s ps ws
+pub c-unreached : (s ps ws : List ℕ) → rowsRight ps ws ≡ true → eqb (orZero (markedC s)) 0 ≡ false → noRow s ps ≡ true → Refused 11 ≡ plateC s ps ws
 unfolding plateC
 c-unreached s ps ws r e f = rw (r, below-one (markedC s) ∙ e, f) refl
 
-pub c-untested : (s ps ws : List ℕ) → rowsRight ps ws ≡ true → eqb (whole (markedC s)) 0 ≡ false → noRow s ps ≡ false → untested s (liveLoad s ps ws) ≡ true → Refused 14 ≡ plateC s ps ws
+pub c-untested : (s ps ws : List ℕ) → rowsRight ps ws ≡ true → eqb (orZero (markedC s)) 0 ≡ false → noRow s ps ≡ false → untested s (liveLoad s ps ws) ≡ true → Refused 14 ≡ plateC s ps ws
 unfolding plateC
 c-untested s ps ws r e f g = rw (r, below-one (markedC s) ∙ e, f, g) refl
 
-pub c-empty : (s ps ws : List ℕ) → rowsRight ps ws ≡ true → eqb (whole (markedC s)) 0 ≡ false → noRow s ps ≡ false → untested s (liveLoad s ps ws) ≡ false → eqb (whole (persons s (liveLoad s ps ws))) 0 ≡ true → Refused 15 ≡ plateC s ps ws
+pub c-empty : (s ps ws : List ℕ) → rowsRight ps ws ≡ true → eqb (orZero (markedC s)) 0 ≡ false → noRow s ps ≡ false → untested s (liveLoad s ps ws) ≡ false → eqb (orZero (persons s (liveLoad s ps ws))) 0 ≡ true → Refused 15 ≡ plateC s ps ws
 unfolding plateC
 c-empty s ps ws r e f g h = rw (r, below-one (markedC s) ∙ e, f, g, below-one (persons s (liveLoad s ps ws)) ∙ h) refl
 
-pub c-marks : (s ps ws : List ℕ) {load count : ℕ} → rowsRight ps ws ≡ true → eqb (whole (markedC s)) 0 ≡ false → noRow s ps ≡ false → untested s (liveLoad s ps ws) ≡ false → eqb (whole (persons s (liveLoad s ps ws))) 0 ≡ false → load ≡ whole (markedC s) → count ≡ whole (persons s (liveLoad s ps ws)) → Plate load count ≡ plateC s ps ws
+pub c-marks : (s ps ws : List ℕ) {load count : ℕ} → rowsRight ps ws ≡ true → eqb (orZero (markedC s)) 0 ≡ false → noRow s ps ≡ false → untested s (liveLoad s ps ws) ≡ false → eqb (orZero (persons s (liveLoad s ps ws))) 0 ≡ false → load ≡ orZero (markedC s) → count ≡ orZero (persons s (liveLoad s ps ws)) → Plate load count ≡ plateC s ps ws
 unfolding plateC
 c-marks s ps ws r e f g h k l = rw (r, below-one (markedC s) ∙ e, f, g, below-one (persons s (liveLoad s ps ws)) ∙ h, k, l) refl

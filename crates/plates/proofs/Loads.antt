@@ -9,10 +9,10 @@ use lib.Dec.{eqb, ltb}
 use borrow.Author.Tests.{lt-ltb, le-ltb, ltb-true, ltb-false}
 use lib.IntN.{pos, subℕ, _+ℤ_, _-ℤ_, _*ℤ_}
 use lib.ListN.{length, getD}
-use Rattle.plates.specs.Whole.{floorDiv, whole}
+use Rattle.plates.specs.Whole.{floorDiv, orZero}
 use Rattle.plates.specs.Words.{reference, station, aft, well, flooding, bare, fuel, machinery, outboard, declared, fittingsOf}
-use Rattle.plates.specs.Volume.{product, summed, volumeN, gram, netZ}
-use Rattle.plates.specs.Weights.{sum, boatM}
+use Rattle.plates.specs.Volume.{stationProduct, summed, volumeN, gram, netZ}
+use Rattle.plates.specs.Weights.{addedUp, boatM}
 use Rattle.plates.specs.PlateC.{exactX, markedC, lowPower, markedKilo}
 use Rattle.plates.specs.PlateA.{halfMarked, inboardX, loadX, markedA}
 use Rattle.plates.specs.Bounds.{Bounds, heaviest}
@@ -52,40 +52,40 @@ added a b c = is-sub (a + c) b (sum-of (of-sub a b) (of-pos c)) (omega arith)
 
 -- ---- the marked loads, by the case that the code finds
 
-pub marked-high : (s : List ℕ) {w : ℕ} → w ≡ boatM s + (fuel s + machinery s) → lowPower < declared s → whole (floorDiv (subℕ (gain s) (loss w s)) markedKilo) ≡ whole (markedC s)
+pub marked-high : (s : List ℕ) {w : ℕ} → w ≡ boatM s + (fuel s + machinery s) → lowPower < declared s → orZero (floorDiv (subℕ (gain s) (loss w s)) markedKilo) ≡ orZero (markedC s)
 unfolding markedC
 marked-high s {w} q h = rw (lt-ltb lowPower (declared s) h, exact-is s q) refl
 
-pub marked-low : (s : List ℕ) {w : ℕ} → w ≡ boatM s + (fuel s + machinery s) → declared s ≤ lowPower → whole (floorDiv (subℕ (3 * gain s) (3 * loss w s)) (2 * markedKilo)) ≡ whole (markedC s)
+pub marked-low : (s : List ℕ) {w : ℕ} → w ≡ boatM s + (fuel s + machinery s) → declared s ≤ lowPower → orZero (floorDiv (subℕ (3 * gain s) (3 * loss w s)) (2 * markedKilo)) ≡ orZero (markedC s)
 unfolding markedC
 marked-low s {w} q h = rw (le-ltb lowPower (declared s) h, exact-is s q, times-sub 3 (gain s) (loss w s)) refl
 
-pub marked-outboard : (s : List ℕ) {w : ℕ} → w ≡ boatM s + (fuel s + machinery s) → eqb (outboard s) 1 ≡ true → whole (floorDiv (subℕ (gain s + halfMarked) (loss w s)) markedKilo) ≡ whole (markedA s)
+pub marked-outboard : (s : List ℕ) {w : ℕ} → w ≡ boatM s + (fuel s + machinery s) → eqb (outboard s) 1 ≡ true → orZero (floorDiv (subℕ (gain s + halfMarked) (loss w s)) markedKilo) ≡ orZero (markedA s)
 unfolding markedA loadX
 marked-outboard s {w} q e = rw (e, exact-is s q, added (gain s) (loss w s) halfMarked) refl
 
-pub marked-inboard : (s : List ℕ) {w : ℕ} → w ≡ boatM s + 5 * (fuel s + machinery s) → eqb (outboard s) 1 ≡ false → whole (floorDiv (subℕ (gain s + halfMarked) (loss w s)) markedKilo) ≡ whole (markedA s)
+pub marked-inboard : (s : List ℕ) {w : ℕ} → w ≡ boatM s + 5 * (fuel s + machinery s) → eqb (outboard s) 1 ≡ false → orZero (floorDiv (subℕ (gain s + halfMarked) (loss w s)) markedKilo) ≡ orZero (markedA s)
 unfolding markedA loadX
 marked-inboard s {w} q e = rw (e, inboard-is s q, added (gain s) (loss w s) halfMarked) refl
 
 -- ---- the sums as the code works them
 
-pub boat-is : (s : List ℕ) → boatM s ≡ bare s + sum (fittingsOf s)
+pub boat-is : (s : List ℕ) → boatM s ≡ bare s + addedUp (fittingsOf s)
 unfolding boatM
 boat-is s = refl
 
-pub volume-is : (s : List ℕ) {q r t u : List ℕ} → q ≡ station s 0 → r ≡ station s 1 → t ≡ station s 2 → u ≡ station s 3 → summed (reference s) (product q) (product r) (product t) (product u) ≡ volumeN s
+pub volume-is : (s : List ℕ) {q r t u : List ℕ} → q ≡ station s 0 → r ≡ station s 1 → t ≡ station s 2 → u ≡ station s 3 → summed (reference s) (stationProduct q) (stationProduct r) (stationProduct t) (stationProduct u) ≡ volumeN s
 unfolding volumeN
 volume-is s a b c d = rw (a, b, c, d) refl
 
 -- ---- bounds
 
-sum-most-in : (ws : List ℕ) (n : ℕ) → length ws ≤ n → ((k : ℕ) → getD ws k 0 ≤ 500000) → sum ws ≤ 500000 * n
-unfolding sum
+sum-most-in : (ws : List ℕ) (n : ℕ) → length ws ≤ n → ((k : ℕ) → getD ws k 0 ≤ 500000) → addedUp ws ≤ 500000 * n
+unfolding addedUp
 sum-most-in [] n h f = omega arith
 sum-most-in (w ∷ ws) n h f =
     let a : w ≤ 500000 = f 0 in
-    let b : sum ws ≤ 500000 * length ws = sum-most-in ws (length ws) (omega arith) (λ (k : ℕ). f (suc k)) in
+    let b : addedUp ws ≤ 500000 * length ws = sum-most-in ws (length ws) (omega arith) (λ (k : ℕ). f (suc k)) in
     omega arith
 
 pub boat-most : (s : List ℕ) → Bounds s → boatM s ≤ 14000000
@@ -106,23 +106,23 @@ loss-most s b h = omega (arith, b .well-most, b .flooding-most)
 
 -- ---- a marked load fits 32 bits
 
-pub floor-most : (a b d : ℕ) → d * whole (floorDiv (subℕ a b) d) ≤ a
+pub floor-most : (a b d : ℕ) → d * orZero (floorDiv (subℕ a b) d) ≤ a
 floor-most a b d = go (ltb a b) refl
   where
-    go : (t : Bool) → ltb a b ≡ t → d * whole (floorDiv (subℕ a b) d) ≤ a
+    go : (t : Bool) → ltb a b ≡ t → d * orZero (floorDiv (subℕ a b) d) ≤ a
     go true e = rw e (omega arith)
     go false e = rw e (omega (arith, mul-div-le (a - b) d))
 
-pub marked-most : (s : List ℕ) → Bounds s → whole (markedA s) ≤ 20000
+pub marked-most : (s : List ℕ) → Bounds s → orZero (markedA s) ≤ 20000
 marked-most s b = go (eqb (outboard s) 1) refl
   where
-    go : (t : Bool) → eqb (outboard s) 1 ≡ t → whole (markedA s) ≤ 20000
+    go : (t : Bool) → eqb (outboard s) 1 ≡ t → orZero (markedA s) ≤ 20000
     go true e = omega (arith, marked-outboard s refl e, floor-most (gain s + halfMarked) (loss (boatM s + (fuel s + machinery s)) s) markedKilo, volume-most s b, b .aft-most)
     go false e = omega (arith, marked-inboard s refl e, floor-most (gain s + halfMarked) (loss (boatM s + 5 * (fuel s + machinery s)) s) markedKilo, volume-most s b, b .aft-most)
 
-pub c-most : (s : List ℕ) → Bounds s → whole (markedC s) ≤ 20000
+pub c-most : (s : List ℕ) → Bounds s → orZero (markedC s) ≤ 20000
 c-most s b = go (ltb lowPower (declared s)) refl
   where
-    go : (t : Bool) → ltb lowPower (declared s) ≡ t → whole (markedC s) ≤ 20000
+    go : (t : Bool) → ltb lowPower (declared s) ≡ t → orZero (markedC s) ≤ 20000
     go true e = omega (arith, marked-high s refl (ltb-true lowPower (declared s) e), floor-most (gain s) (loss (boatM s + (fuel s + machinery s)) s) markedKilo, volume-most s b, b .aft-most)
     go false e = omega (arith, marked-low s refl (ltb-false lowPower (declared s) e), floor-most (3 * gain s) (3 * loss (boatM s + (fuel s + machinery s)) s) (2 * markedKilo), volume-most s b, b .aft-most)

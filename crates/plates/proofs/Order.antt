@@ -6,7 +6,7 @@ use Prim.Native.Nat.{ℕ, suc, _+_, _≤_, min, max}
 use native.Mathlib.Omega.{arith}
 use borrow.Author.Tests.{leb-true, leb-false}
 use lib.IntN.{ℤ, pos, negsuc}
-use Rattle.plates.specs.Whole.{isAtMost, least, greatest, whole}
+use Rattle.plates.specs.Whole.{isAtMost, least, greatest, orZero}
 use Rattle.plates.proofs.Whole.{Differ, of-pos}
 
 -- y is not above z
@@ -113,22 +113,22 @@ greatest-right y z = go (isAtMost y z) refl
 
 -- ---- of what is not below zero
 
-whole-up : (y z : ℤ) → NotAbove y z → whole y ≤ whole z
+whole-up : (y z : ℤ) → NotAbove y z → orZero y ≤ orZero z
 whole-up (pos m) (pos n) h = h
 whole-up (pos m) (negsuc n) h = absurd h
 whole-up (negsuc m) (pos n) h = omega arith
 whole-up (negsuc m) (negsuc n) h = omega arith
 
-pub whole-least : (y z : ℤ) → whole (least y z) ≡ min (whole y) (whole z)
+pub whole-least : (y z : ℤ) → orZero (least y z) ≡ min (orZero y) (orZero z)
 whole-least y z = go (isAtMost y z) refl
   where
-    go : (t : Bool) → isAtMost y z ≡ t → whole (cond t y z) ≡ min (whole y) (whole z)
+    go : (t : Bool) → isAtMost y z ≡ t → orZero (cond t y z) ≡ min (orZero y) (orZero z)
     go true e = let h = whole-up y z (at-most y z e) in omega arith
     go false e = let h = whole-up z y (not-at-most y z e) in omega arith
 
-pub whole-greatest : (y z : ℤ) → whole (greatest y z) ≡ max (whole y) (whole z)
+pub whole-greatest : (y z : ℤ) → orZero (greatest y z) ≡ max (orZero y) (orZero z)
 whole-greatest y z = go (isAtMost y z) refl
   where
-    go : (t : Bool) → isAtMost y z ≡ t → whole (cond t z y) ≡ max (whole y) (whole z)
+    go : (t : Bool) → isAtMost y z ≡ t → orZero (cond t z y) ≡ max (orZero y) (orZero z)
     go true e = let h = whole-up y z (at-most y z e) in omega arith
     go false e = let h = whole-up z y (not-at-most y z e) in omega arith

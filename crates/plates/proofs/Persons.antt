@@ -8,7 +8,7 @@ use native.Mathlib.Omega.{arith}
 use borrow.Author.Tests.{lt-ltb, le-ltb}
 use lib.Dec.{eqb}
 use lib.IntN.{ℤ, pos, subℕ, _-ℤ_, _*ℤ_}
-use Rattle.plates.specs.Whole.{floorDiv, least, whole}
+use Rattle.plates.specs.Whole.{floorDiv, least, orZero}
 use Rattle.plates.specs.Words.{positions, tested}
 use Rattle.plates.specs.PlateC.{markedC, engineWeight, liveLoad, personGrams, testedGrams, persons, untested}
 use Rattle.plates.specs.Bounds.{Bounds}
@@ -17,10 +17,10 @@ use Rattle.plates.proofs.Order.{NotAbove, not-above-trans, least-left, 
 
 -- ---- in naturals
 
-pub live-is : (s ps ws : List ℕ) {load engine : ℕ} → (whole (markedC s) ≡ 0 → ⊥) → load ≡ whole (markedC s) → engine ≡ engineWeight s ps ws → subℕ (1000 * load) engine ≡ liveLoad s ps ws
+pub live-is : (s ps ws : List ℕ) {load engine : ℕ} → (orZero (markedC s) ≡ 0 → ⊥) → load ≡ orZero (markedC s) → engine ≡ engineWeight s ps ws → subℕ (1000 * load) engine ≡ liveLoad s ps ws
 unfolding liveLoad
 live-is s ps ws h e f =
-    let m = whole (markedC s) in
+    let m = orZero (markedC s) in
     let w = engineWeight s ps ws in
     rw (e, f) (sym (ap (λ (z : ℤ). pos 1000 *ℤ z -ℤ pos w) (whole-pos (markedC s) (omega arith)) ∙ is-sub (1000 * m) w (less-of (of-pos (1000 * m)) (of-pos w)) (omega arith)))
 
@@ -32,20 +32,20 @@ pub tested-unwanted : (s : List ℕ) (gross engine : ℕ) → engine + testedGra
 unfolding untested
 tested-unwanted s gross engine h = rw (below-sub gross engine testedGrams, le-ltb gross (engine + testedGrams) h) refl
 
-pub persons-untested : (s : List ℕ) (live : ℤ) {p q : ℕ} → eqb (tested s) 0 ≡ true → p ≡ positions s → q ≡ whole (floorDiv live personGrams) → min p q ≡ whole (persons s live)
+pub persons-untested : (s : List ℕ) (live : ℤ) {p q : ℕ} → eqb (tested s) 0 ≡ true → p ≡ positions s → q ≡ orZero (floorDiv live personGrams) → min p q ≡ orZero (persons s live)
 unfolding persons
 persons-untested s live e f g = rw (e, f, g) (sym (whole-least (pos (positions s)) (floorDiv live personGrams)))
 
-pub persons-tested : (s : List ℕ) (live : ℤ) {p q t : ℕ} → eqb (tested s) 0 ≡ false → p ≡ positions s → q ≡ whole (floorDiv live personGrams) → t ≡ tested s → min (min p q) t ≡ whole (persons s live)
+pub persons-tested : (s : List ℕ) (live : ℤ) {p q t : ℕ} → eqb (tested s) 0 ≡ false → p ≡ positions s → q ≡ orZero (floorDiv live personGrams) → t ≡ tested s → min (min p q) t ≡ orZero (persons s live)
 unfolding persons
 persons-tested s live e f g h =
     rw (e, f, g, h)
     (sym (whole-least (least (pos (positions s)) (floorDiv live personGrams)) (pos (tested s)) ∙ ap (λ (x : ℕ). min x (tested s)) (whole-least (pos (positions s)) (floorDiv live personGrams))))
 
-pub persons-most : (s : List ℕ) (live : ℤ) → Bounds s → whole (persons s live) ≤ 24
+pub persons-most : (s : List ℕ) (live : ℤ) → Bounds s → orZero (persons s live) ≤ 24
 persons-most s live b = go (eqb (tested s) 0) refl
   where
-    go : (t : Bool) → eqb (tested s) 0 ≡ t → whole (persons s live) ≤ 24
+    go : (t : Bool) → eqb (tested s) 0 ≡ t → orZero (persons s live) ≤ 24
     go true e = omega (arith, persons-untested s live e refl refl, b .positions-most)
     go false e = omega (arith, persons-tested s live e refl refl refl, b .positions-most)
 

@@ -9,7 +9,7 @@ use native.Mathlib.Omega.{arith}
 use lib.Dec.{eqb}
 use lib.IntN.{subℕ}
 use Rattle.sheet.specs.declared.Answer.the-variants.{Refused, Count}
-use Rattle.plates.specs.Whole.{floorDiv, whole}
+use Rattle.plates.specs.Whole.{floorDiv, orZero}
 use Rattle.plates.specs.Words.{machinery, outboard, declared}
 use Rattle.plates.specs.Volume.{gram}
 use Rattle.plates.specs.Weights.{boatM}
@@ -22,7 +22,7 @@ use Rattle.plates.proofs.Pounds.{u-high, u-low, u-inboard, by-hull}
 
 -- ---- a figure
 
-pub pounds-are : (s : List ℕ) (f : Figure) → whole (floorDiv (subℕ (f .times * finer * gain s) (f .times * finer * loss (f .lessGrams) s)) (divisorU f)) ≡ whole (pounds s f)
+pub pounds-are : (s : List ℕ) (f : Figure) → orZero (floorDiv (subℕ (f .times * finer * gain s) (f .times * finer * loss (f .lessGrams) s)) (divisorU f)) ≡ orZero (pounds s f)
 pounds-are s f = rw (net-less s (f .lessGrams), times-sub (f .times * finer) (gain s) (loss (f .lessGrams) s)) refl
 
 -- what the code multiplies stays within 64 bits
@@ -39,23 +39,23 @@ figured s k d b e l t p m =
 
 -- ---- the marked pounds
 
-pub marked-fifth : (s : List ℕ) {w : ℕ} → eqb (outboard s) 1 ≡ true → twoHorses < declared s → w ≡ boatB s → whole (pounds s (figure w 1 5)) ≡ whole (markedU s)
+pub marked-fifth : (s : List ℕ) {w : ℕ} → eqb (outboard s) 1 ≡ true → twoHorses < declared s → w ≡ boatB s → orZero (pounds s (figure w 1 5)) ≡ orZero (markedU s)
 unfolding markedU
 marked-fifth s e h q = rw (u-high s e h, q) refl
 
-pub marked-tenths : (s : List ℕ) {w : ℕ} → eqb (outboard s) 1 ≡ true → declared s ≤ twoHorses → w ≡ boatM s → whole (pounds s (figure w 3 10)) ≡ whole (markedU s)
+pub marked-tenths : (s : List ℕ) {w : ℕ} → eqb (outboard s) 1 ≡ true → declared s ≤ twoHorses → w ≡ boatM s → orZero (pounds s (figure w 3 10)) ≡ orZero (markedU s)
 unfolding markedU
 marked-tenths s e h q = rw (u-low s e h, q) refl
 
-pub marked-greater : (s : List ℕ) {v w : ℕ} → eqb (outboard s) 1 ≡ false → v ≡ boatB s + 4 * machinery s → w ≡ boatB s → max (whole (pounds s (figure v 1 5))) (whole (pounds s (figure w 1 7))) ≡ whole (markedU s)
+pub marked-greater : (s : List ℕ) {v w : ℕ} → eqb (outboard s) 1 ≡ false → v ≡ boatB s + 4 * machinery s → w ≡ boatB s → max (orZero (pounds s (figure v 1 5))) (orZero (pounds s (figure w 1 7))) ≡ orZero (markedU s)
 unfolding markedU
 marked-greater s e p q = rw (u-inboard s e, p, q) (sym (whole-greatest (pounds s (inboardFifth s)) (pounds s (inboardSeventh s))))
 
 -- ---- pounds fit 32 bits
 
-figure-most : (s : List ℕ) → Bounds s → (f : Figure) → f .times ≤ 3 → 5 ≤ f .outOf → whole (pounds s f) ≤ 80000
+figure-most : (s : List ℕ) → Bounds s → (f : Figure) → f .times ≤ 3 → 5 ≤ f .outOf → orZero (pounds s f) ≤ 80000
 figure-most s b f t p =
-    let q : ℕ = whole (pounds s f) in
+    let q : ℕ = orZero (pounds s f) in
     let least : 5 * q ≤ f .outOf * q = mul-le-mul {n₁ = 5} {n₂ = f .outOf} p (omega arith) in
     let fits : divisorU f * q ≤ f .times * finer * gain s = rw (sym (pounds-are s f)) (floor-most (f .times * finer * gain s) (f .times * finer * loss (f .lessGrams) s) (divisorU f)) in
     omega (arith, least, fits, regrouped (f .outOf) (gram * poundFine) q, gain-fine s b t)
@@ -63,20 +63,20 @@ figure-most s b f t p =
     regrouped : (a c d : ℕ) → a * c * d ≡ c * (a * d)
     regrouped a c d = rw (mul-comm a c, mul-assoc c a d) refl
 
-pub pounds-most : (s : List ℕ) → Bounds s → whole (markedU s) ≤ 80000
+pub pounds-most : (s : List ℕ) → Bounds s → orZero (markedU s) ≤ 80000
 unfolding markedU
 pounds-most s b =
-    by-hull (λ (r : Rule). whole (poundsBy s r) ≤ 80000) s
+    by-hull (λ (r : Rule). orZero (poundsBy s r) ≤ 80000) s
     (figure-most s b (outboardFifth s) (omega arith) (omega arith))
     (figure-most s b (outboardTenths s) (omega arith) (omega arith))
     (omega (arith, whole-greatest (pounds s (inboardFifth s)) (pounds s (inboardSeventh s)), figure-most s b (inboardFifth s) (omega arith) (omega arith), figure-most s b (inboardSeventh s) (omega arith) (omega arith)))
 
 -- ---- the answer
 
-pub u-unloaded : (s : List ℕ) → eqb (whole (markedU s)) 0 ≡ true → Refused 12 ≡ plateU s
+pub u-unloaded : (s : List ℕ) → eqb (orZero (markedU s)) 0 ≡ true → Refused 12 ≡ plateU s
 unfolding plateU
 u-unloaded s e = rw (below-one (markedU s) ∙ e) refl
 
-pub u-marks : (s : List ℕ) {load : ℕ} → eqb (whole (markedU s)) 0 ≡ false → load ≡ whole (markedU s) → Count load ≡ plateU s
+pub u-marks : (s : List ℕ) {load : ℕ} → eqb (orZero (markedU s)) 0 ≡ false → load ≡ orZero (markedU s) → Count load ≡ plateU s
 unfolding plateU
 u-marks s e g = rw (below-one (markedU s) ∙ e, g) refl

@@ -9,7 +9,7 @@ use borrow.Author.Tests.{lt-ltb, le-ltb, le-leb, lt-leb, leb-true, ne-eqb}
 use Rattle.text.proofs.Number.{both-hold}
 use lib.Dec.{eqb, leb, ltb}
 use lib.ListN.{length, getD}
-use Rattle.plates.specs.Words.{hullLength, transomWidth, transomHeight, flat, remote, outboard}
+use Rattle.plates.specs.Words.{hullLength, transomWidth, transomHeight, flatBottom, remote, outboard}
 use Rattle.plates.specs.PlateC.{rowFor}
 use Rattle.plates.specs.PlateA.{factorP, tableEnd, tableEnds, tableWatts, rowOf, rowWatts, beforeWatts, raised, formulaWatts, powerA, noPower}
 use Rattle.plates.specs.Bounds.{Bounds}
@@ -35,11 +35,11 @@ pub by-remote : (s : List ℕ) {p : ℕ} → p ≡ factorP s → eqb (remote s) 
 unfolding formulaWatts
 by-remote s e a b = rw (e, a, b) refl
 
-pub by-flat : (s : List ℕ) {p : ℕ} → p ≡ factorP s → (eqb (remote s) 1 && leb 500 (transomHeight s)) ≡ false → eqb (flat s) 1 ≡ true → raised (4 * p - 11000000) 1000 ≡ formulaWatts s
+pub by-flat : (s : List ℕ) {p : ℕ} → p ≡ factorP s → (eqb (remote s) 1 && leb 500 (transomHeight s)) ≡ false → eqb (flatBottom s) 1 ≡ true → raised (4 * p - 11000000) 1000 ≡ formulaWatts s
 unfolding formulaWatts
 by-flat s e a b = rw (e, a, b) refl
 
-pub by-chine : (s : List ℕ) {p : ℕ} → p ≡ factorP s → (eqb (remote s) 1 && leb 500 (transomHeight s)) ≡ false → eqb (flat s) 1 ≡ false → raised (13 * p - 40000000) 2000 ≡ formulaWatts s
+pub by-chine : (s : List ℕ) {p : ℕ} → p ≡ factorP s → (eqb (remote s) 1 && leb 500 (transomHeight s)) ≡ false → eqb (flatBottom s) 1 ≡ false → raised (13 * p - 40000000) 2000 ≡ formulaWatts s
 unfolding formulaWatts
 by-chine s e a b = rw (e, a, b) refl
 
@@ -53,13 +53,13 @@ pub by-formula : (s : List ℕ) {p : ℕ} → p ≡ factorP s → eqb (outboard 
 unfolding powerA
 by-formula s e a h = rw (a, sym (ap (ltb tableEnd) e) ∙ lt-ltb tableEnd _ h) refl
 
-pub by-row-before : (s : List ℕ) {p : ℕ} → p ≡ factorP s → eqb (outboard s) 0 ≡ false → p ≤ tableEnd → eqb (flat s) 1 ≡ true → ltb p tableEnd ≡ true → beforeWatts p ≡ powerA s
+pub by-row-before : (s : List ℕ) {p : ℕ} → p ≡ factorP s → eqb (outboard s) 0 ≡ false → p ≤ tableEnd → eqb (flatBottom s) 1 ≡ true → ltb p tableEnd ≡ true → beforeWatts p ≡ powerA s
 unfolding powerA
 by-row-before s {p} e a h b k = rw (a, sym (ap (ltb tableEnd) e) ∙ le-ltb tableEnd p h, b, sym (ap (λ (x : ℕ). ltb x tableEnd) e) ∙ k) (ap beforeWatts e)
 
-pub by-row : (s : List ℕ) {p : ℕ} → p ≡ factorP s → eqb (outboard s) 0 ≡ false → p ≤ tableEnd → (eqb (flat s) 1 && ltb p tableEnd) ≡ false → rowWatts p ≡ powerA s
+pub by-row : (s : List ℕ) {p : ℕ} → p ≡ factorP s → eqb (outboard s) 0 ≡ false → p ≤ tableEnd → (eqb (flatBottom s) 1 && ltb p tableEnd) ≡ false → rowWatts p ≡ powerA s
 unfolding powerA
-by-row s {p} e a h b = rw (a, sym (ap (ltb tableEnd) e) ∙ le-ltb tableEnd p h, sym (ap (λ (x : ℕ). eqb (flat s) 1 && ltb x tableEnd) e) ∙ b) (ap rowWatts e)
+by-row s {p} e a h b = rw (a, sym (ap (ltb tableEnd) e) ∙ le-ltb tableEnd p h, sym (ap (λ (x : ℕ). eqb (flatBottom s) 1 && ltb x tableEnd) e) ∙ b) (ap rowWatts e)
 
 -- ---- the row of the table
 
@@ -87,7 +87,7 @@ row-in p h = row-within p tableEnds 5 (omega arith) h
 
 -- ---- no power, and a power that fits 32 bits
 
-pub first-row : (s : List ℕ) {p : ℕ} → p ≡ factorP s → eqb (outboard s) 1 ≡ true → eqb (flat s) 1 ≡ true → leb p 2250000 ≡ noPower s
+pub first-row : (s : List ℕ) {p : ℕ} → p ≡ factorP s → eqb (outboard s) 1 ≡ true → eqb (flatBottom s) 1 ≡ true → leb p 2250000 ≡ noPower s
 unfolding rowFor
 first-row s {p} e a b = rw (a, b, ← e) (go (leb p 2250000) _)
   where
@@ -101,7 +101,7 @@ either false h k = k
 
 formula-most : (s : List ℕ) → factorP s ≤ 18000000 → formulaWatts s ≤ 300000
 unfolding formulaWatts
-formula-most s h = either (eqb (remote s) 1 && leb 500 (transomHeight s)) (omega arith) (either (eqb (flat s) 1) (omega arith) (omega arith))
+formula-most s h = either (eqb (remote s) 1 && leb 500 (transomHeight s)) (omega arith) (either (eqb (flatBottom s) 1) (omega arith) (omega arith))
 
 abbrev allMost : List ℕ → ℕ → Bool
 allMost [] n = true
@@ -119,4 +119,4 @@ pub power-most : (s : List ℕ) → Bounds s → powerA s ≤ 300000
 unfolding powerA
 power-most s b =
     either (eqb (outboard s) 0) (omega arith)
-    (either (ltb tableEnd (factorP s)) (formula-most s (factor-most s b refl refl)) (either (eqb (flat s) 1 && ltb (factorP s) tableEnd) (watts-most (rowOf (factorP s))) (watts-most (suc (rowOf (factorP s))))))
+    (either (ltb tableEnd (factorP s)) (formula-most s (factor-most s b refl refl)) (either (eqb (flatBottom s) 1 && ltb (factorP s) tableEnd) (watts-most (rowOf (factorP s))) (watts-most (suc (rowOf (factorP s))))))

@@ -8,8 +8,8 @@ use lib.ListN.{replicate}
 use Rattle.text.specs.Limit.{allHold}
 use Rattle.sheet.specs.declared.Answer.the-variants.{Count, Plate}
 use Rattle.sheet.specs.Sheet.{limitsOn, sheetLimits}
-use Rattle.plates.specs.Volume.{product, summed, volumeN, netZ}
-use Rattle.plates.specs.Weights.{sum, boatM}
+use Rattle.plates.specs.Volume.{stationProduct, summed, volumeN, netZ}
+use Rattle.plates.specs.Weights.{addedUp, boatM}
 use Rattle.plates.specs.PlateC.{exactX, markedC, rising, rowsRight, rowFor, noRow, engineWeight, liveLoad, persons, untested, plateC}
 use Rattle.plates.specs.PlateA.{inboardX, loadX, markedA, rowWatts, beforeWatts, formulaWatts, powerA, plateA}
 use Rattle.plates.specs.PlateU.{ruleU, markedU, plateU}
@@ -35,11 +35,11 @@ further =
     ∷ []
 
 starred : all-stand cases ≡ true
-unfolding all-stand stands cases holds-of answer-c marks agrees refuses second-is seated load power inboard words allHold sheetLimits limitsOn product volumeN netZ sum boatM exactX markedC rising rowsRight rowFor noRow engineWeight liveLoad persons untested plateC inboardX loadX markedA formulaWatts powerA plateA
+unfolding all-stand stands cases holds-of answer-c marks agrees refuses second-is seated load power inboard words allHold sheetLimits limitsOn stationProduct volumeN netZ addedUp boatM exactX markedC rising rowsRight rowFor noRow engineWeight liveLoad persons untested plateC inboardX loadX markedA formulaWatts powerA plateA
 starred = refl
 
 our-own : all-stand further ≡ true
-unfolding all-stand stands further holds-of answer-c marks agrees refuses second-is seated load power inboard words allHold sheetLimits limitsOn product volumeN netZ sum boatM exactX markedC rising rowsRight rowFor noRow engineWeight liveLoad persons untested plateC inboardX loadX markedA formulaWatts powerA plateA
+unfolding all-stand stands further holds-of answer-c marks agrees refuses second-is seated load power inboard words allHold sheetLimits limitsOn stationProduct volumeN netZ addedUp boatM exactX markedC rising rowsRight rowFor noRow engineWeight liveLoad persons untested plateC inboardX loadX markedA formulaWatts powerA plateA
 our-own = refl
 
 -- ---- plate U
@@ -91,20 +91,20 @@ american =
     ∷ []
 
 americans : all-stand american ≡ true
-unfolding all-stand stands american massed stationed launch holds-of says-count refuses load seated power words allHold sheetLimits limitsOn product volumeN netZ sum boatM ruleU markedU plateU
+unfolding all-stand stands american massed stationed launch holds-of says-count refuses load seated power words allHold sheetLimits limitsOn stationProduct volumeN netZ addedUp boatM ruleU markedU plateU
 americans = refl
 
 -- ---- each kind is its own plate, and plate C has its rows' powers and weights each in its place
 
 kinds-right : map (λ (k : PlateKind). plateOf k (seated 3 20000 200000 3334)) (kindA ∷ kindC (20000 ∷ []) (15000 ∷ []) ∷ kindU ∷ []) ≡ Plate 326 20000 ∷ Plate 325 3 ∷ Count 718 ∷ []
-unfolding seated words product volumeN netZ sum boatM exactX markedC rising rowsRight rowFor noRow engineWeight liveLoad persons untested plateC inboardX loadX markedA formulaWatts powerA plateA ruleU markedU plateU
+unfolding seated words stationProduct volumeN netZ addedUp boatM exactX markedC rising rowsRight rowFor noRow engineWeight liveLoad persons untested plateC inboardX loadX markedA formulaWatts powerA plateA ruleU markedU plateU
 kinds-right = refl
 
 -- ---- what the cases above leave open, since their stations and depths are alike
 
 -- each depth and each station by its own factor
-shares-right : (product (1 ∷ 1 ∷ 10 ∷ 100 ∷ 1000 ∷ 10000 ∷ 100000 ∷ []) ≡ 224241) × (summed 1 1 10 100 1000 ≡ 1424)
-unfolding product
+shares-right : (stationProduct (1 ∷ 1 ∷ 10 ∷ 100 ∷ 1000 ∷ 10000 ∷ 100000 ∷ []) ≡ 224241) × (summed 1 1 10 100 1000 ≡ 1424)
+unfolding stationProduct
 shares-right = (refl, refl)
 
 -- the ends of the table's rows, and one above each

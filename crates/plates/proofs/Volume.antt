@@ -8,8 +8,8 @@ use native.Mathlib.Omega.{arith}
 use lib.ListN.{length, getD, take, drop, drop-of-length-le}
 use lib.Seq.{drop-cons}
 use Rattle.text.proofs.Stores.{drop-more}
-use Rattle.plates.specs.Volume.{product}
-use Rattle.plates.specs.Weights.{sum}
+use Rattle.plates.specs.Volume.{stationProduct}
+use Rattle.plates.specs.Weights.{addedUp}
 use Rattle.plates.specs.Bounds.{Readings}
 
 pub seven : (l : List ℕ) (j : ℕ) → j + 7 ≤ length l
@@ -40,24 +40,24 @@ seven l j h =
 
 -- nothing is rounded: each millimetre of each depth counts exactly its share of B
 pub product-exact : (b q r s t u v i j k l m n : ℕ)
-    → product (b ∷ (q + i) ∷ (r + j) ∷ (s + k) ∷ (t + l) ∷ (u + m) ∷ (v + n) ∷ []) ≡ product (b ∷ q ∷ r ∷ s ∷ t ∷ u ∷ v ∷ []) + b * (i + 4 * j + 2 * k + 4 * l + 2 * m + 2 * n)
-unfolding product
+    → stationProduct (b ∷ (q + i) ∷ (r + j) ∷ (s + k) ∷ (t + l) ∷ (u + m) ∷ (v + n) ∷ []) ≡ stationProduct (b ∷ q ∷ r ∷ s ∷ t ∷ u ∷ v ∷ []) + b * (i + 4 * j + 2 * k + 4 * l + 2 * m + 2 * n)
+unfolding stationProduct
 product-exact b q r s t u v i j k l m n =
     let x : ℕ = q + 4 * r + 2 * s + 4 * t + 2 * u + 2 * v in
     let y : ℕ = i + 4 * j + 2 * k + 4 * l + 2 * m + 2 * n in
     let e : (q + i) + 4 * (r + j) + 2 * (s + k) + 4 * (t + l) + 2 * (u + m) + 2 * (v + n) ≡ x + y = omega arith in
     ap (λ (z : ℕ). b * z) e ∙ mul-add b x y
 
-pub product-most : (l : List ℕ) → Readings l → product l ≤ 150000000
-unfolding product
+pub product-most : (l : List ℕ) → Readings l → stationProduct l ≤ 150000000
+unfolding stationProduct
 product-most l r = le-trans (mul-le-mul {n₂ = 4000} {m₂ = 37500} (r .b) (omega arith)) (omega arith)
 
 -- ---- the sum of weights, one after the other
 
-pub sum-more : (ws : List ℕ) (i : ℕ) → i < length ws → sum (drop i ws) ≡ getD ws i 0 + sum (drop (i + 1) ws)
-unfolding sum
+pub sum-more : (ws : List ℕ) (i : ℕ) → i < length ws → addedUp (drop i ws) ≡ getD ws i 0 + addedUp (drop (i + 1) ws)
+unfolding addedUp
 sum-more ws i h = rw (drop-more ws i h)
 
-pub sum-end : (ws : List ℕ) (i : ℕ) → length ws ≤ i → sum (drop i ws) ≡ 0
-unfolding sum
+pub sum-end : (ws : List ℕ) (i : ℕ) → length ws ≤ i → addedUp (drop i ws) ≡ 0
+unfolding addedUp
 sum-end ws i h = rw (drop-of-length-le ws {i = i} h)

@@ -7,7 +7,7 @@ use native.Mathlib.Omega.{arith}
 use borrow.Author.Tests.{lt-ltb, le-ltb, ltb-true, ltb-false, ne-eqb}
 use lib.Dec.{eqb, ltb}
 use lib.IntN.{ℤ, pos, negsuc, negℤ, subℕ, _+ℤ_, _-ℤ_, _*ℤ_}
-use Rattle.plates.specs.Whole.{isBelow, whole}
+use Rattle.plates.specs.Whole.{isBelow, orZero}
 
 abbrev Is : ℤ → ℕ → ℕ → Type 0
 Is (pos n) a b = n + b ≡ a
@@ -61,12 +61,12 @@ is-sub c d h e = alone (moved c d h e) (of-sub c d)
 
 -- ---- not below one
 
-pub below-one : (z : ℤ) → isBelow z 1 ≡ eqb (whole z) 0
+pub below-one : (z : ℤ) → isBelow z 1 ≡ eqb (orZero z) 0
 below-one (pos zero) = refl
 below-one (pos (suc n)) = rw (le-ltb (suc n) 1 (omega arith), ne-eqb (suc n) 0 (omega arith))
 below-one (negsuc n) = refl
 
-pub whole-pos : (z : ℤ) → 1 ≤ whole z → z ≡ pos (whole z)
+pub whole-pos : (z : ℤ) → 1 ≤ orZero z → z ≡ pos (orZero z)
 whole-pos (pos n) h = refl
 whole-pos (negsuc n) h = absurd (omega arith)
 

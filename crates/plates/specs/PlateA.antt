@@ -7,8 +7,8 @@ use lib.ListN.{getD}
 use lib.IntN.{ℤ, pos, _+ℤ_, _-ℤ_, _*ℤ_}
 use Rattle.sheet.specs.declared.Answer.{Answer}
 use Rattle.sheet.specs.declared.Answer.the-variants.{Refused, Plate}
-use Rattle.plates.specs.Whole.{floorDiv, ceilDiv, isBelow, whole}
-use Rattle.plates.specs.Words.{hullLength, transomWidth, transomHeight, flat, remote, fuel, machinery, outboard}
+use Rattle.plates.specs.Whole.{floorDiv, ceilDiv, isBelow, orZero}
+use Rattle.plates.specs.Words.{hullLength, transomWidth, transomHeight, flatBottom, remote, fuel, machinery, outboard}
 use Rattle.plates.specs.Volume.{gram, netZ}
 use Rattle.plates.specs.Weights.{boatM}
 use Rattle.plates.specs.PlateC.{exactX, markedKilo, rowFor}
@@ -65,20 +65,20 @@ unfoldable pub formulaWatts : List ℕ → ℕ
 formulaWatts s =
     let p = factorP s in
     cond (eqb (remote s) 1 && leb 500 (transomHeight s)) (raised (16 * p - 67000000) 1000)
-    (cond (eqb (flat s) 1) (raised (4 * p - 11000000) 1000) (raised (13 * p - 40000000) 2000))
+    (cond (eqb (flatBottom s) 1) (raised (4 * p - 11000000) 1000) (raised (13 * p - 40000000) 2000))
 
 -- below the end of the table a flat bottom is marked by the row before its own
 unfoldable pub powerA : List ℕ → ℕ
 powerA s =
     cond (eqb (outboard s) 0) 0
     (cond (ltb tableEnd (factorP s)) (formulaWatts s)
-    (cond (eqb (flat s) 1 && ltb (factorP s) tableEnd) (beforeWatts (factorP s)) (rowWatts (factorP s))))
+    (cond (eqb (flatBottom s) 1 && ltb (factorP s) tableEnd) (beforeWatts (factorP s)) (rowWatts (factorP s))))
 
 -- a flat outboard that P puts in the first row can be given no power
 abbrev pub noPower : List ℕ → Bool
-noPower s = eqb (outboard s) 1 && (eqb (flat s) 1 && eqb (rowOf (factorP s)) 0)
+noPower s = eqb (outboard s) 1 && (eqb (flatBottom s) 1 && eqb (rowOf (factorP s)) 0)
 
 -- ---- the plate
 
 unfoldable pub plateA : List ℕ → Answer
-plateA s = cond (isBelow (markedA s) 1) (Refused 12) (cond (noPower s) (Refused 13) (Plate (whole (markedA s)) (powerA s)))
+plateA s = cond (isBelow (markedA s) 1) (Refused 12) (cond (noPower s) (Refused 13) (Plate (orZero (markedA s)) (powerA s)))

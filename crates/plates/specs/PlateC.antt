@@ -9,7 +9,7 @@ use lib.IntN.{ℤ, pos, _-ℤ_, _*ℤ_}
 use Rattle.sheet.specs.declared.Answer.{Answer}
 use Rattle.sheet.specs.declared.Answer.the-variants.{Refused, Plate}
 use Rattle.sheet.specs.Lines.{mostRows, enginePowerHigh, engineWeightHigh}
-use Rattle.plates.specs.Whole.{floorDiv, isBelow, least, whole}
+use Rattle.plates.specs.Whole.{floorDiv, isBelow, least, orZero}
 use Rattle.plates.specs.Words.{fuel, machinery, outboard, declared, positions, tested}
 use Rattle.plates.specs.Volume.{gram, netZ}
 use Rattle.plates.specs.Weights.{boatM}
@@ -95,4 +95,4 @@ plateC s ps ws =
     (cond (isBelow (markedC s) 1) (Refused 12)
     (cond (noRow s ps) (Refused 11)
     (cond (untested s live) (Refused 14)
-    (cond (isBelow (persons s live) 1) (Refused 15) (Plate (whole (markedC s)) (whole (persons s live)))))))
+    (cond (isBelow (persons s live) 1) (Refused 15) (Plate (orZero (markedC s)) (orZero (persons s live)))))))

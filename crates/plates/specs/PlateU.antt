@@ -7,7 +7,7 @@ use lib.Dec.{eqb, ltb}
 use lib.IntN.{ℤ, pos, _-ℤ_, _*ℤ_}
 use Rattle.sheet.specs.declared.Answer.{Answer}
 use Rattle.sheet.specs.declared.Answer.the-variants.{Refused, Count}
-use Rattle.plates.specs.Whole.{floorDiv, isBelow, greatest, whole}
+use Rattle.plates.specs.Whole.{floorDiv, isBelow, greatest, orZero}
 use Rattle.plates.specs.Words.{fuel, machinery, outboard, declared}
 use Rattle.plates.specs.Volume.{gram, netZ}
 use Rattle.plates.specs.Weights.{boatM}
@@ -89,4 +89,4 @@ markedU s = poundsBy s (ruleU s)
 -- ---- the plate
 
 unfoldable pub plateU : List ℕ → Answer
-plateU s = cond (isBelow (markedU s) 1) (Refused 12) (Count (whole (markedU s)))
+plateU s = cond (isBelow (markedU s) 1) (Refused 12) (Count (orZero (markedU s)))

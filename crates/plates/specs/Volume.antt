@@ -6,15 +6,15 @@ use lib.IntN.{ℤ, pos, _+ℤ_, _-ℤ_, _*ℤ_}
 use Rattle.plates.specs.Words.{reference, station, aft, well, flooding}
 
 -- fifteen times a station's area, of its seven readings B q r s t u v
-unfoldable pub product : List ℕ → ℕ
-product l = getD l 0 0 * (getD l 1 0 + 4 * getD l 2 0 + 2 * getD l 3 0 + 4 * getD l 4 0 + 2 * getD l 5 0 + 2 * getD l 6 0)
+unfoldable pub stationProduct : List ℕ → ℕ
+stationProduct l = getD l 0 0 * (getD l 1 0 + 4 * getD l 2 0 + 2 * getD l 3 0 + 4 * getD l 4 0 + 2 * getD l 5 0 + 2 * getD l 6 0)
 
 -- N, of the products of the four stations
 abbrev pub summed : ℕ → ℕ → ℕ → ℕ → ℕ → ℕ
 summed ref q r s t = ref * (4 * q + 2 * r + 4 * s + t)
 
 unfoldable pub volumeN : List ℕ → ℕ
-volumeN s = summed (reference s) (product (station s 0)) (product (station s 1)) (product (station s 2)) (product (station s 3))
+volumeN s = summed (reference s) (stationProduct (station s 0)) (stationProduct (station s 1)) (stationProduct (station s 2)) (stationProduct (station s 3))
 
 -- N/180 is cubic millimetres, of which a thousand are a cubic centimetre, a gram of water
 abbrev pub gram : ℕ

@@ -3,9 +3,9 @@ use Prim.Native.Nat.{ℕ, _+_}
 use mathlib.Core.List.{List, [], _∷_}
 use Rattle.plates.specs.Words.{bare, fittingsOf}
 
-unfoldable pub sum : List ℕ → ℕ
-sum [] = 0
-sum (w ∷ ws) = w + sum ws
+unfoldable pub addedUp : List ℕ → ℕ
+addedUp [] = 0
+addedUp (w ∷ ws) = w + addedUp ws
 
 unfoldable pub boatM : List ℕ → ℕ
-boatM s = bare s + sum (fittingsOf s)
+boatM s = bare s + addedUp (fittingsOf s)

@@ -32,6 +32,6 @@ abbrev pub greatest : ℤ → ℤ → ℤ
 greatest y z = cond (isAtMost y z) z y
 
 -- z where it is not below zero
-abbrev pub whole : ℤ → ℕ
-whole (pos n) = n
-whole (negsuc n) = 0
+abbrev pub orZero : ℤ → ℕ
+orZero (pos n) = n
+orZero (negsuc n) = 0

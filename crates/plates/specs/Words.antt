@@ -16,8 +16,8 @@ transomWidth s = getD s 2 0
 abbrev pub transomHeight : List ℕ → ℕ
 transomHeight s = getD s 3 0
 
-abbrev pub flat : List ℕ → ℕ
-flat s = getD s 4 0
+abbrev pub flatBottom : List ℕ → ℕ
+flatBottom s = getD s 4 0
 
 abbrev pub remote : List ℕ → ℕ
 remote s = getD s 5 0

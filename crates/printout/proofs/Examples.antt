@@ -11,8 +11,8 @@ use Rattle.text.specs.Number.{restOf, numberOf, digitsIn, digitsOf}
 use Rattle.text.specs.Line.{readEntry, readNumbers, readLine, numbersText}
 use Rattle.sheet.specs.Reading.{readLines, readFits, readEnd, readRest, readSheet}
 use Rattle.sheet.specs.Engines.{readRows, readEngines}
-use Rattle.plates.specs.Volume.{product, volumeN, netZ}
-use Rattle.plates.specs.Weights.{sum, boatM}
+use Rattle.plates.specs.Volume.{stationProduct, volumeN, netZ}
+use Rattle.plates.specs.Weights.{addedUp, boatM}
 use Rattle.plates.specs.PlateC.{exactX, markedC, rising, rowsRight, rowFor, noRow, engineWeight, liveLoad, persons, untested, plateC}
 use Rattle.plates.specs.PlateA.{inboardX, loadX, markedA, formulaWatts, powerA, plateA}
 use Rattle.printout.specs.Input.{sheetBytes}
@@ -56,7 +56,7 @@ inputs-right :
     ∷ bytes "INPUT\t2\n" ∷ bytes "INPUT\t3\n"
     ∷ bytes "INPUT\t3\n" ∷ bytes "INPUT\t2\n"
     ∷ []
-unfolding inputs withBoat printed rowsPrinted platesText sheetBytes readSheet readLines readLine agreed readNumbers readEntry fieldOf numberOf restOf readRest readFits readEnd readEngines readRows numbersText digitsOf digitsIn product volumeN netZ sum boatM exactX markedC rising rowsRight rowFor noRow engineWeight liveLoad persons untested plateC inboardX loadX markedA formulaWatts powerA plateA
+unfolding inputs withBoat printed rowsPrinted platesText sheetBytes readSheet readLines readLine agreed readNumbers readEntry fieldOf numberOf restOf readRest readFits readEnd readEngines readRows numbersText digitsOf digitsIn stationProduct volumeN netZ addedUp boatM exactX markedC rising rowsRight rowFor noRow engineWeight liveLoad persons untested plateC inboardX loadX markedA formulaWatts powerA plateA
 inputs-right = refl
 
 -- ---- where the sheet ends

@@ -17,7 +17,7 @@ use Rattle.text.specs.Quoted.{dash}
 use Rattle.text.specs.Field.{fieldOf, begins, agreed}
 use Rattle.text.specs.Number.{numberOf}
 use Rattle.text.specs.Limit.{Limit, orNone, within}
-use Rattle.text.specs.Line.{Line, Reading, shift, followed, onEntry, judged, ender, readEntry, readNumbers, readLine}
+use Rattle.text.specs.Line.{Line, Reading, shiftBy, followed, onEntry, judged, ender, readEntry, readNumbers, readLine}
 use Rattle.text.proofs.Line.{line-tagged, line-untagged}
 use Rattle.sheet.specs.Lines.{lines, fittings, fitLine, endLine, engineLine, mostRows, mostBytes}
 use Rattle.sheet.specs.Reading.{fitByte, onFit, readLines, readFits, readStop, readEnd, readRest, readSheet}
@@ -37,7 +37,7 @@ pub either : {A : Type 0} (number : A → ℕ) {n : ℕ} (u : Bool) {a b : A} �
 either number true h k = h
 either number false h k = k
 
-shifted : (k : ℕ) (r : LineRead) → faultOf r ≤ 3 → faultOf (shift k r) ≤ 3
+shifted : (k : ℕ) (r : LineRead) → faultOf r ≤ 3 → faultOf (shiftBy k r) ≤ 3
 shifted k (Taken n) h = h
 shifted k (Fault number at) h = h
 

@@ -9,7 +9,7 @@ use lib.ListN.{length, take, drop, getD, length-drop}
 use lib.Seq.{sets, length-sets, drop-drop, take-suc}
 use Rattle.text.specs.declared.LineRead.{LineRead}
 use Rattle.text.specs.declared.LineRead.the-variants.{Taken, Fault}
-use Rattle.text.specs.Line.{Line, Reading, Reads, nothing, shift, after, followed, readLine}
+use Rattle.text.specs.Line.{Line, Reading, Reads, nothing, shiftBy, after, followed, readLine}
 use Rattle.text.proofs.Stores.{putBack, rest-part, part-sets, sets-append}
 use Rattle.text.proofs.Reading.{after-nothing, after-after}
 use Rattle.text.proofs.Line.{line-extent}
@@ -22,7 +22,7 @@ use Rattle.reading.specs.Steps.{reached, ReadsOn}
 
 -- ---- one line
 
-reached-shift : (k : ℕ) (r : LineRead) → reached (shift k r) ≡ k + reached r
+reached-shift : (k : ℕ) (r : LineRead) → reached (shiftBy k r) ≡ k + reached r
 reached-shift k (Taken n) = refl
 reached-shift k (Fault number at) = refl
 
@@ -38,7 +38,7 @@ module _ {read : LineRead} (l : Line) (t o : List ℕ) {at : ℕ} (n : ℕ) {r :
   pub line-in : at + reached r ≤ length t
   line-in = omega (arith, ap reached e, ap reached ended, line-extent l (drop at t), length-drop at t)
 
-  pub goes-on : length o ≡ textWords → ReadsOn read l t n o (shift at r) (putBack o n ys)
+  pub goes-on : length o ≡ textWords → ReadsOn read l t n o (shiftBy at r) (putBack o n ys)
   goes-on m =
       let ns : List ℕ = readLine l (drop at t) .numbers in
       let w : ys ≡ sets (drop n o) 0 ns = p .stored ∙ rw (rest-part t at, rest-part o n) in

@@ -6,7 +6,7 @@ use native.Mathlib.Omega.{arith}
 use lib.ListN.{length, take, drop, replicate, length-drop}
 use Rattle.text.specs.declared.LineRead.{LineRead}
 use Rattle.text.specs.declared.LineRead.the-variants.{Taken, Fault}
-use Rattle.text.specs.Line.{Reads, shift}
+use Rattle.text.specs.Line.{Reads, shiftBy}
 use Rattle.text.proofs.Stores.{putBack, rest-part}
 use Rattle.text.proofs.Line.{extent}
 use Rattle.text.proofs.Followed.{reads-last, reads-fault, reads-more}
@@ -26,7 +26,7 @@ pub fits-in : (t : List ℕ) {o₀ o : List ℕ} {r : LineRead} → Reads (readF
 fits-in t p = omega (arith, ap extent (p .answer), fits-extent fittings 1 t)
 
 module _ (t : List ℕ) {o₀ o : List ℕ} {at : ℕ} (p : Reads (readFits fittings 1 t) o₀ (Taken at) o) {r : LineRead} (e : r ≡ readEnd (take (length t - at) (drop at t)) .ended) where
-  pub reads-end : Reads (readRest t) o₀ (shift at r) o
+  pub reads-end : Reads (readRest t) o₀ (shiftBy at r) o
   unfolding readRest
   reads-end = reads-last (readFits fittings 1 t) readEnd t p (e ∙ rw (rest-part t at)) (end-numbers (drop at t))
 
@@ -44,7 +44,7 @@ module _ (t : List ℕ) (h : length t ≤ mostBytes) where
 
   module _ {o₀ o : List ℕ} {at : ℕ} (p : Reads (readLines lines t) o₀ (Taken at) o) {r : LineRead} {ys : List ℕ}
       (q : Reads (readRest (take (length t - at) (drop at t))) (take (length o - 45) (drop 45 o)) r ys) where
-    pub reads-rest : Reads (readSheet t) o₀ (shift at r) (putBack o 45 ys)
+    pub reads-rest : Reads (readSheet t) o₀ (shiftBy at r) (putBack o 45 ys)
     reads-rest =
         rw (sheet-short t h)
         (reads-more (readLines lines t) readRest t p (lines-counted t at (sym (p .answer))) (rw (rest-part t at) at q))

@@ -14,7 +14,7 @@ use Rattle.sheet.specs.declared.Answer.the-variants.{Refused, Done, Count}
 use Rattle.sheet.specs.Reading.{readSheet}
 use Rattle.sheet.specs.Calls.{writeAnswer}
 use Rattle.sheet.proofs.Refused.{isRefusal, none-refused, write-refused}
-use Rattle.memory.specs.Layout.{registerWords, count, edit, draftHull}
+use Rattle.memory.specs.Layout.{registerWords, hullCount, edit, draftHull}
 use Rattle.memory.specs.Updates.{freshWords, entered, opened, fitted, replaced, dropped, saved}
 use Rattle.memory.proofs.Sound.{sound}
 use Rattle.memory.proofs.Fittings.{words-length}
@@ -50,7 +50,7 @@ pub room-first : (m t : List ℕ) → (roomRefusal m ≡ 0 → ⊥) → newAnswe
 room-first m t n = rw (ne-eqb (roomRefusal m) 0 n) refl
 
 pub new-refused : (m t : List ℕ) → isRefusal (newAnswer m t) ≡ true → newMemory m t ≡ m
-new-refused m t e = kept-refused (roomRefusal m) (onText t (Count (count m)) Refused) _ m (kept-text t (Count (count m)) _ m refl) e
+new-refused m t e = kept-refused (roomRefusal m) (onText t (Count (hullCount m)) Refused) _ m (kept-text t (Count (hullCount m)) _ m refl) e
 
 pub open-refused : (m : List ℕ) (d h : ℕ) → isRefusal (openAnswer m d h) ≡ true → openMemory m d h ≡ m
 open-refused m d h e = kept-refused (openRefusal m d h) (Count (edit m h)) _ m none-refused e

@@ -9,7 +9,7 @@ use lib.Dec.{eqb, leb, ltb}
 use lib.ListN.{getD}
 use Rattle.text.proofs.Number.{both-hold}
 use Rattle.sheet.specs.Lines.{fittings, fittingHigh}
-use Rattle.memory.specs.Layout.{desks, count, edit, draftHull, opening, fittingAt}
+use Rattle.memory.specs.Layout.{desks, hullCount, edit, draftHull, opening, fittingAt}
 use Rattle.memory.specs.Formed.{mostEdits, formed}
 use Rattle.register.specs.Refusals.{deskRefusal, orNext}
 use Rattle.register.specs.Drafts.{openRefusal, putOwn, putRefusal, takeOwn, takeRefusal, saveOwn, saveRefusal}
@@ -33,25 +33,25 @@ module _ (m : List ℕ) (d h : ℕ) where
   unfolding openRefusal
   open-high e l = rw (e, le-ltb d desks l) refl
 
-  pub open-absent : formed m ≡ true → d < desks → count m ≤ h → 5 ≡ openRefusal m d h
+  pub open-absent : formed m ≡ true → d < desks → hullCount m ≤ h → 5 ≡ openRefusal m d h
   unfolding openRefusal
-  open-absent e l k = rw (e, lt-ltb d desks l, le-ltb h (count m) k) refl
+  open-absent e l k = rw (e, lt-ltb d desks l, le-ltb h (hullCount m) k) refl
 
-  pub open-there : formed m ≡ true → d < desks → h < count m → 0 ≡ openRefusal m d h
+  pub open-there : formed m ≡ true → d < desks → h < hullCount m → 0 ≡ openRefusal m d h
   unfolding openRefusal
-  open-there e l k = rw (e, lt-ltb d desks l, lt-ltb h (count m) k) refl
+  open-there e l k = rw (e, lt-ltb d desks l, lt-ltb h (hullCount m) k) refl
 
   pub record OpenGoes : Type 0 where
     pub ok : formed m ≡ true
     pub desk : d < desks
-    pub entered : h < count m
+    pub entered : h < hullCount m
 
   pub open-goes : openRefusal m d h ≡ 0 → OpenGoes
   unfolding openRefusal
-  open-goes z = go (formed m) (ltb d desks) (ltb h (count m)) refl refl refl z
+  open-goes z = go (formed m) (ltb d desks) (ltb h (hullCount m)) refl refl refl z
     where
-      go : (f t u : Bool) → formed m ≡ f → ltb d desks ≡ t → ltb h (count m) ≡ u → _≡_ {A = ℕ} (cond f (cond t (cond u 0 5) 6) 1) 0 → OpenGoes
-      go true true true e l k z = record { ok = e; desk = ltb-true d desks l; entered = ltb-true h (count m) k }
+      go : (f t u : Bool) → formed m ≡ f → ltb d desks ≡ t → ltb h (hullCount m) ≡ u → _≡_ {A = ℕ} (cond f (cond t (cond u 0 5) 6) 1) 0 → OpenGoes
+      go true true true e l k z = record { ok = e; desk = ltb-true d desks l; entered = ltb-true h (hullCount m) k }
       go true true false e l k z = absurd (omega arith)
       go true false u e l k z = absurd (omega arith)
       go false t u e l k z = absurd (omega arith)

@@ -7,7 +7,7 @@ use native.Mathlib.Omega.{arith}
 use borrow.Author.Tests.{ltb-true, eqb-false, lt-ltb, le-ltb, eq-eqb, ne-eqb}
 use lib.Dec.{eqb, ltb}
 use lib.ListN.{getD}
-use Rattle.memory.specs.Layout.{mostHulls, desks, draftAt, count, held}
+use Rattle.memory.specs.Layout.{mostHulls, desks, draftAt, hullCount, held}
 use Rattle.memory.specs.Formed.{formed}
 use Rattle.memory.proofs.Sound.{Draft, held-draft}
 use Rattle.register.specs.Refusals.{hullRefusal, deskRefusal}
@@ -20,24 +20,24 @@ module _ (m : List ℕ) (h : ℕ) where
   unfolding hullRefusal
   hull-unformed e = rw e refl
 
-  pub hull-absent : formed m ≡ true → count m ≤ h → 5 ≡ hullRefusal m h
+  pub hull-absent : formed m ≡ true → hullCount m ≤ h → 5 ≡ hullRefusal m h
   unfolding hullRefusal
-  hull-absent e l = rw (e, le-ltb h (count m) l) refl
+  hull-absent e l = rw (e, le-ltb h (hullCount m) l) refl
 
-  pub hull-there : formed m ≡ true → h < count m → 0 ≡ hullRefusal m h
+  pub hull-there : formed m ≡ true → h < hullCount m → 0 ≡ hullRefusal m h
   unfolding hullRefusal
-  hull-there e l = rw (e, lt-ltb h (count m) l) refl
+  hull-there e l = rw (e, lt-ltb h (hullCount m) l) refl
 
   pub record HullGoes : Type 0 where
     pub ok : formed m ≡ true
-    pub entered : h < count m
+    pub entered : h < hullCount m
 
   pub hull-goes : hullRefusal m h ≡ 0 → HullGoes
   unfolding hullRefusal
-  hull-goes z = go (formed m) (ltb h (count m)) refl refl z
+  hull-goes z = go (formed m) (ltb h (hullCount m)) refl refl z
     where
-      go : (f t : Bool) → formed m ≡ f → ltb h (count m) ≡ t → _≡_ {A = ℕ} (cond f (cond t 0 5) 1) 0 → HullGoes
-      go true true e l z = record { ok = e; entered = ltb-true h (count m) l }
+      go : (f t : Bool) → formed m ≡ f → ltb h (hullCount m) ≡ t → _≡_ {A = ℕ} (cond f (cond t 0 5) 1) 0 → HullGoes
+      go true true e l z = record { ok = e; entered = ltb-true h (hullCount m) l }
       go true false e l z = absurd (omega arith)
       go false t e l z = absurd (omega arith)
 
@@ -85,23 +85,23 @@ pub room-unformed : (m : List ℕ) → formed m ≡ false → 1 ≡ roomRefusal 
 unfolding roomRefusal
 room-unformed m e = rw e refl
 
-pub room-none : (m : List ℕ) {n : ℕ} → formed m ≡ true → n ≡ count m → mostHulls ≤ n → 4 ≡ roomRefusal m
+pub room-none : (m : List ℕ) {n : ℕ} → formed m ≡ true → n ≡ hullCount m → mostHulls ≤ n → 4 ≡ roomRefusal m
 unfolding roomRefusal
-room-none m e q l = rw (e, le-ltb (count m) mostHulls (rw q at l)) refl
+room-none m e q l = rw (e, le-ltb (hullCount m) mostHulls (rw q at l)) refl
 
-pub room-left : (m : List ℕ) {n : ℕ} → formed m ≡ true → n ≡ count m → n < mostHulls → 0 ≡ roomRefusal m
+pub room-left : (m : List ℕ) {n : ℕ} → formed m ≡ true → n ≡ hullCount m → n < mostHulls → 0 ≡ roomRefusal m
 unfolding roomRefusal
-room-left m e q l = rw (e, lt-ltb (count m) mostHulls (rw q at l)) refl
+room-left m e q l = rw (e, lt-ltb (hullCount m) mostHulls (rw q at l)) refl
 
 pub record RoomGoes (m : List ℕ) : Type 0 where
   pub ok : formed m ≡ true
-  pub room : count m < mostHulls
+  pub room : hullCount m < mostHulls
 
 pub room-goes : (m : List ℕ) → roomRefusal m ≡ 0 → RoomGoes m
 unfolding roomRefusal
-room-goes m z = go (formed m) (ltb (count m) mostHulls) refl refl z
+room-goes m z = go (formed m) (ltb (hullCount m) mostHulls) refl refl z
   where
-    go : (f t : Bool) → formed m ≡ f → ltb (count m) mostHulls ≡ t → _≡_ {A = ℕ} (cond f (cond t 0 4) 1) 0 → RoomGoes m
-    go true true e l z = record { ok = e; room = ltb-true (count m) mostHulls l }
+    go : (f t : Bool) → formed m ≡ f → ltb (hullCount m) mostHulls ≡ t → _≡_ {A = ℕ} (cond f (cond t 0 4) 1) 0 → RoomGoes m
+    go true true e l z = record { ok = e; room = ltb-true (hullCount m) mostHulls l }
     go true false e l z = absurd (omega arith)
     go false t e l z = absurd (omega arith)

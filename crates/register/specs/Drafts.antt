@@ -8,7 +8,7 @@ use Rattle.sheet.specs.declared.Answer.{Answer}
 use Rattle.sheet.specs.declared.Answer.the-variants.{Refused, Done, Count}
 use Rattle.sheet.specs.Lines.{fittings, fittingHigh}
 use Rattle.plates.specs.Kinds.{PlateKind, plateOf}
-use Rattle.memory.specs.Layout.{desks, count, edit, draftHull, opening, draftSheet, fittingAt}
+use Rattle.memory.specs.Layout.{desks, hullCount, edit, draftHull, opening, draftSheet, fittingAt}
 use Rattle.memory.specs.Formed.{mostEdits, formed}
 use Rattle.memory.specs.Updates.{opened, fitted, replaced, dropped, saved}
 use Rattle.register.specs.Refusals.{deskRefusal, orNext, orRefused, orKept, sheetOf, onText}
@@ -16,7 +16,7 @@ use Rattle.register.specs.Refusals.{deskRefusal, orNext, orRefused, orKe
 -- ---- open: 1, 6, 5; it answers the edit number, and a draft that the desk held is discarded
 
 unfoldable pub openRefusal : List ℕ → ℕ → ℕ → ℕ
-openRefusal m d h = cond (formed m) (cond (ltb d desks) (cond (ltb h (count m)) 0 5) 6) 1
+openRefusal m d h = cond (formed m) (cond (ltb d desks) (cond (ltb h (hullCount m)) 0 5) 6) 1
 
 abbrev pub openAnswer : List ℕ → ℕ → ℕ → Answer
 openAnswer m d h = orRefused (openRefusal m d h) (Count (edit m h))

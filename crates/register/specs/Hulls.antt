@@ -8,7 +8,7 @@ use Rattle.sheet.specs.declared.Answer.{Answer}
 use Rattle.sheet.specs.declared.Answer.the-variants.{Refused, Done, Count}
 use Rattle.sheet.specs.Calls.{writeAnswer, writeInto}
 use Rattle.plates.specs.Kinds.{PlateKind, plateOf}
-use Rattle.memory.specs.Layout.{mostHulls, registerWords, count, hullSheet}
+use Rattle.memory.specs.Layout.{mostHulls, registerWords, hullCount, hullSheet}
 use Rattle.memory.specs.Formed.{formed}
 use Rattle.memory.specs.Updates.{freshWords, entered}
 use Rattle.register.specs.Refusals.{hullRefusal, orRefused, orKept, sheetOf, onText}
@@ -27,10 +27,10 @@ freshMemory m = orKept (freshRefusal m) freshWords m
 -- ---- new hull: 1, 4, then the text; it answers its number
 
 unfoldable pub roomRefusal : List ℕ → ℕ
-roomRefusal m = cond (formed m) (cond (ltb (count m) mostHulls) 0 4) 1
+roomRefusal m = cond (formed m) (cond (ltb (hullCount m) mostHulls) 0 4) 1
 
 abbrev pub newAnswer : List ℕ → List ℕ → Answer
-newAnswer m t = orRefused (roomRefusal m) (onText t (Count (count m)) Refused)
+newAnswer m t = orRefused (roomRefusal m) (onText t (Count (hullCount m)) Refused)
 
 abbrev pub newMemory : List ℕ → List ℕ → List ℕ
 newMemory m t = orKept (roomRefusal m) (onText t (entered m (sheetOf t)) (λ (number : ℕ). m)) m

@@ -10,14 +10,14 @@ use Rattle.text.specs.declared.LineRead.the-variants.{Taken, Fault}
 use Rattle.sheet.specs.declared.Answer.{Answer}
 use Rattle.sheet.specs.declared.Answer.the-variants.{Refused}
 use Rattle.sheet.specs.Reading.{readSheet}
-use Rattle.memory.specs.Layout.{desks, count, held}
+use Rattle.memory.specs.Layout.{desks, hullCount, held}
 use Rattle.memory.specs.Formed.{formed}
 
 -- ---- the shared checks
 
 -- a call on a hull: 1, 5
 unfoldable pub hullRefusal : List ℕ → ℕ → ℕ
-hullRefusal m h = cond (formed m) (cond (ltb h (count m)) 0 5) 1
+hullRefusal m h = cond (formed m) (cond (ltb h (hullCount m)) 0 5) 1
 
 -- a call on a desk's draft: 1, 6, 7
 unfoldable pub deskRefusal : List ℕ → ℕ → ℕ

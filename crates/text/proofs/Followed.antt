@@ -6,7 +6,7 @@ use native.Mathlib.Omega.{arith}
 use lib.ListN.{length, take, drop, length-drop}
 use Rattle.text.specs.declared.LineRead.{LineRead}
 use Rattle.text.specs.declared.LineRead.the-variants.{Taken, Fault}
-use Rattle.text.specs.Line.{Reading, Reads, shift, after, followed}
+use Rattle.text.specs.Line.{Reading, Reads, shiftBy, after, followed}
 use Rattle.text.proofs.Stores.{putBack, part-append}
 use Rattle.text.proofs.Line.{extent, extent-shift}
 
@@ -20,7 +20,7 @@ followed-fault p next t number at e = rw e
 
 -- numbers that p gave are stored, and then those that next gives, into the part after them
 pub reads-more : (p : Reading) (next : List ℕ → Reading) (t : List ℕ) {o₀ o ys : List ℕ} {k n : ℕ} {r : LineRead} → Reads p o₀ (Taken k) o → length (p .numbers) ≡ n
-    → Reads (next (drop k t)) (take (length o - n) (drop n o)) r ys → Reads (followed p next t) o₀ (shift k r) (putBack o n ys)
+    → Reads (next (drop k t)) (take (length o - n) (drop n o)) r ys → Reads (followed p next t) o₀ (shiftBy k r) (putBack o n ys)
 reads-more p next t {o₀} {o} {ys} {k} {n} {r} a m b =
     let e : followed p next t ≡ after (p .numbers) k (next (drop k t)) = followed-taken p next t k (sym (a .answer)) in
     record {
@@ -35,7 +35,7 @@ reads-fault p next t {o₀} {o} {number} {at} a =
 
 -- what next gives has no numbers, and leaves the list alone
 pub reads-last : (p : Reading) (next : List ℕ → Reading) (t : List ℕ) {o₀ o : List ℕ} {k : ℕ} {r : LineRead} → Reads p o₀ (Taken k) o → r ≡ next (drop k t) .ended → next (drop k t) .numbers ≡ []
-    → Reads (followed p next t) o₀ (shift k r) o
+    → Reads (followed p next t) o₀ (shiftBy k r) o
 reads-last p next t {k = k} a e n =
     let d : followed p next t ≡ after (p .numbers) k (next (drop k t)) = followed-taken p next t k (sym (a .answer)) in
     record { answer = rw (d, e); stored = a .stored ∙ rw (d, n, append-nil (p .numbers)) }
@@ -57,7 +57,7 @@ pub record Parts (p : Reading) (next : List ℕ → Reading) (t : List ℕ) (k :
   pub numbers : followed p next t .numbers ≡ p .numbers ++ next (drop first t) .numbers
 
 -- how a reading that went well after k bytes went
-pub shift-taken : (j : ℕ) (r : LineRead) (k : ℕ) → shift j r ≡ Taken k → (i : ℕ) × (r ≡ Taken i) × (k ≡ j + i)
+pub shift-taken : (j : ℕ) (r : LineRead) (k : ℕ) → shiftBy j r ≡ Taken k → (i : ℕ) × (r ≡ Taken i) × (k ≡ j + i)
 shift-taken j (Taken i) k e = (i, refl, cc)
 shift-taken j (Fault number at) k e = let z : _≡_ {A = ℕ} 0 1 = cc in absurd (omega arith)
 

@@ -13,7 +13,7 @@ use Rattle.text.specs.declared.LineRead.{LineRead}
 use Rattle.text.specs.declared.LineRead.the-variants.{Taken, Fault}
 use Rattle.text.specs.Limit.{Limit, limitsOf}
 use Rattle.text.specs.Field.{agreed}
-use Rattle.text.specs.Line.{Line, lineOf, Reading, Reads, shift, after, refused, ender, onEntry, readEntry, readNumbers, readLine}
+use Rattle.text.specs.Line.{Line, lineOf, Reading, Reads, shiftBy, after, refused, ender, onEntry, readEntry, readNumbers, readLine}
 use Rattle.text.proofs.Field.{agreed-fits}
 use Rattle.text.proofs.Stores.{rest-part}
 use Rattle.text.proofs.Entry.{reach, entry-reach}
@@ -34,7 +34,7 @@ abbrev pub extent : LineRead → ℕ
 extent (Taken n) = n
 extent (Fault number at) = at
 
-pub extent-shift : (k : ℕ) (r : LineRead) → extent (shift k r) ≡ k + extent r
+pub extent-shift : (k : ℕ) (r : LineRead) → extent (shiftBy k r) ≡ k + extent r
 extent-shift k (Taken n) = refl
 extent-shift k (Fault number at) = refl
 
@@ -70,7 +70,7 @@ module _ (tag : List ℕ) (table : List (List ℕ)) (t o₀ : List ℕ) (same : 
     tag-fits = omega (arith, agreed-fits tag t)
 
     module _ {r : LineRead} {o : List ℕ} (p : Reads (readNumbers (limitsOf table) 0 (take (length t - length tag) (drop (length tag) t))) o₀ r o) where
-      pub reads-tagged : Reads (readLine (lineOf tag table) t) o₀ (shift (length tag) r) o
+      pub reads-tagged : Reads (readLine (lineOf tag table) t) o₀ (shiftBy (length tag) r) o
       reads-tagged =
           let e : readLine (lineOf tag table) t ≡ after [] (length tag) (readNumbers (limitsOf table) 0 (take (length t - length tag) (drop (length tag) t))) =
           line-tagged (lineOf tag table) t (sym q ∙ d) ∙ rw (rest-part t (length tag)) in

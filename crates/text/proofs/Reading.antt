@@ -14,18 +14,18 @@ use Rattle.text.specs.declared.LineRead.{LineRead}
 use Rattle.text.specs.declared.LineRead.the-variants.{Taken, Fault}
 use Rattle.text.specs.Quoted.{tab, feed}
 use Rattle.text.specs.Limit.{Limit, limitsOf}
-use Rattle.text.specs.Line.{Reading, Reads, shift, after, nothing, refused, ender, onEntry, readEntry, readNumbers}
+use Rattle.text.specs.Line.{Reading, Reads, shiftBy, after, nothing, refused, ender, onEntry, readEntry, readNumbers}
 use Rattle.text.proofs.Stores.{sets-snoc}
 use Rattle.text.proofs.Limit.{limitAt, limits-more, limits-end, length-limits}
 use Rattle.text.proofs.Entry.{reach, entry-reach}
 
 -- ---- one after another
 
-shift-zero : (r : LineRead) → shift 0 r ≡ r
+shift-zero : (r : LineRead) → shiftBy 0 r ≡ r
 shift-zero (Taken n) = rw (zero-add n)
 shift-zero (Fault number at) = rw (zero-add at)
 
-shift-shift : (j k : ℕ) (r : LineRead) → shift j (shift k r) ≡ shift (j + k) r
+shift-shift : (j k : ℕ) (r : LineRead) → shiftBy j (shiftBy k r) ≡ shiftBy (j + k) r
 shift-shift j k (Taken n) = rw (add-assoc j k n)
 shift-shift j k (Fault number at) = rw (add-assoc j k at)
 

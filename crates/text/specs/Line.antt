@@ -54,13 +54,13 @@ abbrev pub nothing : Reading
 nothing = record { ended = Taken 0; numbers = [] }
 
 -- how a reading ended, told from a start k bytes before it
-abbrev pub shift : ℕ → LineRead → LineRead
-shift k (Taken n) = Taken (k + n)
-shift k (Fault number at) = Fault number (k + at)
+abbrev pub shiftBy : ℕ → LineRead → LineRead
+shiftBy k (Taken n) = Taken (k + n)
+shiftBy k (Fault number at) = Fault number (k + at)
 
 -- the first k bytes gave ns; then p was read
 abbrev pub after : List ℕ → ℕ → Reading → Reading
-after ns k p = record { ended = shift k (p .ended); numbers = ns ++ p .numbers }
+after ns k p = record { ended = shiftBy k (p .ended); numbers = ns ++ p .numbers }
 
 -- p, and where it went well, next of the bytes of t that follow it
 abbrev pub followed : Reading → (List ℕ → Reading) → List ℕ → Reading

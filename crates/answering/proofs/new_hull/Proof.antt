@@ -2,7 +2,7 @@
 use Rattle.register.proofs.Refusals.{room-goes}
 use Rattle.register.specs.Refusals.{sheetOf}
 use Rattle.memory.specs.Updates.{entered}
-use Rattle.memory.specs.Layout.{count}
+use Rattle.memory.specs.Layout.{hullCount}
 use Rattle.sheet.specs.declared.Answer.the-variants.{Refused, Count}
 use Rattle.answering.proofs.Sheets.{read-ended, read-lent, read-long}
 use Rattle.answering.proofs.Settling.{refused, accepted, text-read, text-refused}
@@ -62,7 +62,7 @@ returns-2 c =
     let start = c .before .before .before .before .before .before .before .before .before .before .before in
     let at-if1 = c .before .before .before .before .before .before in
     let at-read-words = c .before .before .before .before in
-    accepted (at-room-refusal .room-refusal .ensures) (start .args .mem .now) (at-if1 .if1 .left) (text-refused (start .args .text .now) (Count (count (start .args .mem .now))) Refused (sym ((rw (c .before .fault .given .1) at (at-read-words .read-words .ensures)) .answer))) (text-refused (start .args .text .now) (entered (start .args .mem .now) (sheetOf (start .args .text .now))) (λ (n : ℕ). (start .args .mem .now)) (sym ((rw (c .before .fault .given .1) at (at-read-words .read-words .ensures)) .answer)))
+    accepted (at-room-refusal .room-refusal .ensures) (start .args .mem .now) (at-if1 .if1 .left) (text-refused (start .args .text .now) (Count (hullCount (start .args .mem .now))) Refused (sym ((rw (c .before .fault .given .1) at (at-read-words .read-words .ensures)) .answer))) (text-refused (start .args .text .now) (entered (start .args .mem .now) (sheetOf (start .args .text .now))) (λ (n : ℕ). (start .args .mem .now)) (sym ((rw (c .before .fault .given .1) at (at-read-words .read-words .ensures)) .answer)))
 
 same-length-3 : tie.Need-same-length-3
 same-length-3 c = search needs
@@ -74,7 +74,7 @@ returns-3 c =
     let at-if1 = c .before .before .before .before .before .before .before .before .before .before .before in
     let at-enum-told = c .before .before .before .before .before .before in
     let at-read-words = c .before .before .before .before .before .before .before .before .before in
-    accepted (at-room-refusal .room-refusal .ensures) (start .args .mem .now) (at-if1 .if1 .left) (ap Count (c .before .before .enter-hull .ensures .0) ∙ text-read (start .args .text .now) (Count (count (start .args .mem .now))) Refused (read-ended (start .args .text .now) (rw (at-enum-told .enum-told .given .1) at (at-read-words .read-words .ensures)))) (c .before .before .enter-hull .ensures .1 ∙ (ap (entered (start .args .mem .now)) (read-lent (start .args .text .now) (rw (at-enum-told .enum-told .given .1) at (at-read-words .read-words .ensures))) ∙ text-read (start .args .text .now) (entered (start .args .mem .now) (sheetOf (start .args .text .now))) (λ (n : ℕ). (start .args .mem .now)) (read-ended (start .args .text .now) (rw (at-enum-told .enum-told .given .1) at (at-read-words .read-words .ensures)))))
+    accepted (at-room-refusal .room-refusal .ensures) (start .args .mem .now) (at-if1 .if1 .left) (ap Count (c .before .before .enter-hull .ensures .0) ∙ text-read (start .args .text .now) (Count (hullCount (start .args .mem .now))) Refused (read-ended (start .args .text .now) (rw (at-enum-told .enum-told .given .1) at (at-read-words .read-words .ensures)))) (c .before .before .enter-hull .ensures .1 ∙ (ap (entered (start .args .mem .now)) (read-lent (start .args .text .now) (rw (at-enum-told .enum-told .given .1) at (at-read-words .read-words .ensures))) ∙ text-read (start .args .text .now) (entered (start .args .mem .now) (sheetOf (start .args .text .now))) (λ (n : ℕ). (start .args .mem .now)) (read-ended (start .args .text .now) (rw (at-enum-told .enum-told .given .1) at (at-read-words .read-words .ensures)))))
 
 pub new-hull-spec : {M : Type 1} → statement M
 new-hull-spec =

@@ -1,7 +1,7 @@
 -- `boat_of` meets its contract. Assumes nothing.
 use mathlib.Core.Path.{ap, _∙_}
 use Rattle.text.proofs.Stores.{rest-part}
-use Rattle.plates.specs.Weights.{sum}
+use Rattle.plates.specs.Weights.{addedUp}
 use Rattle.plates.proofs.Loads.{boat-is, boat-most}
 use native.Mathlib.Omega.{arith}
 use borrow.Author.Needs.{needs}
@@ -31,12 +31,12 @@ fittings-weight-requires c κs =
 add-result : tie.Need-add-result
 add-result c =
     let start = c .before .before .before .before .before in
-    omega (arith, c .before .before .wide .ensures, c .fittings-weight .ensures ∙ ap sum (rest-part (start .args .sheet .now) 44), boat-is (start .args .sheet .now), boat-most (start .args .sheet .now) (start .pre))
+    omega (arith, c .before .before .wide .ensures, c .fittings-weight .ensures ∙ ap addedUp (rest-part (start .args .sheet .now) 44), boat-is (start .args .sheet .now), boat-most (start .args .sheet .now) (start .pre))
 
 returns : tie.Need-returns
 returns c =
     let start = c .before .before .before .before .before in
-    omega (arith, c .before .before .wide .ensures, c .fittings-weight .ensures ∙ ap sum (rest-part (start .args .sheet .now) 44), boat-is (start .args .sheet .now))
+    omega (arith, c .before .before .wide .ensures, c .fittings-weight .ensures ∙ ap addedUp (rest-part (start .args .sheet .now) 44), boat-is (start .args .sheet .now))
 
 pub boat-of-spec : {M : Type 1} → statement M
 boat-of-spec =

@@ -2,7 +2,7 @@
 use mathlib.Core.Path.{_≡_}
 use Prim.Native.Nat.{_≤_, _+_, _-_, _*_}
 use lib.ListN.{length, drop}
-use Rattle.plates.specs.Weights.{sum}
+use Rattle.plates.specs.Weights.{addedUp}
 use Rattle.plates.proofs.Volume.{sum-more, sum-end}
 use native.Mathlib.Omega.{arith}
 use borrow.Author.Needs.{needs}
@@ -10,7 +10,7 @@ use Rattle.figuring.proofs.fittings_weight.Statement.{statement}
 use Rattle.figuring.proofs.fittings_weight.Tie as tie
 
 abbrev Inv-loop : tie.InvT-loop
-Inv-loop weights total₀ i₀ total i = (i ≤ length weights) × (total + sum (drop i weights) ≡ sum weights) × (total ≤ 500000 * i)
+Inv-loop weights total₀ i₀ total i = (i ≤ length weights) × (total + addedUp (drop i weights) ≡ addedUp weights) × (total ≤ 500000 * i)
 
 abbrev μ-loop : tie.MeasureT-loop
 μ-loop weights total₀ i₀ total i = length weights - i

@@ -3,7 +3,7 @@ use Rattle.plates.proofs.Answers.{c-rows, c-unloaded, c-unreached, c-untested, 
 use Rattle.plates.proofs.Persons.{live-is, persons-most}
 use Rattle.plates.proofs.Loads.{c-most}
 use Rattle.plates.specs.PlateC.{markedC, liveLoad, persons, untested}
-use Rattle.plates.specs.Whole.{whole}
+use Rattle.plates.specs.Whole.{orZero}
 use borrow.Author.Tests.{eqb-false, eq-eqb, ne-eqb}
 use lib.IntN.{ℤ, subℕ}
 use lib.Dec.{eqb}
@@ -16,7 +16,7 @@ use Rattle.figuring.proofs.plate_c.Statement.{statement}
 use Rattle.figuring.proofs.plate_c.Tie as tie
 
 -- there is a load
-loaded : (c : tie.Else2) → eqb (whole (markedC (c .before .before .before .before .before .before .before .args .sheet .now))) 0 ≡ false
+loaded : (c : tie.Else2) → eqb (orZero (markedC (c .before .before .before .before .before .before .before .args .sheet .now))) 0 ≡ false
 loaded c = sym (ap (λ (x : ℕ). eqb x 0) (c .before .marked-c .ensures)) ∙ ne-eqb _ _ (c .if2 .left)
 
 -- the live load is what is left of it above the engine
@@ -95,7 +95,7 @@ returns-4 c =
     let at-no-row = c .before .before .before .before .before .before .before in
     let at-if3 = c .before .before .before .before .before .before in
     let at-is-untested = c .before .before .before in
-    c-empty (start .args .sheet .now) (start .args .powers .now) (start .args .weights .now) (sym (at-rows-right .rows-right .ensures) ∙ at-if1 .if1 .taken) (loaded ((c .before .before .before .before .before .before .before .before))) (sym (at-no-row .no-row .ensures) ∙ at-if3 .if3 .left) (ap (untested (start .args .sheet .now)) (sym (live ((c .before .before .before .before)))) ∙ (sym (at-is-untested .is-untested .ensures) ∙ c .before .before .if4 .left)) (sym (ap (λ (x : ℕ). eqb x 0) (c .before .persons-for .ensures ∙ ap (λ (z : ℤ). whole (persons (start .args .sheet .now) z)) (live ((c .before .before .before .before))))) ∙ eq-eqb _ _ (c .if5 .taken))
+    c-empty (start .args .sheet .now) (start .args .powers .now) (start .args .weights .now) (sym (at-rows-right .rows-right .ensures) ∙ at-if1 .if1 .taken) (loaded ((c .before .before .before .before .before .before .before .before))) (sym (at-no-row .no-row .ensures) ∙ at-if3 .if3 .left) (ap (untested (start .args .sheet .now)) (sym (live ((c .before .before .before .before)))) ∙ (sym (at-is-untested .is-untested .ensures) ∙ c .before .before .if4 .left)) (sym (ap (λ (x : ℕ). eqb x 0) (c .before .persons-for .ensures ∙ ap (λ (z : ℤ). orZero (persons (start .args .sheet .now) z)) (live ((c .before .before .before .before))))) ∙ eq-eqb _ _ (c .if5 .taken))
 
 cast-t11 : tie.Need-cast-t11
 cast-t11 c =
@@ -119,7 +119,7 @@ returns-5 c =
     let at-if3 = c .before .before .before .before .before .before in
     let at-is-untested = c .before .before .before in
     let at-marked-c = c .before .before .before .before .before .before .before .before .before in
-    c-marks (start .args .sheet .now) (start .args .powers .now) (start .args .weights .now) (sym (at-rows-right .rows-right .ensures) ∙ at-if1 .if1 .taken) (loaded ((c .before .before .before .before .before .before .before .before))) (sym (at-no-row .no-row .ensures) ∙ at-if3 .if3 .left) (ap (untested (start .args .sheet .now)) (sym (live ((c .before .before .before .before)))) ∙ (sym (at-is-untested .is-untested .ensures) ∙ c .before .before .if4 .left)) (sym (ap (λ (x : ℕ). eqb x 0) (c .before .persons-for .ensures ∙ ap (λ (z : ℤ). whole (persons (start .args .sheet .now) z)) (live ((c .before .before .before .before))))) ∙ ne-eqb _ _ (c .if5 .left)) (at-marked-c .marked-c .ensures) (c .before .persons-for .ensures ∙ ap (λ (z : ℤ). whole (persons (start .args .sheet .now) z)) (live ((c .before .before .before .before))))
+    c-marks (start .args .sheet .now) (start .args .powers .now) (start .args .weights .now) (sym (at-rows-right .rows-right .ensures) ∙ at-if1 .if1 .taken) (loaded ((c .before .before .before .before .before .before .before .before))) (sym (at-no-row .no-row .ensures) ∙ at-if3 .if3 .left) (ap (untested (start .args .sheet .now)) (sym (live ((c .before .before .before .before)))) ∙ (sym (at-is-untested .is-untested .ensures) ∙ c .before .before .if4 .left)) (sym (ap (λ (x : ℕ). eqb x 0) (c .before .persons-for .ensures ∙ ap (λ (z : ℤ). orZero (persons (start .args .sheet .now) z)) (live ((c .before .before .before .before))))) ∙ ne-eqb _ _ (c .if5 .left)) (at-marked-c .marked-c .ensures) (c .before .persons-for .ensures ∙ ap (λ (z : ℤ). orZero (persons (start .args .sheet .now) z)) (live ((c .before .before .before .before))))
 
 returns-6 : tie.Need-returns-6
 returns-6 c =

@@ -1,6 +1,6 @@
 -- `power_a` meets its contract. Assumes nothing.
 use lib.Dec.{eqb, lit<}
-use Rattle.plates.specs.Words.{flat}
+use Rattle.plates.specs.Words.{flatBottom}
 use borrow.Author.Tests.{eq-eqb, ne-eqb}
 use mathlib.Core.Path.{_∙_}
 use mathlib.Core.Logic.{inl, inr}
@@ -74,7 +74,7 @@ returns-4 c =
     let at-wide2 = c .before .before .before .before .before .before in
     let at-if1 = c .before .before .before .before in
     let at-if2 = c .before .before .before in
-    c .row-watts2 .ensures ∙ by-row (start .args .sheet .now) (factor-is (start .args .sheet .now) (at-wide .wide .ensures) (at-wide2 .wide2 .ensures)) (ne-eqb _ _ (at-if1 .if1 .left)) (at-if2 .if2 .left) (elim (c .before .if3 .came) [ inl x ↦ second-fails (eqb (flat (start .args .sheet .now)) 1) (x .1 .left) | inr x ↦ first-fails _ (ne-eqb _ _ (x .left)) ])
+    c .row-watts2 .ensures ∙ by-row (start .args .sheet .now) (factor-is (start .args .sheet .now) (at-wide .wide .ensures) (at-wide2 .wide2 .ensures)) (ne-eqb _ _ (at-if1 .if1 .left)) (at-if2 .if2 .left) (elim (c .before .if3 .came) [ inl x ↦ second-fails (eqb (flatBottom (start .args .sheet .now)) 1) (x .1 .left) | inr x ↦ first-fails _ (ne-eqb _ _ (x .left)) ])
 
 pub power-a-spec : {M : Type 1} → statement M
 power-a-spec =

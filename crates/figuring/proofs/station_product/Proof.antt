@@ -1,7 +1,7 @@
 -- `station_product` meets its contract. Assumes nothing.
 use native.Mathlib.Nat.{mul-le-mul, lt-of-le-of-lt}
 use lib.Dec.{lit<}
-use Rattle.plates.specs.Volume.{product}
+use Rattle.plates.specs.Volume.{stationProduct}
 use native.Mathlib.Omega.{arith}
 use borrow.Author.Needs.{needs}
 use Rattle.figuring.proofs.station_product.Statement.{statement}
@@ -83,7 +83,7 @@ mul-result-6 : tie.Need-mul-result-6
 mul-result-6 c = record { fits = lt-of-le-of-lt (mul-le-mul {n₂ = 4000} {m₂ = 37500} (omega arith) (omega arith)) (lit< tt) }
 
 returns : tie.Need-returns
-unfolding product
+unfolding stationProduct
 returns c =
     let at-wide6 = c .before in
     let at-wide5 = c .before .before in
