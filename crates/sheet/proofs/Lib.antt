@@ -16,3 +16,4 @@ pub mod EngineTrip
 pub mod Calls
 pub mod Refused
 pub mod Examples
+pub mod Ends
