@@ -12,4 +12,8 @@ pub mod Persons
 pub mod Engines
 pub mod RowsRead
 pub mod Answers
+pub mod Boats
+pub mod CasesA
+pub mod CasesC
+pub mod CasesU
 pub mod Samples

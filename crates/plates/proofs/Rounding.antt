@@ -2,7 +2,7 @@
 use mathlib.Core.Path.{_≡_, refl}
 use mathlib.Core.Bool.{Bool, true, false}
 use mathlib.Core.List.{List}
-use Prim.Native.Nat.{ℕ, _+_, _-_, _*_, _/_, _≤_, _<_}
+use Prim.Native.Nat.{ℕ, _+_, _-_, _*_, _/_, _%_, _≤_, _<_}
 use native.Mathlib.Nat.{mul-add, mul-le-mul, mul-div-le, lt-mul-div-succ}
 use native.Mathlib.Omega.{arith}
 use borrow.Author.Tests.{lt-ltb, le-ltb, ltb-true, ltb-false}
@@ -77,6 +77,9 @@ ceil-reaches : (a d : ℕ) → 0 < d → a ≤ d * ceilDiv a d
 ceil-reaches a d p = omega (arith, lt-mul-div-succ (a + (d - 1)) p, mul-add d (ceilDiv a d) 1)
 
 -- a / d watts raised: a multiple of 5000 that reaches them, and no lesser one does
+pub raised-multiple : (a d : ℕ) → raised a d % 5000 ≡ 0
+raised-multiple a d = omega arith
+
 pub raised-reaches : (a d : ℕ) → 0 < d → a ≤ d * raised a d
 raised-reaches a d p = omega (arith, ceil-reaches a (5000 * d) (omega arith))
 

@@ -1,4 +1,4 @@
--- 01, Sample sheets, and 02 (i): the base hull, what a case changes of it and what it says. Starred cases 1 to 7, which are of a sheet. Assumes nothing: these are definitions.
+-- 01, Sample sheets: the base hull, what a case changes of it and what it says. Starred cases 1 to 7, which are of a sheet. Assumes nothing: these are definitions.
 use mathlib.Core.Bool.{Bool, false, _&&_}
 use mathlib.Core.List.{List, [], _∷_, _++_}
 use Prim.Native.Nat.{ℕ}
@@ -10,7 +10,6 @@ use Rattle.sheet.specs.declared.Answer.the-variants.{Refused, Done, Count, Plat
 use Rattle.sheet.specs.Sheet.{wordsOk}
 use Rattle.plates.specs.PlateC.{markedC, plateC}
 use Rattle.plates.specs.PlateA.{markedA, plateA}
-use Rattle.plates.specs.PlateU.{plateU}
 
 -- ---- the base hull, and what a case changes of it
 
@@ -58,7 +57,7 @@ inboard = words 4000 (record { long = 4500; wide = 1200; flat = 0; remote = 0; b
 -- ---- what a case says of its sheet
 
 pub data Said : Type 0 where
-  loadC loadA powerA-is persons-are refusedC refusedA poundsU refusedU : ℕ → Said
+  loadC loadA powerA-is refusedC refusedA : ℕ → Said
 
 pub record Case : Type 0 where
   pub sheet : List ℕ
@@ -81,12 +80,6 @@ refuses Done n = false
 refuses (Count m) n = false
 refuses (Plate a b) n = false
 
-unfoldable pub says-count : Answer → ℕ → Bool
-says-count (Refused m) n = false
-says-count Done n = false
-says-count (Count m) n = eqb m n
-says-count (Plate a b) n = false
-
 unfoldable pub second-is : Answer → ℕ → Bool
 second-is (Refused m) n = false
 second-is Done n = false
@@ -101,11 +94,8 @@ unfoldable pub holds-of : List ℕ → Said → Bool
 holds-of s (loadC n) = marks (markedC s) n && agrees (answer-c s) n
 holds-of s (loadA n) = marks (markedA s) n && agrees (plateA s) n
 holds-of s (powerA-is n) = second-is (plateA s) n
-holds-of s (persons-are n) = second-is (answer-c s) n
 holds-of s (refusedC n) = refuses (answer-c s) n
 holds-of s (refusedA n) = refuses (plateA s) n
-holds-of s (poundsU n) = says-count (plateU s) n
-holds-of s (refusedU n) = refuses (plateU s) n
 
 -- a case stands: its sheet is within the limits, and what it says holds
 unfoldable pub stands : Case → Bool
