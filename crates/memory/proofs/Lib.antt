@@ -8,3 +8,4 @@ pub mod Fittings
 pub mod OneSlot
 pub mod Changes
 pub mod Keeps
+pub mod Memories

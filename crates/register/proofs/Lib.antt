@@ -4,3 +4,4 @@ pub mod Own
 pub mod Keeps
 pub mod Effects
 pub mod Examples
+pub mod Orders
