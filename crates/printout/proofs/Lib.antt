@@ -1,6 +1,5 @@
 -- Laws that the proofs of the functions here go by.
 pub mod Examples
-pub mod Faults
 pub mod Input
 pub mod PrintCall
 pub mod Printed

@@ -1,6 +1,7 @@
 -- What is printed, path by path; and it is never longer than 60 bytes, two lines of two figures of ten digits each. Assumes nothing.
-use mathlib.Core.Path.{_≡_, refl, ap}
-use mathlib.Core.Bool.{Bool, true, false, not}
+use mathlib.Core.Path.{_≡_, refl}
+use mathlib.Core.Bool.{Bool, true, false, not, cond}
+use mathlib.Core.Logic.{_⊎_, inl, inr}
 use mathlib.Core.List.{List, [], _∷_, _++_}
 use Prim.Native.Nat.{ℕ, _+_, _≤_, _<_}
 use native.Mathlib.Omega.{arith}
@@ -19,6 +20,7 @@ use Rattle.sheet.specs.Reading.{readSheet}
 use Rattle.sheet.specs.Engines.{readEngines, powersOf, weightsOf}
 use Rattle.sheet.proofs.Words.{words-of}
 use Rattle.sheet.proofs.SheetTrip.{reads-written}
+use Rattle.sheet.proofs.Faults.{sheet-fault, engines-fault}
 use Rattle.plates.specs.Whole.{isBelow}
 use Rattle.plates.specs.PlateA.{markedA, noPower, plateA}
 use Rattle.plates.specs.PlateC.{markedC, rowsRight, noRow, liveLoad, untested, persons, plateC}
@@ -29,7 +31,6 @@ use Rattle.plates.proofs.Power.{power-most}
 use Rattle.plates.proofs.Persons.{persons-most}
 use Rattle.printout.specs.Input.{mostInput, sheetPart, enginePart}
 use Rattle.printout.specs.Printed.{figures, inputText, plateText, platesText, rowsPrinted, printed}
-use Rattle.printout.proofs.Faults.{faultOf, either, sheet-low, engines-low}
 
 -- ---- path by path
 
@@ -74,6 +75,11 @@ two-length tag a b =
     let rest : List ℕ = digitsOf b ++ (10 ∷ []) in
     omega (arith, length-append tag (digitsOf a ++ (9 ∷ rest)), length-append (digitsOf a) (9 ∷ rest), length-append (digitsOf b) (10 ∷ []))
 
+-- a text's refusal is 2 or 3
+low : {number : ℕ} → (number ≡ 2) ⊎ (number ≡ 3) → number ≤ 3
+low (inl e) = omega arith
+low (inr e) = omega arith
+
 input-most : (number : ℕ) → number ≤ 3 → length (inputText number) ≤ mostPrinted
 input-most number h = omega (arith, one-length (bytes "INPUT\t") number, length-digits-ten number (omega arith))
 
@@ -93,6 +99,10 @@ plate-most l k (Plate a b) h = omega (arith, two-length (bytes "PLATE\t" ++ (l �
 
 both-most : (a b : ℕ) → a ≤ 30 → b ≤ 30 → a + b ≤ mostPrinted
 both-most a b h k = omega arith
+
+either : {A : Type 0} (number : A → ℕ) {n : ℕ} (u : Bool) {a b : A} → number a ≤ n → number b ≤ n → number (cond u a b) ≤ n
+either number true h k = h
+either number false h k = k
 
 module _ (s : List ℕ) (b : Bounds s) where
   a-small : sumOf (plateA s) ≤ 320000
@@ -118,7 +128,7 @@ module _ (s : List ℕ) (b : Bounds s) where
     where
       go : (r : LineRead) → readEngines t .ended ≡ r → length (rowsPrinted s t) ≤ mostPrinted
       go (Taken k) e = rw (rows-plates s t e) (plates-most (powersOf (readEngines t .numbers)) (weightsOf (readEngines t .numbers)))
-      go (Fault number at) e = rw (rows-fault s t e) (input-most number (omega (arith, ap faultOf e, engines-low t)))
+      go (Fault number at) e = rw (rows-fault s t e) (input-most number (low (engines-fault t number at e)))
 
 -- of any input
 pub printed-most : (t : List ℕ) → length (printed t) ≤ mostPrinted
@@ -126,7 +136,7 @@ printed-most t = go (ltb mostInput (length t)) refl
   where
     sheet : length t ≤ mostInput → (r : LineRead) → readSheet (sheetPart t) .ended ≡ r → length (printed t) ≤ mostPrinted
     sheet h (Taken k) e = rw (printed-rows t h e) (rows-most (drop 1 (readSheet (sheetPart t) .numbers)) (read-bounds (sheetPart t) k e) (enginePart t))
-    sheet h (Fault number at) e = rw (printed-fault t h e) (input-most number (omega (arith, ap faultOf e, sheet-low (sheetPart t))))
+    sheet h (Fault number at) e = rw (printed-fault t h e) (input-most number (low (sheet-fault (sheetPart t) number at e)))
 
     go : (u : Bool) → ltb mostInput (length t) ≡ u → length (printed t) ≤ mostPrinted
     go true e = rw (printed-long t (ltb-true mostInput (length t) e)) (input-most 2 (omega arith))

@@ -45,10 +45,6 @@ kept-text t a x m f = go (readSheet t .ended)
 pub fresh-refused : (m : List ℕ) → isRefusal (freshAnswer m) ≡ true → freshMemory m ≡ m
 fresh-refused m e = kept-refused (freshRefusal m) Done freshWords m none-refused e
 
--- the memory and its room are judged before the text
-pub room-first : (m t : List ℕ) → (roomRefusal m ≡ 0 → ⊥) → newAnswer m t ≡ Refused (roomRefusal m)
-room-first m t n = rw (ne-eqb (roomRefusal m) 0 n) refl
-
 pub new-refused : (m t : List ℕ) → isRefusal (newAnswer m t) ≡ true → newMemory m t ≡ m
 new-refused m t e = kept-refused (roomRefusal m) (onText t (Count (hullCount m)) Refused) _ m (kept-text t (Count (hullCount m)) _ m refl) e
 
@@ -60,10 +56,6 @@ put-refused m d line w e = kept-refused (putRefusal m d line w) Done _ m none-re
 
 pub take-refused : (m : List ℕ) (d line : ℕ) → isRefusal (takeAnswer m d line) ≡ true → takeMemory m d line ≡ m
 take-refused m d line e = kept-refused (takeRefusal m d line) Done _ m none-refused e
-
--- the desk and its draft are judged before the text
-pub draft-first : (m : List ℕ) (d : ℕ) (t : List ℕ) → (deskRefusal m d ≡ 0 → ⊥) → replaceAnswer m d t ≡ Refused (deskRefusal m d)
-draft-first m d t n = rw (ne-eqb (deskRefusal m d) 0 n) refl
 
 pub replace-refused : (m : List ℕ) (d : ℕ) (t : List ℕ) → isRefusal (replaceAnswer m d t) ≡ true → replaceMemory m d t ≡ m
 replace-refused m d t e = kept-refused (deskRefusal m d) (onText t Done Refused) _ m (kept-text t Done _ m refl) e

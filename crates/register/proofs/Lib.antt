@@ -5,3 +5,5 @@ pub mod Keeps
 pub mod Effects
 pub mod Examples
 pub mod Orders
+pub mod Listed
+pub mod First

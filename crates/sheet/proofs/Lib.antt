@@ -15,5 +15,7 @@ pub mod SheetTrip
 pub mod EngineTrip
 pub mod Calls
 pub mod Refused
+pub mod Faults
+pub mod Listed
 pub mod Examples
 pub mod Ends

@@ -1,8 +1,10 @@
--- A sheet's words without its HULL number: they are within the limits of a sheet. Assumes nothing.
+-- A sheet's words without its HULL number: they are within the limits where the sheet is, and the other way round. Assumes nothing.
 use mathlib.Core.Path.{_≡_, refl, sym, _∙_}
-use mathlib.Core.Bool.{true, true≢false}
+use mathlib.Core.Bool.{Bool, true, _&&_, true≢false}
 use mathlib.Core.List.{List, [], _∷_}
-use Prim.Native.Nat.{ℕ}
+use Prim.Native.Nat.{ℕ, _≤_}
+use native.Mathlib.Omega.{arith}
+use borrow.Author.Tests.{le-leb}
 use lib.ListN.{drop}
 use Rattle.text.specs.Limit.{holds, ranging, allHold}
 use Rattle.text.proofs.Number.{both-hold}
@@ -17,3 +19,14 @@ pub words-of : (s : List ℕ) → sheetOk s ≡ true → wordsOk (drop 1 s) ≡ 
 unfolding sheetLimits limitsOn allHold
 words-of [] h = absurd (true≢false (sym h))
 words-of (n ∷ ns) h = hold-free (drop 1 sheetLimits) 0 n ns opens-words ∙ both-hold (holds (ranging 0 15) 0 n) (allHold (drop 1 sheetLimits) n ns) h .1
+
+-- and the words with a HULL number before them are a sheet within the limits
+pub numbered : (n : ℕ) (s : List ℕ) → n ≤ 15 → wordsOk s ≡ true → sheetOk (n ∷ s) ≡ true
+unfolding sheetLimits limitsOn allHold
+numbered n s l h = both-true (within-hold n l) (hold-free (drop 1 sheetLimits) n 0 s opens-words ∙ h)
+  where
+    both-true : {a b : Bool} → a ≡ true → b ≡ true → (a && b) ≡ true
+    both-true e f = rw (e, f) refl
+
+    within-hold : (n : ℕ) → n ≤ 15 → holds (ranging 0 15) 0 n ≡ true
+    within-hold n l = rw (le-leb 0 n (omega arith), le-leb n 15 l) refl

@@ -1,0 +1,164 @@
+-- 01, Refusal numbers: a text is refused with 2 or 3 and with no other number. Assumes nothing.
+use mathlib.Core.Path.{_≡_, refl, sym, _∙_}
+use mathlib.Core.Bool.{Bool, true, false, _&&_, _||_, cond, true≢false}
+use mathlib.Core.Logic.{_⊎_, inl, inr}
+use mathlib.Core.List.{List, [], _∷_}
+use Prim.Native.Nat.{ℕ, zero, suc}
+use borrow.Author.Tests.{eqb-true, eqb-false}
+use lib.Dec.{eqb, ltb}
+use lib.ListN.{length, drop, getD}
+use Rattle.text.specs.declared.NumberRead.{NumberRead}
+use Rattle.text.specs.declared.NumberRead.the-variants.{Value, Malformed}
+use Rattle.text.specs.declared.EntryRead.{EntryRead}
+use Rattle.text.specs.declared.EntryRead.the-variants.{Number, Misread}
+use Rattle.text.specs.declared.LineRead.{LineRead}
+use Rattle.text.specs.declared.LineRead.the-variants.{Taken, Fault}
+use Rattle.text.specs.Quoted.{dash}
+use Rattle.text.specs.Field.{fieldOf, begins, agreed}
+use Rattle.text.specs.Number.{numberOf}
+use Rattle.text.specs.Limit.{Limit, orNone, within}
+use Rattle.text.specs.Line.{Line, Reading, shiftBy, followed, onEntry, judged, ender, readEntry, readNumbers, readLine}
+use Rattle.text.proofs.Line.{line-tagged, line-untagged}
+use Rattle.sheet.specs.Lines.{lines, fittings, fitLine, endLine, engineLine, mostRows, mostBytes}
+use Rattle.sheet.specs.Reading.{fitByte, onFit, readLines, readFits, readStop, readEnd, readRest, readSheet}
+use Rattle.sheet.specs.Engines.{orStop, onRow, readRows, readEngines}
+use Rattle.sheet.proofs.Fits.{fits-more, fits-none}
+
+-- whether a number is one of the two
+abbrev twoOrThree : ℕ → Bool
+twoOrThree number = eqb number 2 || eqb number 3
+
+-- whether a reading ended well, or with one of them
+abbrev byNumber : LineRead → Bool
+byNumber (Taken k) = true
+byNumber (Fault number at) = twoOrThree number
+
+abbrev Textual : Reading → Type 0
+Textual p = byNumber (p .ended) ≡ true
+
+-- what holds of both holds of either
+pub either : {A : Type 0} (f : A → Bool) (u : Bool) {a b : A} → f a ≡ true → f b ≡ true → f (cond u a b) ≡ true
+either f true h k = h
+either f false h k = k
+
+shifted : (k : ℕ) (r : LineRead) → byNumber r ≡ true → byNumber (shiftBy k r) ≡ true
+shifted k (Taken n) h = h
+shifted k (Fault number at) h = h
+
+followed-textual : (p : Reading) (next : List ℕ → Reading) (t : List ℕ) → Textual p → ((u : List ℕ) → Textual (next u)) → Textual (followed p next t)
+followed-textual p next t h ih = go (p .ended) refl
+  where
+    go : (r : LineRead) → p .ended ≡ r → Textual (followed p next t)
+    go (Taken k) e = rw e (shifted k (next (drop k t) .ended) (ih (drop k t)))
+    go (Fault number at) e = rw e (rw e at h)
+
+-- ---- a line
+
+abbrev entryBy : EntryRead → Bool
+entryBy (Number n k) = true
+entryBy (Misread number at) = twoOrThree number
+
+judged-textual : (r : NumberRead) (l : Limit) (last e len : ℕ) (t : List ℕ) → entryBy (judged r l last e len t) ≡ true
+judged-textual (Malformed at) l last e len t = refl
+judged-textual (Value n) l last e len t = either entryBy (begins e t) (either entryBy (within l last n) refl refl) refl
+
+entry-textual : (l : Limit) (last e : ℕ) (t : List ℕ) → entryBy (readEntry l last e t) ≡ true
+unfolding readEntry
+entry-textual l last e t =
+    either entryBy (eqb (l .rule) orNone && begins dash t) (either entryBy (begins e (drop 1 t)) refl refl)
+    (judged-textual (numberOf (fieldOf t)) l last e (length (fieldOf t)) (drop (length (fieldOf t)) t))
+
+on-entry : (r : EntryRead) (rest : ℕ → List ℕ → Reading) (t : List ℕ) → entryBy r ≡ true → ((n : ℕ) (u : List ℕ) → Textual (rest n u)) → Textual (onEntry r rest t)
+on-entry (Misread number at) rest t h ih = h
+on-entry (Number n k) rest t h ih = shifted k (rest n (drop k t) .ended) (ih n (drop k t))
+
+numbers-textual : (ls : List Limit) (last : ℕ) (t : List ℕ) → Textual (readNumbers ls last t)
+unfolding readNumbers
+numbers-textual [] last t = refl
+numbers-textual (l ∷ ls) last t = on-entry (readEntry l last (ender ls) t) (readNumbers ls) t (entry-textual l last (ender ls) t) (numbers-textual ls)
+
+line-textual : (l : Line) (t : List ℕ) → Textual (readLine l t)
+line-textual l t = go (eqb (agreed (l .tag) t) (length (l .tag))) refl
+  where
+    go : (u : Bool) → eqb (agreed (l .tag) t) (length (l .tag)) ≡ u → Textual (readLine l t)
+    go true e =
+        let n : ℕ = length (l .tag) in
+        rw (line-tagged l t (eqb-true (agreed (l .tag) t) n e)) (shifted n (readNumbers (l .limits) 0 (drop n t) .ended) (numbers-textual (l .limits) 0 (drop n t)))
+    go false e = rw (line-untagged l t (eqb-false (agreed (l .tag) t) (length (l .tag)) e)) refl
+
+-- ---- a sheet
+
+lines-textual : (ls : List Line) (t : List ℕ) → Textual (readLines ls t)
+unfolding readLines
+lines-textual [] t = refl
+lines-textual (l ∷ ls) t = followed-textual (readLine l t) (readLines ls) t (line-textual l t) (lines-textual ls)
+
+on-fit : (next : ℕ) (p : Reading) (rest : ℕ → List ℕ → Reading) (t : List ℕ) → Textual p → ((n : ℕ) (u : List ℕ) → Textual (rest n u)) → Textual (onFit next p rest t)
+on-fit next p rest t h ih = go (p .ended) refl
+  where
+    go : (r : LineRead) → p .ended ≡ r → Textual (onFit next p rest t)
+    go (Taken k) e = let n : ℕ = suc (getD (p .numbers) 0 0) in rw e (shifted k (rest n (drop k t) .ended) (ih n (drop k t)))
+    go (Fault number at) e = rw e (rw e at h)
+
+fits-textual : (left next : ℕ) (t : List ℕ) → Textual (readFits left next t)
+unfolding readFits
+fits-textual zero next t = refl
+fits-textual (suc left) next t = go (begins fitByte t) refl (fits-textual left)
+  where
+    go : (u : Bool) → begins fitByte t ≡ u → ((n : ℕ) (u : List ℕ) → Textual (readFits left n u)) → Textual (readFits (suc left) next t)
+    go true e ih = rw (fits-more left next t e) (on-fit next (readLine (fitLine next) t) (readFits left) t (line-textual (fitLine next) t) ih)
+    go false e ih = rw (fits-none (suc left) next t e) refl
+
+stop-textual : (t : List ℕ) → Textual (readStop t)
+stop-textual [] = refl
+stop-textual (b ∷ t) = refl
+
+end-textual : (t : List ℕ) → Textual (readEnd t)
+unfolding readEnd
+end-textual t = followed-textual (readLine endLine t) readStop t (line-textual endLine t) stop-textual
+
+rest-textual : (t : List ℕ) → Textual (readRest t)
+unfolding readRest
+rest-textual t = followed-textual (readFits fittings 1 t) readEnd t (fits-textual fittings 1 t) end-textual
+
+sheet-textual : (t : List ℕ) → Textual (readSheet t)
+unfolding readSheet
+sheet-textual t = either (λ (p : Reading). byNumber (p .ended)) (ltb mostBytes (length t)) refl (followed-textual (readLines lines t) readRest t (lines-textual lines t) rest-textual)
+
+-- ---- engine rows
+
+on-row : (p : Reading) (more : ℕ → List ℕ → Reading) (t : List ℕ) → Textual p → ((n : ℕ) (u : List ℕ) → Textual (more n u)) → Textual (onRow p more t)
+on-row p more t h ih = go (p .ended) refl
+  where
+    stopped : (n : ℕ) (u : List ℕ) → Textual (orStop (more n) u)
+    stopped n [] = refl
+    stopped n (b ∷ u) = ih n (b ∷ u)
+
+    go : (r : LineRead) → p .ended ≡ r → Textual (onRow p more t)
+    go (Taken k) e = let n : ℕ = suc (getD (p .numbers) 0 0) in rw e (shifted k (orStop (more n) (drop k t) .ended) (stopped n (drop k t)))
+    go (Fault number at) e = rw e (rw e at h)
+
+rows-textual : (left next : ℕ) (t : List ℕ) → Textual (readRows left next t)
+unfolding readRows
+rows-textual zero next t = refl
+rows-textual (suc left) next t = on-row (readLine (engineLine next) t) (readRows left) t (line-textual (engineLine next) t) (rows-textual left)
+
+engines-textual : (t : List ℕ) → Textual (readEngines t)
+unfolding readEngines
+engines-textual t = either (λ (p : Reading). byNumber (p .ended)) (ltb mostBytes (length t)) refl (rows-textual mostRows 1 t)
+
+-- ---- the number of a fault
+
+two-or-three : (number : ℕ) → twoOrThree number ≡ true → (number ≡ 2) ⊎ (number ≡ 3)
+two-or-three number h = go (eqb number 2) (eqb number 3) refl refl h
+  where
+    go : (a b : Bool) → eqb number 2 ≡ a → eqb number 3 ≡ b → (a || b) ≡ true → (number ≡ 2) ⊎ (number ≡ 3)
+    go true b e f h = inl (eqb-true number 2 e)
+    go false true e f h = inr (eqb-true number 3 f)
+    go false false e f h = absurd (true≢false (sym h))
+
+pub sheet-fault : (t : List ℕ) (number at : ℕ) → readSheet t .ended ≡ Fault number at → (number ≡ 2) ⊎ (number ≡ 3)
+sheet-fault t number at e = two-or-three number (rw e at (sheet-textual t))
+
+pub engines-fault : (t : List ℕ) (number at : ℕ) → readEngines t .ended ≡ Fault number at → (number ≡ 2) ⊎ (number ≡ 3)
+engines-fault t number at e = two-or-three number (rw e at (engines-textual t))
