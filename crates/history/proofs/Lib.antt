@@ -18,3 +18,4 @@ pub mod Theorems
 pub mod InOrder
 pub mod Day
 pub mod Samples
+pub mod Refusing

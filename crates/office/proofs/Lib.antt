@@ -1,3 +1,4 @@
 -- The laws of the C face.
 pub mod Facing
 pub mod Outcomes
+pub mod Accepted
