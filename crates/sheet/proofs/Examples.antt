@@ -68,6 +68,8 @@ texts =
     [] ∷ withRest "FIT\t1\t3334\n" ∷ withRest "FIT\t1\t3334\nEND" ∷ withRest "FIT\t1\t3334\nEND\n\n"
     -- HULL's limits
     ∷ sheet "HULL\t16\n" form power seats (bytes "END\n") ∷ sheet "HULL\t15\n" form power seats (bytes "END\n")
+    -- a length below its limit, told before a broken reference, which none could be right for
+    ∷ sheet hull "FORM\t1999\tx\t1200\t500\t0\t1\n" power seats (bytes "END\n")
     -- reference above length is 3 at its own field, before the broken width; its form is judged first; so is the byte that ends a number
     ∷ sheet hull "FORM\t4500\t4501\tx\t500\t0\t1\n" power seats (bytes "END\n") ∷ sheet hull "FORM\t4500\t4501x\t1200\t500\t0\t1\n" power seats (bytes "END\n") ∷ sheet hull "FORM\t6001\n" power seats (bytes "END\n")
     -- `-` for the tested persons alone, and 0 for none of the two
@@ -85,6 +87,7 @@ texts-right :
     map (λ (t : List ℕ). readSheet t .ended) texts
     ≡ Fault 2 0 ∷ Fault 2 233 ∷ Fault 2 236 ∷ Fault 2 237
     ∷ Fault 3 5 ∷ Taken 227
+    ∷ Fault 3 12
     ∷ Fault 3 17 ∷ Fault 2 21 ∷ Fault 2 16
     ∷ Fault 3 220 ∷ Taken 226 ∷ Fault 2 218
     ∷ Fault 3 207 ∷ Fault 3 207 ∷ Fault 2 217
