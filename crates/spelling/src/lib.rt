@@ -132,30 +132,18 @@ fn store(out: &mut [u8], at: usize, b: u8)
     }
 }
 
-// Writes a number of one digit at the start of out, if out has a place, and answers 1.
-fn write_digit(out: &mut [u8], n: u64) -> usize
-    requires { ⌜ n < 10 ⌝ }
-    ensures { λ r. ⌜ Laid (digitsOf n) (now (out .entry)) 0 r (now (out .exit)) ⌝ }
-{
-    store(out, 0, (48 + n) as u8);
-    1
-}
-
-// Writes n in decimal from the start of out, as far as out goes, and answers how many digits n has: a quotient of one digit costs no further call.
+// Writes n in decimal from the start of out, as far as out goes, and answers how many digits n has.
 pub fn write_number(out: &mut [u8], n: u64) -> usize
     ensures { λ r. ⌜ Laid (digitsOf n) (now (out .entry)) 0 r (now (out .exit)) ⌝ }
 {
     if n < 10 {
-        return write_digit(out, n);
-    }
-    let higher = n / 10;
-    let end = if higher < 10 {
-        write_digit(out, higher)
+        store(out, 0, (48 + n) as u8);
+        1
     } else {
-        write_number(out, higher)
-    };
-    store(out, end, (48 + n % 10) as u8);
-    end + 1
+        let at = write_number(out, n / 10);
+        store(out, at, (48 + n % 10) as u8);
+        at + 1
+    }
 }
 
 // ---- limits

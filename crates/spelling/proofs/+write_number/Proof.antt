@@ -1,12 +1,6 @@
 -- `write_number` meets its contract. Assumes nothing.
-use Rattle.text.specs.Number.{digitsOf}
-use Rattle.text.specs.Line.{Laid}
 use Rattle.text.proofs.Number.{length-digits-twenty}
-use Rattle.text.proofs.Laid.{laid-digits}
-use mathlib.Core.Path.{ap, _∙_}
-use mathlib.Core.Logic.{⊎-elim}
-use lib.ListN.{length}
-use lib.Seq.{length-sets}
+use Rattle.text.proofs.Laid.{laid-digit, laid-digits}
 use native.Mathlib.Omega.{arith}
 use borrow.Author.Needs.{needs}
 use Prim.Native.Nat.{ℕ, _/_, _<_}
@@ -16,7 +10,6 @@ use Rattle.spelling.proofs.write_number.Reads as write-number
 use Rattle.spelling.proofs.write_number.Kinds as write-number-kinds
 use Rattle.spelling.proofs.+write_number.Lts-write_number as write-number-lts
 use Rattle.spelling.proofs.store.Reads as store-reads
-use Rattle.spelling.proofs.write_digit.Reads as write-digit-reads
 use Rattle.spelling.proofs.+write_number.{statement}
 use Rattle.spelling.proofs.+write_number.Tie.{close}
 
@@ -37,29 +30,7 @@ write-number-below t =
 
 -- what the calls ask and give
 abbrev calls : ℕ → write-number-lts.Claims
-calls t = (
-  write-digit-reads.Asked,
-  write-digit-reads.Learnt,
-  write-number-below t,
-  write-number.Post,
-  store-reads.Asked,
-  store-reads.Learnt,
-)
-
-write-number-write-digit-requires : (t : ℕ) → write-number-lts.Need-write-digit-requires (calls t) (write-number-at t) write-number.Post
-write-number-write-digit-requires t c κs = search needs
-
-write-number-same-length : (t : ℕ) → write-number-lts.Need-same-length (calls t) (write-number-at t) write-number.Post
-write-number-same-length t c = search needs
-
-write-number-returns : (t : ℕ) → write-number-lts.Need-returns (calls t) (write-number-at t) write-number.Post
-write-number-returns t c = search needs
-
-write-number-write-digit-requires-2 : (t : ℕ) → write-number-lts.Need-write-digit-requires-2 (calls t) (write-number-at t) write-number.Post
-write-number-write-digit-requires-2 t c κs = search needs
-
-write-number-write-number-requires : (t : ℕ) → write-number-lts.Need-write-number-requires (calls t) (write-number-at t) write-number.Post
-write-number-write-number-requires t c κs = search needs
+calls t = (store-reads.Asked, store-reads.Learnt, write-number-below t, write-number.Post)
 
 write-number-add-store : (t : ℕ) → write-number-lts.Need-add-store (calls t) (write-number-at t) write-number.Post
 write-number-add-store t c = search needs
@@ -70,42 +41,57 @@ write-number-cast-store t c = search needs
 write-number-store-requires : (t : ℕ) → write-number-lts.Need-store-requires (calls t) (write-number-at t) write-number.Post
 write-number-store-requires t c κs = search needs
 
--- on both ways the quotient's digits are laid
-higher-laid : (t : ℕ) (c : write-number-lts.Joined2 (calls t) (write-number-at t) write-number.Post) → Laid (digitsOf (c .before .before .before .args .n / 10)) (c .before .before .before .args .out .now) 0 (c .if2 .end) (c .if2 .out)
-higher-laid t c = ⊎-elim (λ w. rw (w .5, w .6) (w .2 .ensures)) (λ w. rw (w .5, w .6) (w .2 .ensures)) (c .if2 .came)
+write-number-write-number-requires : (t : ℕ) → write-number-lts.Need-write-number-requires (calls t) (write-number-at t) write-number.Post
+write-number-write-number-requires t c κs = search needs
+
+write-number-add-store-2 : (t : ℕ) → write-number-lts.Need-add-store-2 (calls t) (write-number-at t) write-number.Post
+write-number-add-store-2 t c = search needs
+
+write-number-cast-store-2 : (t : ℕ) → write-number-lts.Need-cast-store-2 (calls t) (write-number-at t) write-number.Post
+write-number-cast-store-2 t c = search needs
+
+write-number-store-requires-2 : (t : ℕ) → write-number-lts.Need-store-requires-2 (calls t) (write-number-at t) write-number.Post
+write-number-store-requires-2 t c κs = search needs
 
 write-number-add-result : (t : ℕ) → write-number-lts.Need-add-result (calls t) (write-number-at t) write-number.Post
 write-number-add-result t c =
-    let start = c .before .before .before .before .before .before .before .before in
-    let at-if2 = c .before .before .before .before .before in
+    let start = c .before .before .before .before .before .before .before .before .before .before in
+    let at-write-number = c .before .before .before .before .before .before in
     let l = length-digits-twenty (start .args .n / 10) (omega arith) in
-    omega (arith, higher-laid t at-if2 .end)
+    omega (arith, at-write-number .write-number .ensures .end)
+
+write-number-same-length : (t : ℕ) → write-number-lts.Need-same-length (calls t) (write-number-at t) write-number.Post
+write-number-same-length t c = search needs
+
+write-number-returns : (t : ℕ) → write-number-lts.Need-returns (calls t) (write-number-at t) write-number.Post
+write-number-returns t c =
+    let start = c .before .before .before .before .before .before in
+    let at-if1 = c .before .before .before .before in
+    laid-digit (start .args .n) (start .args .out .now) _ (at-if1 .if1 .taken) (c .before .before .store .ensures)
 
 write-number-same-length-2 : (t : ℕ) → write-number-lts.Need-same-length-2 (calls t) (write-number-at t) write-number.Post
-write-number-same-length-2 t c =
-    let start = c .before .before .before .before .before .before .before .before in
-    let at-if2 = c .before .before .before .before .before in
-    c .before .before .before .store .kept .0 ∙ ap length (higher-laid t at-if2 .laid) ∙ length-sets (start .args .out .now) 0 (digitsOf (start .args .n / 10))
+write-number-same-length-2 t c = search needs
 
 write-number-returns-2 : (t : ℕ) → write-number-lts.Need-returns-2 (calls t) (write-number-at t) write-number.Post
 write-number-returns-2 t c =
-    let start = c .before .before .before .before .before .before .before .before in
-    let at-if1 = c .before .before .before .before .before .before in
-    let at-if2 = c .before .before .before .before .before in
-    laid-digits (start .args .n) (start .args .out .now) _ _ _ (at-if1 .if1 .left) (higher-laid t at-if2) (c .before .before .before .store .ensures)
+    let start = c .before .before .before .before .before .before .before .before .before .before in
+    let at-if1 = c .before .before .before .before .before .before .before .before in
+    let at-write-number = c .before .before .before .before .before .before in
+    laid-digits (start .args .n) (start .args .out .now) _ _ _ (at-if1 .if1 .left) (at-write-number .write-number .ensures) (c .before .before .store2 .ensures)
 
 pub +write-number-spec : {M : Type 1} → statement M
 +write-number-spec = close μ-write-number λ t. write-number-lts.spec (calls t)
     (write-number-at t)
     write-number.Post
-    (write-number-write-digit-requires t)
-    (write-number-same-length t)
-    (write-number-returns t)
-    (write-number-write-digit-requires-2 t)
-    (write-number-write-number-requires t)
     (write-number-add-store t)
     (write-number-cast-store t)
     (write-number-store-requires t)
+    (write-number-write-number-requires t)
+    (write-number-add-store-2 t)
+    (write-number-cast-store-2 t)
+    (write-number-store-requires-2 t)
     (write-number-add-result t)
+    (write-number-same-length t)
+    (write-number-returns t)
     (write-number-same-length-2 t)
     (write-number-returns-2 t)
