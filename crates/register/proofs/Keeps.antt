@@ -1,4 +1,4 @@
--- Every call keeps a well-formed memory well formed, and fresh start makes one: so refusal 1 never comes in a run from fresh. Assumes nothing.
+-- Every call keeps a well-formed memory well formed, and fresh start makes one. Assumes nothing.
 use mathlib.Core.Path.{_≡_, refl}
 use mathlib.Core.Bool.{Bool, true, false, cond}
 use mathlib.Core.List.{List}

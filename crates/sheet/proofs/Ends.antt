@@ -2,11 +2,11 @@
 -- what is one beside is refused with 3, in a text and among the numbers. Assumes nothing.
 use mathlib.Core.Path.{_≡_, refl}
 use mathlib.Core.Bool.{Bool, true, false, not, _&&_, _||_, cond}
-use mathlib.Core.List.{List, [], _∷_, _++_}
+use mathlib.Core.List.{List, [], _∷_, _++_, map}
 use Prim.Native.Nat.{ℕ, zero, suc, _+_, _-_}
 use Prim.Native.String.{String}
 use lib.Dec.{eqb, leb}
-use lib.ListN.{set, take, drop, replicate}
+use lib.ListN.{set, take, drop}
 use Rattle.text.specs.Quoted.{bytes}
 use Rattle.text.specs.Field.{fieldOf, agreed}
 use Rattle.text.specs.Number.{restOf, numberOf, digitsIn, digitsOf}
@@ -33,15 +33,18 @@ alike : ℕ → ℕ → ℕ → ℕ → List Row
 alike zero place low high = []
 alike (suc n) place low high = row place low high ∷ alike n (suc place) low high
 
+-- B, then q r s t u v
+station : ℕ → List Row
+station place = row place 0 4000 ∷ alike 6 (suc place) 0 2500
+
 rows : List Row
 rows =
     -- HULL: hull number
     row 0 0 15
     -- FORM: length, reference length, transom width, transom height, flat bottom, remote steering
     ∷ row 1 2000 6000 ∷ row 2 2000 6000 ∷ row 3 500 3000 ∷ row 4 200 900 ∷ row 5 0 1 ∷ row 6 0 1
-    -- STN Q R S T: B, then q r s t u v
-    ∷ row 7 0 4000 ∷ row 14 0 4000 ∷ row 21 0 4000 ∷ row 28 0 4000
-    ∷ (alike 6 8 0 2500 ++ (alike 6 15 0 2500 ++ (alike 6 22 0 2500 ++ (alike 6 29 0 2500
+    -- STN: Q, R, S, T
+    ∷ (station 7 ++ (station 14 ++ (station 21 ++ (station 28
     -- VOL: aft structure, motor well, flooding chambers
     ++ (row 35 0 5000000 ∷ row 36 0 5000000 ∷ row 37 0 5000000
     -- MASS: bare boat, permanent tanks with fuel, installed machinery
@@ -53,11 +56,7 @@ rows =
     -- FIT: the weights on lines 1 to 24
     ∷ alike 24 45 1 500000)))))
 
--- ---- the sheet that the ends are tried in, and its text, by tags of its own
-
--- low enough everywhere that a number held to the one before it would show
-base : List ℕ
-base = 0 ∷ 6000 ∷ 2000 ∷ 500 ∷ 200 ∷ 0 ∷ 0 ∷ (replicate 28 0 ++ (1 ∷ 1 ∷ 1 ∷ 1 ∷ 0 ∷ 0 ∷ 0 ∷ 0 ∷ 1 ∷ 1 ∷ replicate 24 1))
+-- ---- a sheet's text, by tags of its own
 
 -- numbers in digits, tabs between them and a line feed after them
 fields : List ℕ → List ℕ
@@ -90,11 +89,26 @@ is-outside Done = false
 is-outside (Count n) = false
 is-outside (Plate a b) = false
 
-among : List ℕ → Bool
-among s = sheetOk s && wordsOk (drop 1 s)
+-- both ends: all numbers low; all high; and high by turns, so that a number held to the one before it would show. The length is high but for the first
+lows : List ℕ
+lows = map (λ (r : Row). r .low) rows
+
+highs : List ℕ
+highs = map (λ (r : Row). r .high) rows
+
+turns : Bool → List Row → List ℕ
+turns high [] = []
+turns high (r ∷ rs) = cond high (r .high) (r .low) ∷ turns (not high) rs
+
+taken : List (List ℕ)
+taken = lows ∷ highs ∷ turns false rows ∷ set (turns true rows) 1 6000 ∷ []
 
 takes : List ℕ → Bool
-takes s = among s && is-done (readAnswer (readSheet (text s) .ended))
+takes s = sheetOk s && (wordsOk (drop 1 s) && is-done (readAnswer (readSheet (text s) .ended)))
+
+-- one beside: a number too low or too high in a sheet of low ones
+base : List ℕ
+base = set lows 1 6000
 
 -- the words alone do not have the hull number
 outside : ℕ → List ℕ → Bool
@@ -105,17 +119,17 @@ none-at : ℕ → ℕ → Bool
 none-at place n = leb 44 place && eqb n 0
 
 refuses : ℕ → ℕ → Bool
-refuses place n = cond (none-at place n) (among (set base place n)) (outside place (set base place n)) && is-outside (readAnswer (readSheet (text (set base place n)) .ended))
+refuses place n =
+    let s = set base place n in
+    (cond (none-at place n) (sheetOk s) (outside place s)) && is-outside (readAnswer (readSheet (text s) .ended))
 
-ends-hold : Row → Bool
-ends-hold r =
-    takes (set base (r .place) (r .low)) && (takes (set base (r .place) (r .high))
-    && ((eqb (r .low) 0 || refuses (r .place) (r .low - 1)) && refuses (r .place) (r .high + 1)))
+beside : Row → Bool
+beside r = (eqb (r .low) 0 || refuses (r .place) (r .low - 1)) && refuses (r .place) (r .high + 1)
 
-all-hold : List Row → Bool
-all-hold [] = true
-all-hold (r ∷ rs) = ends-hold r && all-hold rs
+every : {A : Type 0} → (A → Bool) → List A → Bool
+every f [] = true
+every f (x ∷ xs) = f x && every f xs
 
-limits-right : all-hold rows ≡ true
-unfolding all-hold rows alike ends-hold takes among refuses outside none-at is-done is-outside base text line fits fields digitsOf digitsIn allHold sheetLimits limitsOn readSheet readLines readLine agreed readNumbers readEntry fieldOf numberOf restOf readRest readFits readEnd
-limits-right = refl
+limits-right : (every takes taken ≡ true) × (every beside rows ≡ true)
+unfolding every taken takes lows highs turns rows station alike base beside refuses outside none-at is-done is-outside text line fits fields digitsOf digitsIn allHold sheetLimits limitsOn readSheet readLines readLine agreed readNumbers readEntry fieldOf numberOf restOf readRest readFits readEnd
+limits-right = (refl, refl)
