@@ -78,10 +78,11 @@ from (suc n) k = k ∷ from n (suc k)
 abbrev m : List ℕ
 m = from 1673 0
 
--- the words that each getter finds in a memory of 0, 1, 2, ..
+-- the words that each getter finds in a memory of 0, 1, 2, .., and in one of none
 places-right :
     (registerWords ∷ hullCount m ∷ edit m 0 ∷ edit m 15 ∷ held m 0 ∷ draftHull m 0 ∷ opening m 0 ∷ held m 7 ∷ draftHull m 7 ∷ opening m 7 ∷ [] ≡ 1673 ∷ 0 ∷ 1 ∷ 1036 ∷ 1105 ∷ 1106 ∷ 1107 ∷ 1602 ∷ 1603 ∷ 1604 ∷ [])
     × (hullSheet m 0 ≡ from 68 2) × (hullSheet m 15 ≡ from 68 1037) × (draftSheet m 0 ≡ from 68 1108) × (draftSheet m 7 ≡ from 68 1605)
+    × (hullCount [] ∷ edit [] 0 ∷ held [] 0 ∷ draftHull [] 0 ∷ opening [] 0 ∷ [] ≡ replicate 5 0)
     × (fittingAt 0 1 ∷ fittingAt 0 24 ∷ fittingAt 7 1 ∷ fittingAt 7 24 ∷ [] ≡ 1152 ∷ 1175 ∷ 1649 ∷ 1672 ∷ [])
 unfolding from
-places-right = (refl, refl, refl, refl, refl, refl)
+places-right = (refl, refl, refl, refl, refl, refl, refl)

@@ -15,7 +15,7 @@ use Rattle.plates.specs.Volume.{stationProduct, summed, volumeN, gram, n
 use Rattle.plates.specs.Weights.{addedUp, boatM}
 use Rattle.plates.specs.PlateC.{exactX, markedC, lowPower, markedKilo}
 use Rattle.plates.specs.PlateA.{halfMarked, inboardX, loadX, markedA}
-use Rattle.plates.specs.Bounds.{Bounds, heaviest}
+use Rattle.plates.specs.Bounds.{Stations, Bounds, heaviest}
 use Rattle.plates.proofs.Whole.{Differ, of-pos, of-sub, sum-of, less-of, times-of, is-sub}
 use Rattle.plates.proofs.Volume.{product-most}
 
@@ -92,14 +92,21 @@ pub boat-most : (s : List ℕ) → Bounds s → boatM s ≤ 14000000
 unfolding boatM
 boat-most s b = omega (arith, b .bare-most, sum-most-in (fittingsOf s) 24 (b .fittings .few) (b .fittings .light))
 
+-- four stations and a reference length: N of them, and those of a sheet
+stations-most : (ls : List (List ℕ)) (ref : ℕ) → Stations ls ref → summed ref (stationProduct (getD ls 0 [])) (stationProduct (getD ls 1 [])) (stationProduct (getD ls 2 [])) (stationProduct (getD ls 3 [])) ≤ 9900000000000
+stations-most ls ref b =
+    let q = product-most (getD ls 0 []) (b .at0) in
+    let r = product-most (getD ls 1 []) (b .at1) in
+    let t = product-most (getD ls 2 []) (b .at2) in
+    let u = product-most (getD ls 3 []) (b .at3) in
+    le-trans (mul-le-mul {n₂ = 6000} {m₂ = 1650000000} (b .reference-most) (omega arith)) (omega arith)
+
+stations-of : (s : List ℕ) → Bounds s → Stations (station s 0 ∷ station s 1 ∷ station s 2 ∷ station s 3 ∷ []) (reference s)
+stations-of s b = record { at0 = b .stations 0 (omega arith); at1 = b .stations 1 (omega arith); at2 = b .stations 2 (omega arith); at3 = b .stations 3 (omega arith); reference-most = b .reference-most }
+
 pub volume-most : (s : List ℕ) → Bounds s → volumeN s ≤ 9900000000000
 unfolding volumeN
-volume-most s b =
-    let q = product-most (station s 0) (b .stations 0 (omega arith)) in
-    let r = product-most (station s 1) (b .stations 1 (omega arith)) in
-    let t = product-most (station s 2) (b .stations 2 (omega arith)) in
-    let u = product-most (station s 3) (b .stations 3 (omega arith)) in
-    le-trans (mul-le-mul {n₂ = 6000} {m₂ = 1650000000} (b .reference-most) (omega arith)) (omega arith)
+volume-most s b = stations-most (station s 0 ∷ station s 1 ∷ station s 2 ∷ station s 3 ∷ []) (reference s) (stations-of s b)
 
 pub loss-most : (s : List ℕ) {w : ℕ} → Bounds s → w ≤ heaviest → loss w s ≤ 5220000000000
 loss-most s b h = omega (arith, b .well-most, b .flooding-most)

@@ -4,6 +4,7 @@ use mathlib.Core.Path.{_≡_, refl}
 use mathlib.Core.Bool.{Bool, true, _&&_}
 use mathlib.Core.List.{List, [], _∷_, _++_, map}
 use Prim.Native.Nat.{ℕ, zero, suc}
+use lib.ListN.{replicate}
 use Rattle.text.specs.Limit.{allHold}
 use Rattle.sheet.specs.declared.Answer.{Answer}
 use Rattle.sheet.specs.Sheet.{limitsOn, sheetLimits}
@@ -53,22 +54,23 @@ named s =
     ∷ (station s 0 ++ (station s 1 ++ (station s 2 ++ (station s 3
     ++ (aft s ∷ well s ∷ flooding s ∷ bare s ∷ fuel s ∷ machinery s ∷ outboard s ∷ declared s ∷ positions s ∷ tested s ∷ fittingsOf s)))))
 
-names-right : named (from 68 0) ≡ from 68 0
+-- each at its place, and 0 where the list has none
+names-right : (named (from 68 0) ≡ from 68 0) × (named [] ≡ replicate 16 0)
 unfolding named from
-names-right = refl
+names-right = (refl, refl)
 
 -- ---- each depth and each station by its own factor
 
-shares-right : (stationProduct (1 ∷ 1 ∷ 10 ∷ 100 ∷ 1000 ∷ 10000 ∷ 100000 ∷ []) ≡ 224241) × (summed 1 1 10 100 1000 ≡ 1424)
+shares-right : (map stationProduct ((1 ∷ 1 ∷ 10 ∷ 100 ∷ 1000 ∷ 10000 ∷ 100000 ∷ []) ∷ (1 ∷ []) ∷ []) ≡ 224241 ∷ 0 ∷ []) × (summed 1 1 10 100 1000 ≡ 1424)
 unfolding stationProduct
 shares-right = (refl, refl)
 
--- ---- the ends of the table's rows, and one above each
+-- ---- the ends of the table's rows, and one above each; above the last there is no row
 
 ends : List ℕ
-ends = 2250000 ∷ 2250001 ∷ 3300000 ∷ 3300001 ∷ 3600000 ∷ 3600001 ∷ 3900000 ∷ 3900001 ∷ 4200000 ∷ 4200001 ∷ 5000000 ∷ []
+ends = 2250000 ∷ 2250001 ∷ 3300000 ∷ 3300001 ∷ 3600000 ∷ 3600001 ∷ 3900000 ∷ 3900001 ∷ 4200000 ∷ 4200001 ∷ 5000000 ∷ 5000001 ∷ []
 
-rows-right : (map rowWatts ends ≡ 1500 ∷ 3000 ∷ 3000 ∷ 4000 ∷ 4000 ∷ 5250 ∷ 5250 ∷ 7500 ∷ 7500 ∷ 12000 ∷ 12000 ∷ [])
-    × (map beforeWatts ends ≡ 0 ∷ 1500 ∷ 1500 ∷ 3000 ∷ 3000 ∷ 4000 ∷ 4000 ∷ 5250 ∷ 5250 ∷ 7500 ∷ 7500 ∷ [])
+rows-right : (map rowWatts ends ≡ 1500 ∷ 3000 ∷ 3000 ∷ 4000 ∷ 4000 ∷ 5250 ∷ 5250 ∷ 7500 ∷ 7500 ∷ 12000 ∷ 12000 ∷ 0 ∷ [])
+    × (map beforeWatts ends ≡ 0 ∷ 1500 ∷ 1500 ∷ 3000 ∷ 3000 ∷ 4000 ∷ 4000 ∷ 5250 ∷ 5250 ∷ 7500 ∷ 7500 ∷ 12000 ∷ [])
 unfolding ends rowFor
 rows-right = (refl, refl)

@@ -8,7 +8,7 @@ use Rattle.text.specs.declared.EntryRead.the-variants.{Number, Misread}
 use Rattle.text.specs.Quoted.{bytes, tab}
 use Rattle.text.specs.Field.{fieldOf}
 use Rattle.text.specs.Number.{restOf, numberOf, digitsIn, digitsOf}
-use Rattle.text.specs.Limit.{Limit, ranging, rangingCapped, rangingOrNone}
+use Rattle.text.specs.Limit.{Limit, ranging, rangingCapped, rangingOrNone, limitsOf}
 use Rattle.text.specs.Line.{readEntry}
 
 -- ---- a number: 1 to 10 digits, no leading zero but 0 itself
@@ -62,3 +62,8 @@ entries-right :
     ≡ Number 24 3 ∷ Misread 3 0 ∷ Misread 3 0 ∷ Misread 2 2 ∷ Misread 2 2 ∷ Misread 2 10 ∷ Misread 3 0 ∷ Misread 3 0 ∷ Misread 2 0 ∷ Number 0 2 ∷ Misread 3 0 ∷ Misread 3 0 ∷ Misread 2 1 ∷ Misread 2 1 ∷ Number 4000 5 ∷ Misread 3 0 ∷ []
 unfolding read entries readEntry fieldOf numberOf restOf
 entries-right = refl
+
+-- ---- a limit as the code's tables have it: low, high, and the number of its rule; what a row lacks is 0
+
+tables-right : limitsOf ((0 ∷ 1 ∷ 0 ∷ []) ∷ (1 ∷ 24 ∷ 1 ∷ []) ∷ (2000 ∷ 6000 ∷ 2 ∷ []) ∷ [] ∷ []) ≡ ranging 0 1 ∷ rangingOrNone 1 24 ∷ rangingCapped 2000 6000 ∷ ranging 0 0 ∷ []
+tables-right = refl
