@@ -1,13 +1,13 @@
 -- Memories laid out by the table of docs/REGISTER.md, apart from `Layout`: a full one at every end of its limits, and changes of it that are one beside. Computed: which of
 -- them are well formed, and where each thing stands. Assumes nothing.
 use mathlib.Core.Path.{_≡_, refl}
-use mathlib.Core.Bool.{Bool, true, false}
+use mathlib.Core.Bool.{true, false}
 use mathlib.Core.List.{List, [], _∷_, _++_, map}
-use Prim.Native.Nat.{ℕ, zero, suc, _+_, _*_}
+use Prim.Native.Nat.{ℕ, zero, suc, _+_}
 use lib.ListN.{set, take, replicate}
 use Rattle.text.specs.Limit.{allHold}
 use Rattle.sheet.specs.Sheet.{limitsOn, sheetLimits}
-use Rattle.memory.specs.Layout.{registerWords, hullAt, draftAt, hullCount, edit, hullSheet, held, draftHull, opening, draftSheet, fittingAt}
+use Rattle.memory.specs.Layout.{registerWords, hullCount, edit, hullSheet, held, draftHull, opening, draftSheet, fittingAt}
 use Rattle.memory.specs.Formed.{each, hullOk, draftOk, formed}
 
 -- ---- a full register

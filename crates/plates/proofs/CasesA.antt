@@ -1,6 +1,5 @@
 -- Cases of plate A: each figure of its rules at its value and one beside it, and its refusals two at once. Assumes nothing.
 use mathlib.Core.List.{List, [], _∷_}
-use Prim.Native.Nat.{ℕ}
 use Rattle.sheet.specs.declared.Answer.the-variants.{Refused, Plate}
 use Rattle.plates.specs.Samples.{seated, load, power, inboard}
 use Rattle.plates.proofs.Boats.{Told, onA, launch, transom, driven, bare-boat}

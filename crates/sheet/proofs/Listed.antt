@@ -1,6 +1,6 @@
 -- 01, Refusal numbers: a call on texts refuses by a number of the list, 1 to 17, and so never by 0. Assumes nothing.
 use mathlib.Core.Path.{_≡_, refl}
-use mathlib.Core.Bool.{Bool, true, false, _&&_, cond}
+use mathlib.Core.Bool.{Bool, true, _&&_, cond}
 use mathlib.Core.Logic.{_⊎_, inl, inr}
 use mathlib.Core.List.{List}
 use Prim.Native.Nat.{ℕ}
@@ -10,7 +10,6 @@ use Rattle.text.specs.declared.LineRead.{LineRead}
 use Rattle.text.specs.declared.LineRead.the-variants.{Taken, Fault}
 use Rattle.sheet.specs.declared.Answer.{Answer}
 use Rattle.sheet.specs.declared.Answer.the-variants.{Refused, Done, Count, Plate}
-use Rattle.sheet.specs.Sheet.{sheetOk, sheetText}
 use Rattle.sheet.specs.Reading.{readSheet}
 use Rattle.sheet.specs.Engines.{powersOf, readEngines}
 use Rattle.sheet.specs.Calls.{noRoom, readAnswer, writeAnswer, rowsFit, enginesAnswer}
@@ -35,7 +34,7 @@ read-listed t = go (readSheet t .ended) refl
     go (Fault number at) e = text-listed (sheet-fault t number at e)
 
 pub write-listed : (s : List ℕ) (room : ℕ) → isListed (writeAnswer s room) ≡ true
-write-listed s room = either isListed (sheetOk s) (either isListed (leb (length (sheetText s)) room) refl refl) refl
+write-listed s room = either isListed _ (either isListed _ refl refl) refl
 
 pub engines-listed : (t : List ℕ) (a b : ℕ) → isListed (enginesAnswer (readEngines t) a b) ≡ true
 engines-listed t a b = go (readEngines t .ended) refl
