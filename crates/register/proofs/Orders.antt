@@ -46,12 +46,12 @@ wrongs m =
 small : List ℕ
 small = 1 ∷ (hulls 1 0 ++ (replicate 1035 99 ++ (idle 7 ++ draft 0 0)))
 
--- the size; the count; an edit number; a hull's sheet; a mark; a draft's hull, its opening number, its sheet
+-- the size, the count, an edit number, a draft's sheet
 unformed : List (List ℕ)
-unformed = [] ∷ take 1672 small ∷ (small ++ (0 ∷ [])) ∷ set small 0 17 ∷ set small 1 65536 ∷ set small 2 1999 ∷ set small 1602 2 ∷ set small 1603 1 ∷ set small 1604 1 ∷ set small 1605 1999 ∷ []
+unformed = [] ∷ take 1672 small ∷ set small 0 17 ∷ set small 1 65536 ∷ set small 1605 1999 ∷ []
 
 -- the memory comes first, of each call
-memory-first : map wrongs unformed ≡ replicate 10 (replicate 14 (Refused 1))
+memory-first : map wrongs unformed ≡ replicate 5 (replicate 14 (Refused 1))
 unfolding wrongs unformed small sheet hulls draft idle formed each hullOk draftOk hullRefusal deskRefusal roomRefusal openRefusal putRefusal takeRefusal saveRefusal allHold sheetLimits limitsOn
 memory-first = refl
 
@@ -73,8 +73,8 @@ calls : List Asked
 calls =
     -- a 17th hull, whatever its text; a 16th
     (newAnswer full text gives Refused 4) ∷ (newAnswer full [] gives Refused 4) ∷ (newAnswer fifteen text gives Count 15) ∷ (newAnswer fifteen [] gives Refused 2)
-    -- desks 7 and 8, hulls 15 and 16
-    ∷ (openAnswer full 7 15 gives Count 65535) ∷ (openAnswer full 8 15 gives Refused 6) ∷ (openAnswer full 7 16 gives Refused 5) ∷ (openAnswer full 8 16 gives Refused 6) ∷ (openAnswer fifteen 7 15 gives Refused 5)
+    -- hulls 15 and 16 of sixteen, desks 7 and 8; a hull that is not entered
+    ∷ (openAnswer full 7 15 gives Count 65535) ∷ (openAnswer full 7 16 gives Refused 5) ∷ (openAnswer small 7 0 gives Count 0) ∷ (openAnswer small 8 0 gives Refused 6) ∷ (openAnswer small 7 1 gives Refused 5) ∷ (openAnswer small 8 1 gives Refused 6)
     -- edit numbers 65534 and 65535; a draft that is behind, of a hull that can be saved and of one that cannot; no draft, no desk
     ∷ (saveAnswer edited 6 gives Count 65535) ∷ (saveAnswer edited 7 gives Refused 9) ∷ (saveAnswer edited 4 gives Refused 8) ∷ (saveAnswer edited 5 gives Refused 8) ∷ (saveAnswer edited 3 gives Refused 7) ∷ (saveAnswer edited 8 gives Refused 6)
     ∷ (dropAnswer small 7 gives Done) ∷ (dropAnswer small 6 gives Refused 7) ∷ (dropAnswer small 8 gives Refused 6)

@@ -106,16 +106,17 @@ rows n (k ∷ ks) = bytes "ENG\t" ++ (digitsOf n ++ (bytes "\t0\n" ++ rows (suc 
 
 engineTexts : List (List ℕ)
 engineTexts =
-    -- none, one, one without its line feed, power 0, not rising, a power and a weight too high, another line
-    [] ∷ bytes "ENG\t1\t0\n" ∷ bytes "ENG\t1\t0" ∷ bytes "ENG\t0\t0\n" ∷ bytes "ENG\t5\t0\nENG\t5\t0\n" ∷ bytes "ENG\t200001\t0\n" ∷ bytes "ENG\t1\t1000001\n" ∷ bytes "ENG\t1\t0\nEND\n"
+    -- none, one, one at the other end of both limits, one without its line feed, power 0, not rising, a power and a weight too high, another line
+    [] ∷ bytes "ENG\t1\t0\n" ∷ bytes "ENG\t200000\t1000000\n" ∷ bytes "ENG\t1\t0" ∷ bytes "ENG\t0\t0\n" ∷ bytes "ENG\t5\t0\nENG\t5\t0\n" ∷ bytes "ENG\t200001\t0\n" ∷ bytes "ENG\t1\t1000001\n" ∷ bytes "ENG\t1\t0\nEND\n"
     -- forty, and a 41st at its tag
     ∷ rows 1 (replicate 40 0) ∷ rows 1 (replicate 41 0)
-    ∷ replicate 4097 69
+    -- 4,096 bytes are read by their fields, 4,097 are not
+    ∷ replicate 4096 69 ∷ replicate 4097 69
     ∷ []
 
 engines-right :
     map (λ (t : List ℕ). readEngines t .ended) engineTexts
-    ≡ Fault 2 0 ∷ Taken 8 ∷ Fault 2 7 ∷ Fault 3 4 ∷ Fault 3 12 ∷ Fault 3 4 ∷ Fault 3 6 ∷ Fault 2 10 ∷ Taken 351 ∷ Fault 2 351 ∷ Fault 2 0 ∷ []
+    ≡ Fault 2 0 ∷ Taken 8 ∷ Taken 19 ∷ Fault 2 7 ∷ Fault 3 4 ∷ Fault 3 12 ∷ Fault 3 4 ∷ Fault 3 6 ∷ Fault 2 10 ∷ Taken 351 ∷ Fault 2 351 ∷ Fault 2 1 ∷ Fault 2 0 ∷ []
 unfolding engineTexts rows readEngines readRows readLine agreed readNumbers readEntry fieldOf numberOf restOf digitsOf digitsIn
 engines-right = refl
 
