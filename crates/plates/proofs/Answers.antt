@@ -1,16 +1,16 @@
 -- The plates' answers, by the case that the code finds. Assumes nothing.
 use mathlib.Core.Path.{_≡_, refl, _∙_}
-use mathlib.Core.Bool.{true, false}
+use mathlib.Core.Bool.{true, false, not}
 use mathlib.Core.List.{List}
 use Prim.Native.Nat.{ℕ}
 use lib.Dec.{eqb}
 use Rattle.sheet.specs.declared.Answer.the-variants.{Refused, Plate}
 use Rattle.sheet.proofs.Faults.{either}
 use Rattle.sheet.proofs.Listed.{isListed}
-use Rattle.plates.specs.Whole.{orZero}
+use Rattle.plates.specs.Whole.{isBelow, orZero}
 use Rattle.plates.specs.PlateC.{markedC, rowsRight, noRow, liveLoad, persons, untested, plateC}
 use Rattle.plates.specs.PlateA.{markedA, powerA, noPower, plateA}
-use Rattle.plates.specs.PlateU.{plateU}
+use Rattle.plates.specs.PlateU.{markedU, plateU}
 use Rattle.plates.specs.Kinds.{PlateKind, kindA, kindC, kindU, plateOf}
 use Rattle.plates.proofs.Whole.{below-one}
 
@@ -56,17 +56,20 @@ c-marks s ps ws r e f g h k l = rw (r, below-one (markedC s) ∙ e, f, g, below-
 
 a-listed : (s : List ℕ) → isListed (plateA s) ≡ true
 unfolding plateA
-a-listed s = either isListed _ refl (either isListed _ refl refl)
+a-listed s = either isListed (isBelow (markedA s) 1) refl (either isListed (noPower s) refl refl)
 
 c-listed : (s ps ws : List ℕ) → isListed (plateC s ps ws) ≡ true
 unfolding plateC
-c-listed s ps ws = either isListed _ refl (either isListed _ refl (either isListed _ refl (either isListed _ refl (either isListed _ refl refl))))
+c-listed s ps ws =
+    let live = liveLoad s ps ws in
+    either isListed (not (rowsRight ps ws)) refl
+    (either isListed (isBelow (markedC s) 1) refl (either isListed (noRow s ps) refl (either isListed (untested s live) refl (either isListed (isBelow (persons s live) 1) refl refl))))
 
 u-listed : (s : List ℕ) → isListed (plateU s) ≡ true
 unfolding plateU
-u-listed s = either isListed _ refl refl
+u-listed s = either isListed (isBelow (markedU s) 1) refl refl
 
 pub plate-listed : (k : PlateKind) (s : List ℕ) → isListed (plateOf k s) ≡ true
 plate-listed kindA s = a-listed s
-plate-listed (kindC ps ws) s = c-listed _ _ _
+plate-listed (kindC ps ws) s = c-listed s ps ws
 plate-listed kindU s = u-listed s

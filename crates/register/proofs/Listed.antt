@@ -1,22 +1,25 @@
 -- 01, Refusal numbers: every call on the register refuses by a number of the list, 1 to 17, and so never by 0. Assumes nothing.
 use mathlib.Core.Path.{_≡_, refl}
-use mathlib.Core.Bool.{Bool, true, false, cond}
+use mathlib.Core.Bool.{Bool, true, false, _&&_, cond}
 use mathlib.Core.List.{List, _∷_}
 use Prim.Native.Nat.{ℕ, _+_}
 use native.Mathlib.Omega.{arith}
 use borrow.Author.Tests.{eqb-false, le-leb}
-use lib.Dec.{eqb, leb}
+use lib.Dec.{eqb, leb, ltb}
+use lib.ListN.{getD, length}
 use Rattle.text.specs.declared.LineRead.{LineRead}
 use Rattle.text.specs.declared.LineRead.the-variants.{Taken, Fault}
 use Rattle.sheet.specs.declared.Answer.{Answer}
 use Rattle.sheet.specs.declared.Answer.the-variants.{Refused, Done, Count}
+use Rattle.sheet.specs.Lines.{fittings, fittingHigh}
 use Rattle.sheet.specs.Reading.{readSheet}
 use Rattle.sheet.specs.Calls.{writeAnswer}
 use Rattle.sheet.proofs.Faults.{either, sheet-fault}
 use Rattle.sheet.proofs.Listed.{isListed, text-listed, write-listed}
 use Rattle.plates.specs.Kinds.{PlateKind, plateOf}
 use Rattle.plates.proofs.Answers.{plate-listed}
-use Rattle.memory.specs.Layout.{hullCount, edit, hullSheet, draftHull, draftSheet}
+use Rattle.memory.specs.Layout.{mostHulls, desks, registerWords, hullCount, edit, hullSheet, held, draftHull, opening, draftSheet, fittingAt}
+use Rattle.memory.specs.Formed.{mostEdits, formed}
 use Rattle.register.specs.Refusals.{hullRefusal, deskRefusal, orNext, orRefused, onText}
 use Rattle.register.specs.Hulls.{freshRefusal, freshAnswer, roomRefusal, newAnswer, hullPlate, hullWritten}
 use Rattle.register.specs.Drafts.{openRefusal, openAnswer, putOwn, putRefusal, putAnswer, takeOwn, takeRefusal, takeAnswer, replaceAnswer, trial, saveOwn, saveRefusal, saveAnswer, dropAnswer}
@@ -38,11 +41,11 @@ two first next h k = either orNone (eqb first 0) k h
 
 hull-listed : (m : List ℕ) (h : ℕ) → orNone (hullRefusal m h) ≡ true
 unfolding hullRefusal
-hull-listed m h = either orNone _ (either orNone _ refl refl) refl
+hull-listed m h = either orNone (formed m) (either orNone (ltb h (hullCount m)) refl refl) refl
 
 desk-listed : (m : List ℕ) (d : ℕ) → orNone (deskRefusal m d) ≡ true
 unfolding deskRefusal
-desk-listed m d = either orNone _ (either orNone _ (either orNone _ refl refl) refl) refl
+desk-listed m d = either orNone (formed m) (either orNone (ltb d desks) (either orNone (eqb (held m d) 0) refl refl) refl) refl
 
 text-answer : (t : List ℕ) (a : Answer) → isListed a ≡ true → isListed (onText t a Refused) ≡ true
 text-answer t a h = go (readSheet t .ended) refl
@@ -54,26 +57,26 @@ text-answer t a h = go (readSheet t .ended) refl
 -- ---- the calls
 
 pub fresh-listed : (m : List ℕ) → isListed (freshAnswer m) ≡ true
-fresh-listed m = by-refusal (freshRefusal m) Done (either orNone _ refl refl) refl
+fresh-listed m = by-refusal (freshRefusal m) Done (either orNone (eqb (length m) registerWords) refl refl) refl
 
 pub new-listed : (m t : List ℕ) → isListed (newAnswer m t) ≡ true
 unfolding roomRefusal
-new-listed m t = by-refusal (roomRefusal m) _ (either orNone _ (either orNone _ refl refl) refl) (text-answer t (Count (hullCount m)) refl)
+new-listed m t = by-refusal (roomRefusal m) _ (either orNone (formed m) (either orNone (ltb (hullCount m) mostHulls) refl refl) refl) (text-answer t (Count (hullCount m)) refl)
 
 pub open-listed : (m : List ℕ) (d h : ℕ) → isListed (openAnswer m d h) ≡ true
 unfolding openRefusal
-open-listed m d h = by-refusal (openRefusal m d h) (Count (edit m h)) (either orNone _ (either orNone _ (either orNone _ refl refl) refl) refl) refl
+open-listed m d h = by-refusal (openRefusal m d h) (Count (edit m h)) (either orNone (formed m) (either orNone (ltb d desks) (either orNone (ltb h (hullCount m)) refl refl) refl) refl) refl
 
 pub put-listed : (m : List ℕ) (d line w : ℕ) → isListed (putAnswer m d line w) ≡ true
 unfolding putRefusal
 put-listed m d line w =
-    by-refusal (putRefusal m d line w) Done (two (deskRefusal m d) (putOwn line w) (desk-listed m d) (either orNone _ refl refl)) refl
+    by-refusal (putRefusal m d line w) Done (two (deskRefusal m d) (putOwn line w) (desk-listed m d) (either orNone (leb 1 line && (leb line fittings && (leb 1 w && leb w fittingHigh))) refl refl)) refl
 
 pub take-listed : (m : List ℕ) (d line : ℕ) → isListed (takeAnswer m d line) ≡ true
 unfolding takeRefusal
 take-listed m d line =
     by-refusal (takeRefusal m d line) Done
-    (two (deskRefusal m d) (takeOwn m d line) (desk-listed m d) (either orNone _ (either orNone _ refl refl) refl)) refl
+    (two (deskRefusal m d) (takeOwn m d line) (desk-listed m d) (either orNone (leb 1 line && leb line fittings) (either orNone (eqb (getD m (fittingAt d line) 0) 0) refl refl) refl)) refl
 
 pub replace-listed : (m : List ℕ) (d : ℕ) (t : List ℕ) → isListed (replaceAnswer m d t) ≡ true
 replace-listed m d t = by-refusal (deskRefusal m d) _ (desk-listed m d) (text-answer t Done refl)
@@ -85,7 +88,7 @@ pub save-listed : (m : List ℕ) (d : ℕ) → isListed (saveAnswer m d) ≡ tru
 unfolding saveRefusal
 save-listed m d =
     by-refusal (saveRefusal m d) (Count (edit m (draftHull m d) + 1))
-    (two (deskRefusal m d) (saveOwn m d) (desk-listed m d) (either orNone _ (either orNone _ refl refl) refl)) refl
+    (two (deskRefusal m d) (saveOwn m d) (desk-listed m d) (either orNone (eqb (edit m (draftHull m d)) (opening m d)) (either orNone (eqb (edit m (draftHull m d)) mostEdits) refl refl) refl)) refl
 
 pub drop-listed : (m : List ℕ) (d : ℕ) → isListed (dropAnswer m d) ≡ true
 drop-listed m d = by-refusal (deskRefusal m d) Done (desk-listed m d) refl

@@ -10,6 +10,7 @@ use Rattle.text.specs.declared.LineRead.{LineRead}
 use Rattle.text.specs.declared.LineRead.the-variants.{Taken, Fault}
 use Rattle.sheet.specs.declared.Answer.{Answer}
 use Rattle.sheet.specs.declared.Answer.the-variants.{Refused, Done, Count, Plate}
+use Rattle.sheet.specs.Sheet.{sheetOk, sheetText}
 use Rattle.sheet.specs.Reading.{readSheet}
 use Rattle.sheet.specs.Engines.{powersOf, readEngines}
 use Rattle.sheet.specs.Calls.{noRoom, readAnswer, writeAnswer, rowsFit, enginesAnswer}
@@ -34,7 +35,7 @@ read-listed t = go (readSheet t .ended) refl
     go (Fault number at) e = text-listed (sheet-fault t number at e)
 
 pub write-listed : (s : List ℕ) (room : ℕ) → isListed (writeAnswer s room) ≡ true
-write-listed s room = either isListed _ (either isListed _ refl refl) refl
+write-listed s room = either isListed (sheetOk s) (either isListed (leb (length (sheetText s)) room) refl refl) refl
 
 pub engines-listed : (t : List ℕ) (a b : ℕ) → isListed (enginesAnswer (readEngines t) a b) ≡ true
 engines-listed t a b = go (readEngines t .ended) refl
