@@ -1,13 +1,15 @@
 -- Worked fields and numbers, computed: one statement over each list of them. Assumes nothing.
 use mathlib.Core.Path.{_≡_, refl}
 use mathlib.Core.List.{List, [], _∷_, map}
+use Prim.Native.Nat.{ℕ, _-_}
 use Prim.Native.String.{String}
+use lib.ListN.{length}
 use Rattle.text.specs.declared.NumberRead.the-variants.{Value, Malformed}
 use Rattle.text.specs.declared.EntryRead.{EntryRead}
 use Rattle.text.specs.declared.EntryRead.the-variants.{Number, Misread}
 use Rattle.text.specs.Quoted.{bytes, tab}
 use Rattle.text.specs.Field.{fieldOf}
-use Rattle.text.specs.Number.{restOf, numberOf, digitsIn, digitsOf}
+use Rattle.text.specs.Number.{elevenDigits, restOf, numberOf, digitsIn, digitsOf}
 use Rattle.text.specs.Limit.{Limit, ranging, rangingCapped, rangingOrNone, limitsOf}
 use Rattle.text.specs.Line.{readEntry}
 
@@ -25,6 +27,11 @@ numbers-right = refl
 digits-right : map digitsOf (0 ∷ 10 ∷ 4294967296 ∷ 9999999999 ∷ []) ≡ bytes "0" ∷ bytes "10" ∷ bytes "4294967296" ∷ bytes "9999999999" ∷ []
 unfolding digitsOf digitsIn
 digits-right = refl
+
+-- the first number of eleven digits is that
+eleven-right : map (λ (n : ℕ). length (digitsOf n)) ((elevenDigits - 1) ∷ elevenDigits ∷ []) ≡ 10 ∷ 11 ∷ []
+unfolding digitsOf digitsIn
+eleven-right = refl
 
 -- ---- a number with its ending byte: the form with that byte before the limits
 
