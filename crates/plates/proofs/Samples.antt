@@ -3,7 +3,7 @@
 use mathlib.Core.Path.{_≡_, refl}
 use mathlib.Core.Bool.{Bool, true, _&&_}
 use mathlib.Core.List.{List, [], _∷_, _++_, map}
-use Prim.Native.Nat.{ℕ, zero, suc}
+use Prim.Native.Nat.{ℕ, zero, suc, _+_, _*_}
 use lib.ListN.{replicate}
 use Rattle.text.specs.Limit.{allHold}
 use Rattle.sheet.specs.Sheet.{limitsOn, sheetLimits}
@@ -13,6 +13,7 @@ use Rattle.plates.specs.Weights.{addedUp, boatM}
 use Rattle.plates.specs.PlateC.{exactX, markedC, rising, rowsRight, rowFor, noRow, engineWeight, liveLoad, persons, untested, plateC}
 use Rattle.plates.specs.PlateA.{inboardX, loadX, markedA, rowWatts, beforeWatts, formulaWatts, powerA, plateA}
 use Rattle.plates.specs.PlateU.{ruleU, markedU, plateU}
+use Rattle.plates.specs.Bounds.{heaviest}
 use Rattle.plates.specs.Samples.{words, seated, load, power, inboard, Case, marks, agrees, refuses, second-is, answer-c, holds-of, stands, cases}
 use Rattle.plates.proofs.Boats.{Told, answered, all-within, massed, stationed, launch, transom, bare-boat, driven, seats}
 use Rattle.plates.proofs.CasesA.{casesA}
@@ -63,6 +64,15 @@ names-right = (refl, refl)
 shares-right : (map stationProduct ((1 ∷ 1 ∷ 10 ∷ 100 ∷ 1000 ∷ 10000 ∷ 100000 ∷ []) ∷ (1 ∷ []) ∷ []) ≡ 224241 ∷ 0 ∷ []) × (summed 1 1 10 100 1000 ≡ 1424)
 unfolding stationProduct
 shares-right = (refl, refl)
+
+-- ---- the heaviest boat that a sheet can have, an inboard of plate A
+
+heavy : List ℕ
+heavy = replicate 37 0 ++ (2000000 ∷ 500000 ∷ 500000 ∷ 0 ∷ 0 ∷ 1 ∷ 0 ∷ replicate 24 500000)
+
+heaviest-right : boatM heavy + 5 * (fuel heavy + machinery heavy) ≡ heaviest
+unfolding heavy boatM addedUp
+heaviest-right = refl
 
 -- ---- the ends of the table's rows, and one above each; above the last there is no row
 
