@@ -11,10 +11,13 @@ static const uint32_t weightless_powers[] = {200000}, weightless[] = {0};
 
 /* ---- loads ---- */
 
-/* Z - GRAM * (M + factor * (fuel + machinery)) of a sheet without fittings becomes net. */
+/* Z - GRAM * (M + factor * (fuel + machinery)) of a sheet becomes net. */
 static void set_net(wb_sheet *sheet, int64_t net, int64_t factor)
 {
-    set_water(sheet, net + GRAM * (sheet->bare + factor * ((int64_t)sheet->fuel + sheet->machinery)));
+    int64_t boat = sheet->bare;
+    for (int line = 0; line < WB_FITTINGS; line++)
+        boat += sheet->fitting[line];
+    set_water(sheet, net + GRAM * (boat + factor * ((int64_t)sheet->fuel + sheet->machinery)));
 }
 
 static wb_sheet inboard_hull(void)
@@ -64,6 +67,40 @@ static void try_loads(void)
         expect_step('C', outboard, KILOGRAM * loads[i], 1, loads[i]);
         expect_step('C', inboard, KILOGRAM * loads[i], 1, loads[i]);
         expect_step('C', low, KILOGRAM_LOW_POWER * loads[i], 1, loads[i]);
+    }
+}
+
+/* A hull that has every volume and weight, no two alike: a gram of any of them counted a unit too high or too low moves it over a bound. */
+static wb_sheet laden_hull(uint32_t outboard, uint32_t declared)
+{
+    wb_sheet sheet = base_hull();
+    sheet.well = 61000;
+    sheet.flooding = 303000;
+    sheet.bare = 407000;
+    sheet.fuel = 500000;
+    sheet.machinery = 499000;
+    sheet.fitting[0] = 72000;
+    sheet.fitting[23] = 88000;
+    sheet.outboard = outboard;
+    sheet.declared = declared;
+    return sheet;
+}
+
+static void try_laden_loads(void)
+{
+    static const int loads[] = {0, 1, 2, 75, 76, 326, 900};
+    wb_sheet outboard = laden_hull(1, 20000), low = laden_hull(1, 1500), inboard = laden_hull(0, 20000), low_inboard = laden_hull(0, 1500);
+    begin_part("loads of hulls that have every volume and weight");
+    for (size_t i = 0; i < sizeof loads / sizeof *loads; i++) {
+        int64_t half = KILOGRAM * loads[i] - KILOGRAM / 2, whole = KILOGRAM * loads[i], whole_low = KILOGRAM_LOW_POWER * loads[i];
+        expect_step('A', outboard, half, 1, loads[i]);
+        expect_step('A', low, half, 1, loads[i]);
+        expect_step('A', inboard, half, 5, loads[i]);
+        expect_step('A', low_inboard, half, 5, loads[i]);
+        expect_step('C', outboard, whole, 1, loads[i]);
+        expect_step('C', inboard, whole, 1, loads[i]);
+        expect_step('C', low, whole_low, 1, loads[i]);
+        expect_step('C', low_inboard, whole_low, 1, loads[i]);
     }
 }
 
@@ -376,6 +413,7 @@ static void try_plate_order(void)
 void try_plate_edges(void)
 {
     try_loads();
+    try_laden_loads();
     try_shares();
     try_power_rows();
     try_formulas();

@@ -276,6 +276,7 @@ static void try_whole_pounds(void)
     wb_sheet sheet = base_hull();
     int64_t boat = 200678, with_tanks = 213023;
     begin_part("whole pounds of each figure");
+    sheet.well = 765;
     sheet.flooding = 4321;
     sheet.fuel = 12345;
     sheet.fitting[4] = 678;

@@ -48,11 +48,11 @@ void set_water(wb_sheet *sheet, int64_t water)
     memset(sheet->station, 0, sizeof sheet->station);
     fill_station(&sheet->station[0], 1, first);
     fill_station(&sheet->station[3], 1, sum - 4 * first);
-    int64_t grams = (water - PRIME_REFERENCE * sum) / GRAM + sheet->flooding;
+    int64_t grams = (water - PRIME_REFERENCE * sum) / GRAM + sheet->well + sheet->flooding;
     if (grams > 5000000) {
         fill_station(&sheet->station[2], 3600, FULL_STATION);
         grams -= 4 * 3600 * (int64_t)FULL_STATION * PRIME_REFERENCE / GRAM;
     }
     sheet->aft = grams > 0 ? (uint32_t)grams : 0;
-    sheet->well = grams < 0 ? (uint32_t)-grams : 0;
+    sheet->well += grams < 0 ? (uint32_t)-grams : 0;
 }
