@@ -2,8 +2,8 @@
 #define _DEFAULT_SOURCE
 #include "compare.h"
 
+#include "offices.h"
 #include "random.h"
-#include "reference.h"
 
 #include <signal.h>
 #include <stdio.h>
@@ -13,39 +13,6 @@
 #include <unistd.h>
 
 struct contents lent[BUFFERS];
-
-/* ---- the two offices ---- */
-
-struct office {
-    wb_answer (*fresh)(uint32_t *, size_t);
-    wb_answer (*new_hull)(uint32_t *, size_t, const uint8_t *, size_t);
-    wb_answer (*open)(uint32_t *, size_t, uint32_t, uint32_t);
-    wb_answer (*put)(uint32_t *, size_t, uint32_t, uint32_t, uint32_t);
-    wb_answer (*take_off)(uint32_t *, size_t, uint32_t, uint32_t);
-    wb_answer (*replace)(uint32_t *, size_t, uint32_t, const uint8_t *, size_t);
-    wb_answer (*trial_a)(const uint32_t *, size_t, uint32_t);
-    wb_answer (*trial_c)(const uint32_t *, size_t, uint32_t, const uint32_t *, size_t, const uint32_t *, size_t);
-    wb_answer (*trial_u)(const uint32_t *, size_t, uint32_t);
-    wb_answer (*save)(uint32_t *, size_t, uint32_t);
-    wb_answer (*drop)(uint32_t *, size_t, uint32_t);
-    wb_answer (*plate_a)(const uint32_t *, size_t, uint32_t);
-    wb_answer (*plate_c)(const uint32_t *, size_t, uint32_t, const uint32_t *, size_t, const uint32_t *, size_t);
-    wb_answer (*plate_u)(const uint32_t *, size_t, uint32_t);
-    wb_answer (*write_hull)(const uint32_t *, size_t, uint32_t, uint8_t *, size_t);
-    wb_answer (*read_sheet)(const uint8_t *, size_t, wb_sheet *);
-    wb_answer (*write_sheet)(const wb_sheet *, uint8_t *, size_t);
-    wb_answer (*read_engines)(const uint8_t *, size_t, uint32_t *, size_t, uint32_t *, size_t);
-};
-
-static const struct office library = {
-    wb_fresh, wb_new_hull, wb_open, wb_put, wb_take_off, wb_replace, wb_trial_a, wb_trial_c, wb_trial_u, wb_save, wb_drop, wb_plate_a, wb_plate_c,
-    wb_plate_u, wb_write_hull, wb_read_sheet, wb_write_sheet, wb_read_engines,
-};
-
-static const struct office reference = {
-    ref_fresh, ref_new_hull, ref_open, ref_put, ref_take_off, ref_replace, ref_trial_a, ref_trial_c, ref_trial_u, ref_save, ref_drop, ref_plate_a,
-    ref_plate_c, ref_plate_u, ref_write_hull, ref_read_sheet, ref_write_sheet, ref_read_engines,
-};
 
 /* ---- what each call is lent, and what it can answer by the header ---- */
 
@@ -133,7 +100,8 @@ static void print_call(void)
            (unsigned long)current.weight);
     for (int buffer = 0; buffer < BUFFERS; buffer++)
         if (uses & BIT(buffer))
-            printf("  lent %s: %lu bytes\n", buffer_names[buffer], (unsigned long)lent[buffer].size);
+            printf("  lent %s: %lu bytes, told of %lu elements more\n", buffer_names[buffer], (unsigned long)lent[buffer].size,
+                   (unsigned long)lent[buffer].beyond);
     if (uses & BIT(TEXT))
         print_text();
     for (int buffer = 0; buffer < BUFFERS; buffer++)
@@ -217,6 +185,7 @@ uint8_t *lend(enum buffer buffer, size_t size)
 {
     insist(size <= sizeof lent[buffer].words, "the test has no room for so much");
     lent[buffer].size = size;
+    lent[buffer].beyond = 0;
     return lent_bytes(buffer);
 }
 
@@ -241,17 +210,23 @@ static void protect(unsigned long buffers, int protection)
 
 /* ---- making a call ---- */
 
+/* The length that a call is told, in elements of so many bytes. */
+static size_t told(enum buffer buffer, size_t element)
+{
+    return lent[buffer].size / element + lent[buffer].beyond;
+}
+
 static wb_answer call_text(const struct office *office, struct call call, const struct place *place)
 {
     const uint8_t *text = place[TEXT].start;
     switch (call.kind) {
     case READ_SHEET:
-        return office->read_sheet(text, lent[TEXT].size, (wb_sheet *)(void *)place[SHEET].start);
+        return office->read_sheet(text, told(TEXT, 1), (wb_sheet *)(void *)place[SHEET].start);
     case WRITE_SHEET:
-        return office->write_sheet((const wb_sheet *)(void *)place[SHEET].start, place[OUT].start, lent[OUT].size);
+        return office->write_sheet((const wb_sheet *)(void *)place[SHEET].start, place[OUT].start, told(OUT, 1));
     default:
-        return office->read_engines(text, lent[TEXT].size, (uint32_t *)(void *)place[POWERS].start, lent[POWERS].size / 4,
-                                    (uint32_t *)(void *)place[WEIGHTS].start, lent[WEIGHTS].size / 4);
+        return office->read_engines(text, told(TEXT, 1), (uint32_t *)(void *)place[POWERS].start, told(POWERS, 4),
+                                    (uint32_t *)(void *)place[WEIGHTS].start, told(WEIGHTS, 4));
     }
 }
 
@@ -259,7 +234,7 @@ static wb_answer call_plate(const struct office *office, struct call call, const
 {
     const uint32_t *mem = (const uint32_t *)(void *)place[MEMORY].start;
     const uint32_t *powers = (const uint32_t *)(void *)place[POWERS].start, *weights = (const uint32_t *)(void *)place[WEIGHTS].start;
-    size_t len = lent[MEMORY].size / 4, powers_len = lent[POWERS].size / 4, weights_len = lent[WEIGHTS].size / 4;
+    size_t len = told(MEMORY, 4), powers_len = told(POWERS, 4), weights_len = told(WEIGHTS, 4);
     switch (call.kind) {
     case TRIAL_A:
         return office->trial_a(mem, len, call.desk);
@@ -280,7 +255,7 @@ static wb_answer call_office(const struct office *office, struct call call, cons
 {
     uint32_t *mem = (uint32_t *)(void *)place[MEMORY].start;
     const uint8_t *text = place[TEXT].start;
-    size_t len = lent[MEMORY].size / 4, text_len = lent[TEXT].size;
+    size_t len = told(MEMORY, 4), text_len = told(TEXT, 1);
     switch (call.kind) {
     case FRESH:
         return office->fresh(mem, len);
@@ -299,7 +274,7 @@ static wb_answer call_office(const struct office *office, struct call call, cons
     case DROP:
         return office->drop(mem, len, call.desk);
     case WRITE_HULL:
-        return office->write_hull(mem, len, call.hull, place[OUT].start, lent[OUT].size);
+        return office->write_hull(mem, len, call.hull, place[OUT].start, told(OUT, 1));
     case READ_SHEET:
     case WRITE_SHEET:
     case READ_ENGINES:
@@ -365,7 +340,7 @@ static wb_answer call_both(unsigned long reads, unsigned long uses)
     if (sealed)
         protect(reads, PROT_READ);
     running = "the library";
-    wb_answer got = call_office(&library, current, places[LIBRARY]);
+    wb_answer got = call_office(one_in(2) ? &library : &library_with_rubbish, current, places[LIBRARY]);
     running = "the reference";
     wb_answer wanted = call_office(&reference, current, places[REFERENCE]);
     running = "the test";

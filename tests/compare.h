@@ -16,7 +16,8 @@ enum buffer { MEMORY, TEXT, OUT, POWERS, WEIGHTS, SHEET, BUFFERS };
 #define ROOM_WORDS 4096
 
 struct contents {
-    size_t size; /* in bytes; a buffer of words has a multiple of four */
+    size_t size;   /* in bytes; a buffer of words has a multiple of four */
+    size_t beyond; /* elements that a call is told of on top of these; none of them is there to be touched */
     uint32_t words[ROOM_WORDS];
 };
 

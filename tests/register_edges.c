@@ -35,12 +35,11 @@ static void build(uint32_t hulls, uint32_t drafts)
 #define JUDGING 14
 
 /* One of them, with numbers that are right where the memory allows it. */
-static wb_answer judging_call(uint32_t turn)
+static struct call judging_call(uint32_t turn)
 {
     static const enum kind judging[JUDGING] = {NEW_HULL, OPEN, PUT, TAKE_OFF, REPLACE, TRIAL_A, TRIAL_C, TRIAL_U, SAVE, DROP, PLATE_A, PLATE_C, PLATE_U,
                                                WRITE_HULL};
-    struct call call = {.kind = judging[turn % JUDGING], .desk = turn % 3, .hull = turn % 4, .line = turn % 24 + 1, .weight = 5};
-    return attempt(call);
+    return (struct call){.kind = judging[turn % JUDGING], .desk = turn % 3, .hull = turn % 4, .line = turn % 24 + 1, .weight = 5};
 }
 
 static void lend_good_things(void)
@@ -83,7 +82,7 @@ static void change_word(uint32_t word, uint32_t number, int formed, uint32_t tur
     static uint32_t before[WB_REGISTER_WORDS];
     memcpy(before, mem, sizeof before);
     mem[word] = number;
-    wb_answer answer = judging_call(turn);
+    wb_answer answer = attempt(judging_call(turn));
     insist((answer.refusal == 1) == !formed, "one word of a good memory was changed, and refusal 1 was given or not where it should not be");
     memcpy(mem, before, sizeof before);
 }
@@ -162,9 +161,30 @@ static void try_wrong_sizes(void)
     for (size_t i = 0; i < sizeof words / sizeof *words; i++) {
         lent[MEMORY].size = 4 * words[i];
         for (uint32_t turn = 0; turn < JUDGING; turn++)
-            expect(judging_call(turn), 1, 0, 0);
+            expect(attempt(judging_call(turn)), 1, 0, 0);
         expect(attempt((struct call){.kind = FRESH}), 1, 0, 0);
     }
+}
+
+/* Lengths of which only the lower half is right, or would do. */
+static void try_far_lengths(void)
+{
+    static const enum buffer slices[][2] = {{POWERS, POWERS}, {WEIGHTS, WEIGHTS}, {POWERS, WEIGHTS}};
+    begin_part("lengths above 32 bits at the register");
+    build(15, 8);
+    lend_good_things();
+    for (uint32_t turn = 0; turn < JUDGING; turn++)
+        expect_beyond(judging_call(turn), MEMORY, MEMORY, 1, 0);
+    expect_beyond((struct call){.kind = FRESH}, MEMORY, MEMORY, 1, 0);
+    expect_beyond((struct call){.kind = NEW_HULL}, TEXT, TEXT, 2, 0);
+    expect_beyond((struct call){.kind = REPLACE}, TEXT, TEXT, 2, 0);
+    for (size_t i = 0; i < sizeof slices / sizeof *slices; i++) {
+        expect_beyond((struct call){.kind = PLATE_C}, slices[i][0], slices[i][1], 10, 0);
+        expect_beyond((struct call){.kind = TRIAL_C}, slices[i][0], slices[i][1], 10, 0);
+    }
+    uint32_t size = attempt((struct call){.kind = WRITE_HULL}).first;
+    lend_out(size);
+    expect_beyond((struct call){.kind = WRITE_HULL}, OUT, OUT, 0, size);
 }
 
 /* ---- saves ---- */
@@ -318,6 +338,7 @@ void try_register_edges(void)
     change_bound_words();
     try_seventeen_hulls();
     try_wrong_sizes();
+    try_far_lengths();
     try_last_edits();
     try_ended_drafts();
     try_order();

@@ -19,6 +19,12 @@ void lend_slices(size_t powers, size_t weights);
 #define OTHER_BYTE 0xC3
 void insist_untouched(enum buffer buffer, size_t from);
 
+/*
+ * A call that is told of 2^32 elements and more, on top of those that are lent, of one buffer or of two: so it must answer. A call that asks the length first
+ * and touches only what it must cannot tell that they are not there; one that goes by the lower half of the length answers something else.
+ */
+void expect_beyond(struct call call, enum buffer one, enum buffer other, uint32_t refusal, uint32_t first);
+
 /* Lends engine rows as the plate calls take them. */
 void lend_rows(const uint32_t *powers, const uint32_t *weights, size_t rows);
 

@@ -339,6 +339,34 @@ static void try_outputs(void)
         expect_written(random_sheet());
 }
 
+/* Texts, outputs and slices of which only the lower half of the length is right, or just room enough. */
+static void try_far_lengths(void)
+{
+    wb_sheet sheet = base_hull();
+    begin_part("lengths above 32 bits");
+    lend_text_of(&sheet);
+    expect_read(0);
+    expect_beyond((struct call){.kind = READ_SHEET}, TEXT, TEXT, 2, 0);
+    lend_text("HULL\t16\n");
+    expect_beyond((struct call){.kind = READ_SHEET}, TEXT, TEXT, 2, 0); /* and not 3 */
+    lend_text("");
+    expect_beyond((struct call){.kind = READ_SHEET}, TEXT, TEXT, 2, 0);
+    lend_text_of(&sheet);
+    lend_sheet(&sheet);
+    lend_out(lent[TEXT].size);
+    expect_beyond((struct call){.kind = WRITE_SHEET}, OUT, OUT, 0, (uint32_t)lent[TEXT].size);
+    lend_engine_rows(40);
+    lend_slices(40, 40);
+    expect_beyond((struct call){.kind = READ_ENGINES}, POWERS, POWERS, 0, 40);
+    expect_beyond((struct call){.kind = READ_ENGINES}, WEIGHTS, WEIGHTS, 0, 40);
+    expect_beyond((struct call){.kind = READ_ENGINES}, POWERS, WEIGHTS, 0, 40);
+    expect_beyond((struct call){.kind = READ_ENGINES}, TEXT, TEXT, 2, 0);
+    lend_slices(40, 39);
+    expect_beyond((struct call){.kind = READ_ENGINES}, POWERS, POWERS, 16, 0);
+    lend_slices(39, 40);
+    expect_beyond((struct call){.kind = READ_ENGINES}, WEIGHTS, WEIGHTS, 16, 0);
+}
+
 void try_text_edges(void)
 {
     try_limits();
@@ -351,4 +379,5 @@ void try_text_edges(void)
     try_engine_counts();
     try_engine_lines();
     try_outputs();
+    try_far_lengths();
 }
