@@ -79,8 +79,8 @@ static wb_sheet laden_hull(uint32_t outboard, uint32_t declared)
     sheet.bare = 407000;
     sheet.fuel = 500000;
     sheet.machinery = 499000;
-    sheet.fitting[0] = 72000;
-    sheet.fitting[23] = 88000;
+    for (uint32_t line = 0; line < WB_FITTINGS; line++)
+        sheet.fitting[line] = 5000 + 100 * line;
     sheet.outboard = outboard;
     sheet.declared = declared;
     return sheet;
@@ -270,6 +270,8 @@ static void try_persons(void)
         expect_persons(75000 * (int64_t)count - 1, 24, 24, one_less);
         expect_persons(75000 * (int64_t)count, 24, 1, count > 0);
         expect_persons(75000 * (int64_t)count, 1, 24, count > 0);
+        expect_persons(75000 * (int64_t)count, 24, 3, count < 3 ? count : 3);
+        expect_persons(75000 * (int64_t)count, 4, 24, count < 4 ? count : 4);
         if (count >= 4)
             expect_persons(75000 * (int64_t)count, 24, 0, capped);
     }

@@ -270,32 +270,40 @@ static void expect_step(wb_sheet sheet, int64_t off, int64_t bound, int64_t poun
     }
 }
 
+/* An inboard of so many pounds, on both sides of 226.8 g of machinery to a pound, where its two figures are equal; below 0 the seventh is the greater. */
+static void try_inboard_pounds(wb_sheet sheet, int64_t with_tanks, int pounds)
+{
+    sheet.outboard = 0;
+    sheet.machinery = pounds > 0 ? 200 * (uint32_t)pounds : 0;
+    if (pounds > 0)
+        expect_step(sheet, with_tanks + 4 * (int64_t)sheet.machinery, FIFTH_POUND * pounds, pounds);
+    else
+        expect_step(sheet, with_tanks, seventh_pounds(pounds), pounds);
+    sheet.machinery = pounds > 0 ? 230 * (uint32_t)pounds : 7;
+    expect_step(sheet, with_tanks, seventh_pounds(pounds), pounds);
+}
+
+/* Hulls that have every volume and weight. */
 static void try_whole_pounds(void)
 {
     static const int counts[] = {-900, -2, -1, 0, 1, 2, 3, 4, 5, 75, 720, 1000, 1999, 2000};
-    wb_sheet sheet = base_hull();
-    int64_t boat = 200678, with_tanks = 213023;
+    wb_sheet high = base_hull();
+    int64_t boat = high.bare, with_tanks;
     begin_part("whole pounds of each figure");
-    sheet.well = 765;
-    sheet.flooding = 4321;
-    sheet.fuel = 12345;
-    sheet.fitting[4] = 678;
+    high.well = 765;
+    high.flooding = 4321;
+    high.fuel = 12345;
+    high.machinery = 98765;
+    for (uint32_t line = 0; line < WB_FITTINGS; line++)
+        boat += high.fitting[line] = 100 + line;
+    with_tanks = boat + high.fuel;
+    wb_sheet low = high;
+    low.declared = 1491;
     for (size_t i = 0; i < sizeof counts / sizeof *counts; i++) {
-        int pounds = counts[i];
-        wb_sheet outboard = sheet, low = sheet, light = sheet, heavy = sheet;
-        outboard.machinery = low.machinery = 98765;
-        low.declared = 1491;
-        light.outboard = heavy.outboard = 0;
-        /* on both sides of 226.8 g to a pound, where the two figures are equal; below zero the seventh is the greater */
-        light.machinery = pounds > 0 ? 200 * (uint32_t)pounds : 0;
-        heavy.machinery = pounds > 0 ? 230 * (uint32_t)pounds : 7;
-        expect_step(outboard, with_tanks, FIFTH_POUND * pounds, pounds);
-        expect_step(low, boat, THREE_TENTHS_POUND * pounds, pounds);
-        if (pounds > 0)
-            expect_step(light, with_tanks + 4 * (int64_t)light.machinery, FIFTH_POUND * pounds, pounds);
-        else
-            expect_step(light, with_tanks, seventh_pounds(pounds), pounds);
-        expect_step(heavy, with_tanks, seventh_pounds(pounds), pounds);
+        expect_step(high, with_tanks, FIFTH_POUND * counts[i], counts[i]);
+        expect_step(low, boat, THREE_TENTHS_POUND * counts[i], counts[i]);
+        try_inboard_pounds(high, with_tanks, counts[i]);
+        try_inboard_pounds(low, with_tanks, counts[i]);
     }
 }
 

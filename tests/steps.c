@@ -36,11 +36,12 @@ void lend_slices(size_t powers, size_t weights)
 
 void expect_beyond(struct call call, enum buffer one, enum buffer other, uint32_t refusal, uint32_t first)
 {
-    for (int bit = 32; bit < 46; bit++) { /* no machine has room for more */
-        lent[one].beyond = lent[other].beyond = (size_t)1 << bit;
-        expect(attempt(call), refusal, first, 0);
-        lent[one].beyond = lent[other].beyond = 0;
-    }
+    for (int bit = 32; bit < 46; bit++) /* no machine has room for more */
+        for (size_t less = 0; less < 2; less++) {
+            lent[one].beyond = lent[other].beyond = ((size_t)1 << bit) - less;
+            expect(attempt(call), refusal, first, 0);
+            lent[one].beyond = lent[other].beyond = 0;
+        }
 }
 
 void lend_rows(const uint32_t *powers, const uint32_t *weights, size_t rows)

@@ -20,8 +20,9 @@ void lend_slices(size_t powers, size_t weights);
 void insist_untouched(enum buffer buffer, size_t from);
 
 /*
- * A call that is told of 2^32 elements and more, on top of those that are lent, of one buffer or of two: so it must answer. A call that asks the length first
- * and touches only what it must cannot tell that they are not there; one that goes by the lower half of the length answers something else.
+ * A call that is told of 2^32 elements more than are lent, less one or not, or of a higher power of two, of one buffer or of two: so it must answer. A
+ * call that asks the length first and touches only what it must cannot tell that they are not there; one that goes by the lower half of the length,
+ * which is what is lent or one less, answers something else.
  */
 void expect_beyond(struct call call, enum buffer one, enum buffer other, uint32_t refusal, uint32_t first);
 

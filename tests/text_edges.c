@@ -188,9 +188,10 @@ static void try_fit_lines(void)
     } tried[] = {{"END\n", 0}, {"", 2}, {"END", 2}, {"END\t\n", 2}, {"END\r\n", 2}, {"END\n\n", 2}, {"END\nEND\n", 2}, {"end\n", 2}, {"\nEND\n", 2},
                  {"FIT\t1\t1\nEND\n", 0}, {"FIT\t24\t500000\nEND\n", 0}, {"FIT\t0\t1\nEND\n", 3}, {"FIT\t25\t1\nEND\n", 3}, {"FIT\t1\t0\nEND\n", 3},
                  {"FIT\t1\t500001\nEND\n", 3}, {"FIT\t2\t1\nFIT\t2\t1\nEND\n", 3}, {"FIT\t2\t1\nFIT\t1\t1\nEND\n", 3}, {"FIT\t2\t1\nFIT\t3\t1\nEND\n", 0},
-                 {"FIT\t2\t1\nFIT\t2\tx\nEND\n", 3}, {"FIT\t2\t1\nFIT\t2x\t1\nEND\n", 2}, {"FIT\t1\t-\nEND\n", 2}, {"FIT\t-\t1\nEND\n", 2},
-                 {"FIT\t01\t1\nEND\n", 2}, {"FIT\t1\t1\t\nEND\n", 2}, {"FIT\t\t1\t1\nEND\n", 2}, {"FIT\t25\t01\nEND\n", 3}, {"FIT\t1\t1\n", 2},
-                 {"FIT\t9999999999\t1\nEND\n", 3}, {"FIT\t10000000000\t1\nEND\n", 2}, {"FIT\t1\t4294967297\nEND\n", 3}, {"FIT\t1\n1\nEND\n", 2}};
+                 {"FIT\t2\t1\nFIT\t2\tx\nEND\n", 3}, {"FIT\t0\tx\nEND\n", 3}, {"FIT\t2\t1\nFIT\t2x\t1\nEND\n", 2}, {"FIT\t1\t-\nEND\n", 2},
+                 {"FIT\t-\t1\nEND\n", 2}, {"FIT\t01\t1\nEND\n", 2}, {"FIT\t1\t1\t\nEND\n", 2}, {"FIT\t\t1\t1\nEND\n", 2}, {"FIT\t25\t01\nEND\n", 3},
+                 {"FIT\t1\t1\n", 2}, {"FIT\t9999999999\t1\nEND\n", 3}, {"FIT\t10000000000\t1\nEND\n", 2}, {"FIT\t1\t4294967297\nEND\n", 3},
+                 {"FIT\t1\n1\nEND\n", 2}};
     begin_part("FIT lines and END");
     for (size_t i = 0; i < sizeof tried / sizeof *tried; i++) {
         lend_with(tried[i].lines);
@@ -213,6 +214,21 @@ static void try_fit_counts(void)
     }
 }
 
+/* The field of a sheet's number before the fittings; tags and stations' letters are fields too. */
+static size_t field_of(int number)
+{
+    static const int first[] = {0, 1, 7, 14, 21, 28, 35, 38, 41, 43}, tags[] = {1, 1, 2, 2, 2, 2, 1, 1, 1, 1};
+    size_t field = (size_t)number;
+    for (size_t line = 0; line < sizeof first / sizeof *first && first[line] <= number; line++)
+        field += (size_t)tags[line];
+    return field;
+}
+
+static void spoil_field(size_t field, const char *by)
+{
+    lent[TEXT].size = replace_field(lent_bytes(TEXT), lent[TEXT].size, field, by);
+}
+
 /* A fault further down or to the right is not the one that is answered. */
 static void try_first_fault(void)
 {
@@ -227,10 +243,32 @@ static void try_first_fault(void)
         for (int later = 0; later < 2; later++) {
             wb_sheet sheet = base_hull();
             lend_text_of(&sheet);
-            lent[TEXT].size = replace_field(lent_bytes(TEXT), lent[TEXT].size, 45, later ? "5000001" : "x");
-            lent[TEXT].size = replace_field(lent_bytes(TEXT), lent[TEXT].size, tried[i].field, tried[i].by);
+            spoil_field(field_of(AFT_NUMBER), later ? "5000001" : "x");
+            spoil_field(tried[i].field, tried[i].by);
             expect_read(tried[i].refusal);
         }
+}
+
+/* A number outside its limits and, as near after it as can be, broken form: the number is the first fault. And the other way round. */
+static void expect_first(int number, uint32_t outside)
+{
+    wb_sheet sheet = base_hull();
+    numbers_of(&sheet)[number] = outside;
+    lend_text_of(&sheet);
+    spoil_field(field_of(number) + 1, "x");
+    expect_read(3);
+    lend_text_of(&sheet);
+    spoil_field(field_of(number) - 1, "x");
+    expect_read(2);
+}
+
+static void try_next_fault(void)
+{
+    for (int number = 0; number < FIRST_FITTING; number++) {
+        expect_first(number, highest(number) + 1);
+        if (lowest(number) > 0 && number != TESTED_NUMBER) /* a text cannot say 0 tested persons */
+            expect_first(number, lowest(number) - 1);
+    }
 }
 
 static void try_tested(void)
@@ -282,7 +320,8 @@ static void try_engine_lines(void)
         const char *text;
         uint32_t refusal;
     } tried[] = {{"ENG\t0\t1\n", 3}, {"ENG\t1\t0\n", 16}, {"ENG\t200001\t0\n", 3}, {"ENG\t1\t1000001\n", 3}, {"ENG\t2\t1\nENG\t2\t1\n", 3},
-                 {"ENG\t2\t1\nENG\t1\t1\n", 3}, {"ENG\t2\t1\nENG\t02\t1\n", 2}, {"ENG\t2\t1\nENG\t2\tx\n", 3}, {"ENG\t2\t1\n\n", 2}, {"ENG\t2\t1", 2},
+                 {"ENG\t2\t1\nENG\t1\t1\n", 3}, {"ENG\t2\t1\nENG\t02\t1\n", 2}, {"ENG\t2\t1\nENG\t2\tx\n", 3}, {"ENG\t0\tx\n", 3},
+                 {"ENG\t200001\tx\n", 3}, {"ENG\t2\t1\n\n", 2}, {"ENG\t2\t1", 2},
                  {"ENG\t2\t1\r\n", 2}, {"ENG\t2\t1\nEND\n", 2}, {"ENG\t1\t-\n", 2}, {"ENG\t-\t1\n", 2}, {"ENG\t9999999999\t1\n", 3},
                  {"ENG\t10000000000\t1\n", 2}, {"ENG\t1\t10000000000\n", 2}, {"ENG\t1\t1\t1\n", 2}, {"ENG\t1\n", 2}, {"eng\t1\t1\n", 2}};
     for (size_t i = 0; i < sizeof tried / sizeof *tried; i++) {
@@ -375,6 +414,7 @@ void try_text_edges(void)
     try_fit_lines();
     try_fit_counts();
     try_first_fault();
+    try_next_fault();
     try_tested();
     try_engine_counts();
     try_engine_lines();
