@@ -137,6 +137,72 @@ static void try_shares(void)
         expect_added(outboard, FIRST_FITTING + line, 50000, -10, -10);
 }
 
+/* ---- whole boats, with the figures worked out apart ---- */
+
+/* The boat of examples/no-two-alike.sheet. */
+static void try_no_two_alike(void)
+{
+    static const uint32_t power = 48400, weight = 208000;
+    wb_sheet sheet = base_hull();
+    begin_part("a boat of which no two stations, volumes and weights are alike");
+    lend_rows(&power, &weight, 1);
+    sheet.length = 5100;
+    sheet.reference = 4900;
+    sheet.transom_width = 1700;
+    sheet.transom_height = 510;
+    sheet.remote = 1;
+    sheet.station[0] = (wb_station){1210, 560, 498, 421, 333, 221, 79};
+    sheet.station[1] = (wb_station){1690, 631, 594, 541, 467, 372, 188};
+    sheet.station[2] = (wb_station){1830, 643, 612, 566, 503, 414, 247};
+    sheet.station[3] = (wb_station){1750, 602, 583, 547, 494, 419, 271};
+    sheet.aft = 52000;
+    sheet.well = 18000;
+    sheet.flooding = 29000;
+    sheet.bare = 431000;
+    sheet.fuel = 61000;
+    sheet.machinery = 23000;
+    sheet.declared = 33000;
+    sheet.positions = 7;
+    sheet.tested = 5;
+    sheet.fitting[4] = 8600;
+    sheet.fitting[23] = 13700;
+    expect_plate('A', &sheet, 0, 536, 75000);
+    expect_plate('C', &sheet, 0, 535, 4);
+    expect_plate('U', &sheet, 0, 1191, 0);
+    sheet.outboard = 0;
+    expect_plate('A', &sheet, 0, 468, 0);
+    expect_plate('C', &sheet, 0, 535, 5);
+    expect_plate('U', &sheet, 0, 1150, 0);
+}
+
+/* Every number at its highest, the most that can be marked, and the least. */
+static void try_ends(void)
+{
+    static const uint32_t power = 200000, weight = 1000000;
+    wb_sheet sheet;
+    begin_part("the most and the least on plates A and C");
+    lend_rows(&power, &weight, 1);
+    for (int number = 0; number < SHEET_NUMBERS; number++)
+        numbers_of(&sheet)[number] = highest(number);
+    expect_plate('A', &sheet, 0, 7000, 225000);
+    expect_plate('C', &sheet, 0, 7000, 24);
+    sheet.outboard = 0;
+    expect_plate('A', &sheet, 0, 6200, 0);
+    sheet.well = sheet.flooding = sheet.fuel = sheet.machinery = 0;
+    for (int line = 0; line < WB_FITTINGS; line++)
+        sheet.fitting[line] = 0;
+    sheet.bare = 1;
+    sheet.declared = 1500;
+    expect_plate('A', &sheet, 0, 12000, 0);
+    expect_plate('C', &sheet, 0, 17999, 24);
+    for (int number = FIRST_READING; number < FIRST_FITTING; number++)
+        numbers_of(&sheet)[number] = number > AFT_NUMBER && number <= MACHINERY_NUMBER ? highest(number) : lowest(number);
+    for (int line = 0; line < WB_FITTINGS; line++)
+        sheet.fitting[line] = 500000;
+    expect_plate('A', &sheet, 12, 0, 0);
+    expect_plate('C', &sheet, 12, 0, 0);
+}
+
 /* ---- powers ---- */
 
 /* The length and width of which the product is the nearest one not above, or not below, a number. The product is the answer. */
@@ -417,6 +483,8 @@ void try_plate_edges(void)
     try_loads();
     try_laden_loads();
     try_shares();
+    try_no_two_alike();
+    try_ends();
     try_power_rows();
     try_formulas();
     try_persons();
