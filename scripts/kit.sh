@@ -17,10 +17,13 @@ build() { # NAME
     rm -f "$built"
 }
 
-# Runs a built program as rt does: by the kit's own loader and C library, and by its emulator on a processor that is not x86-64.
-program() { # NAME
+# Runs a built program as rt does: by the kit's own loader and C library, and by its emulator on a processor that is not x86-64. With a COMMAND runs that
+# instead, and gives it the words that run the program.
+program() { # NAME [COMMAND...]
+    binary=target/bin/$1
+    shift
     tools=$(dirname "$(dirname "$(rt doc)")")/on/$(uname -m)/toolchain
     emulator=$tools/bin/qemu-x86_64
     [ -x "$emulator" ] || emulator=
-    ${emulator:+"$emulator"} "$tools/lib/ld-linux-x86-64.so.2" --library-path "$tools/lib" "target/bin/$1"
+    "$@" ${emulator:+"$emulator"} "$tools/lib/ld-linux-x86-64.so.2" --library-path "$tools/lib" "$binary"
 }
