@@ -11,7 +11,8 @@
  * A call that may change a register needs it alone; those that only read it, whose mem is const, may run side by side. The caller locks. Between calls
  * the register's words must stay as they are.
  *
- * The calls are proved to do what docs/PROMISES.md says; docs/RULES.md has the rules, docs/REGISTER.md the layout of the register's memory.
+ * The archive is for x86-64 Linux. The calls are proved to do what docs/PROMISES.md says; docs/RULES.md has the rules, docs/REGISTER.md the layout of the
+ * register's memory.
  */
 #ifndef WILLOWBLINK_H
 #define WILLOWBLINK_H
