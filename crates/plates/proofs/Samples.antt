@@ -5,8 +5,13 @@ use mathlib.Core.Bool.{Bool, true, _&&_}
 use mathlib.Core.List.{List, [], _∷_, _++_, map}
 use Prim.Native.Nat.{ℕ, zero, suc, _+_, _*_}
 use lib.ListN.{replicate}
+use Rattle.text.specs.Quoted.{bytes}
+use Rattle.text.specs.Field.{fieldOf, agreed}
+use Rattle.text.specs.Number.{restOf, numberOf}
 use Rattle.text.specs.Limit.{allHold}
+use Rattle.text.specs.Line.{readEntry, readNumbers, readLine}
 use Rattle.sheet.specs.Sheet.{limitsOn, sheetLimits}
+use Rattle.sheet.specs.Reading.{readLines, readFits, readEnd, readRest, readSheet}
 use Rattle.plates.specs.Words.{hullLength, reference, transomWidth, transomHeight, flatBottom, remote, station, aft, well, flooding, bare, fuel, machinery, outboard, declared, positions, tested, fittingsOf}
 use Rattle.plates.specs.Volume.{stationProduct, summed, volumeN, netZ}
 use Rattle.plates.specs.Weights.{addedUp, boatM}
@@ -29,6 +34,16 @@ all-stand (c ∷ cs) = stands c && all-stand cs
 starred : all-stand cases ≡ true
 unfolding all-stand stands cases holds-of answer-c marks agrees refuses second-is seated load power inboard words allHold sheetLimits limitsOn stationProduct volumeN netZ addedUp boatM exactX markedC rising rowsRight rowFor noRow engineWeight liveLoad persons untested plateC inboardX loadX markedA formulaWatts powerA plateA
 starred = refl
+
+-- the base hull is that of 01's printed sheet
+printed : List ℕ
+printed =
+    bytes "HULL\t0\nFORM\t4500\t4000\t1200\t500\t0\t1\nSTN\tQ\t1000\t500\t500\t500\t500\t500\t500\nSTN\tR\t1000\t500\t500\t500\t500\t500\t500\nSTN\tS\t1000\t500\t500\t500\t500\t500\t500\nSTN\tT\t1000\t500\t500\t500\t500\t500\t500\n"
+    ++ bytes "VOL\t0\t0\t0\nMASS\t200000\t0\t0\nPWR\t1\t20000\nSEAT\t5\t3\nFIT\t1\t3334\nEND\n"
+
+base-right : readSheet printed .numbers ≡ 0 ∷ seated 3 20000 200000 3334
+unfolding printed seated words readSheet readLines readLine agreed readNumbers readEntry fieldOf numberOf restOf readRest readFits readEnd
+base-right = refl
 
 -- ---- ours
 
