@@ -4,7 +4,7 @@ use mathlib.Core.Path.{_≡_, refl}
 use mathlib.Core.Bool.{Bool, true, _&&_}
 use mathlib.Core.List.{List, [], _∷_, _++_, map}
 use Prim.Native.Nat.{ℕ, zero, suc, _+_, _*_}
-use lib.ListN.{replicate}
+use lib.ListN.{getD, replicate}
 use Rattle.text.specs.Quoted.{bytes}
 use Rattle.text.specs.Field.{fieldOf, agreed}
 use Rattle.text.specs.Number.{restOf, numberOf}
@@ -34,6 +34,32 @@ all-stand (c ∷ cs) = stands c && all-stand cs
 starred : all-stand cases ≡ true
 unfolding all-stand stands cases holds-of answer-c marks agrees refuses second-is seated load power inboard words allHold sheetLimits limitsOn stationProduct volumeN netZ addedUp boatM exactX markedC rising rowsRight rowFor noRow engineWeight liveLoad persons untested plateC inboardX loadX markedA formulaWatts powerA plateA
 starred = refl
+
+-- the base hull's length, reference length, width, flat bottom and remote steering
+hull : List ℕ
+hull = 4500 ∷ 4000 ∷ 1200 ∷ 0 ∷ 1 ∷ []
+
+-- what each of them is a case of: declared power, bare boat, fitting; length, reference length, width, flat bottom, remote steering
+told : Case → List ℕ
+told c = declared (c .sheet) ∷ bare (c .sheet) ∷ getD (fittingsOf (c .sheet)) 0 0 ∷ hullLength (c .sheet) ∷ reference (c .sheet) ∷ transomWidth (c .sheet) ∷ flatBottom (c .sheet) ∷ remote (c .sheet) ∷ []
+
+cases-told :
+    map told cases
+    ≡ (20000 ∷ 200000 ∷ 0 ∷ hull) ∷ (20000 ∷ 200000 ∷ 0 ∷ hull)
+    ∷ (1500 ∷ 200000 ∷ 0 ∷ hull) ∷ (1501 ∷ 200000 ∷ 0 ∷ hull)
+    ∷ (20000 ∷ 200000 ∷ 3333 ∷ hull) ∷ (20000 ∷ 200000 ∷ 3334 ∷ hull) ∷ (20000 ∷ 200000 ∷ 3334 ∷ hull)
+    ∷ (20000 ∷ 1828333 ∷ 0 ∷ hull) ∷ (20000 ∷ 1828334 ∷ 0 ∷ hull) ∷ (20000 ∷ 1828334 ∷ 0 ∷ hull)
+    ∷ replicate 2 (20000 ∷ 200000 ∷ 0 ∷ 4500 ∷ 4000 ∷ 1200 ∷ 0 ∷ 0 ∷ [])
+    ++ ((20000 ∷ 200000 ∷ 0 ∷ 2250 ∷ 2250 ∷ 1000 ∷ 0 ∷ 0 ∷ []) ∷ (20000 ∷ 200000 ∷ 0 ∷ 2251 ∷ 2250 ∷ 1000 ∷ 0 ∷ 0 ∷ []) ∷ (20000 ∷ 200000 ∷ 0 ∷ 2250 ∷ 2250 ∷ 1000 ∷ 1 ∷ 0 ∷ [])
+    ∷ (20000 ∷ 200000 ∷ 0 ∷ 4100 ∷ 4000 ∷ 1250 ∷ 0 ∷ 1 ∷ [])
+    ∷ [])
+unfolding told cases hull seated load power inboard words
+cases-told = refl
+
+-- and the other boats are the base hull but for what they are about
+boats-right : (power 4000 4500 1200 0 1 ≡ load 20000 200000 0) × (inboard ≡ massed 0 20000 200000 20000 50000)
+unfolding seated load power inboard massed words
+boats-right = (refl, refl)
 
 -- the base hull is that of 01's printed sheet
 printed : List ℕ
