@@ -1,7 +1,7 @@
 -- The plates computed: the starred samples of 01, cases 1 to 7, as one statement over one list of them; one table of our own cases, the whole answer of each; the words'
 -- names; and each factor of the volume and row of the power table. Assumes nothing.
 use mathlib.Core.Path.{_≡_, refl}
-use mathlib.Core.Bool.{Bool, true, _&&_}
+use mathlib.Core.Bool.{Bool, true, false, _&&_}
 use mathlib.Core.List.{List, [], _∷_, _++_, map}
 use Prim.Native.Nat.{ℕ, zero, suc, _+_, _*_}
 use lib.ListN.{getD, replicate}
@@ -10,6 +10,7 @@ use Rattle.text.specs.Field.{fieldOf, agreed}
 use Rattle.text.specs.Number.{restOf, numberOf}
 use Rattle.text.specs.Limit.{allHold}
 use Rattle.text.specs.Line.{readEntry, readNumbers, readLine}
+use Rattle.sheet.specs.declared.Answer.the-variants.{Refused}
 use Rattle.sheet.specs.Sheet.{limitsOn, sheetLimits}
 use Rattle.sheet.specs.Reading.{readLines, readFits, readEnd, readRest, readSheet}
 use Rattle.plates.specs.Words.{hullLength, reference, transomWidth, transomHeight, flatBottom, remote, station, aft, well, flooding, bare, fuel, machinery, outboard, declared, positions, tested, fittingsOf}
@@ -34,6 +35,11 @@ all-stand (c ∷ cs) = stands c && all-stand cs
 starred : all-stand cases ≡ true
 unfolding all-stand stands cases holds-of answer-c marks agrees refuses second-is seated load power inboard words allHold sheetLimits limitsOn stationProduct volumeN netZ addedUp boatM exactX markedC rising rowsRight rowFor noRow engineWeight liveLoad persons untested plateC inboardX loadX markedA formulaWatts powerA plateA
 starred = refl
+
+-- a load is marked though the plate is refused for another reason, which is 13 or more
+refused-right : map (λ (m : ℕ). agrees (Refused m) 1) (12 ∷ 13 ∷ []) ≡ false ∷ true ∷ []
+unfolding agrees
+refused-right = refl
 
 -- the base hull's length, reference length, width, flat bottom and remote steering
 hull : List ℕ
