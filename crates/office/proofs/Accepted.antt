@@ -2,7 +2,7 @@
 use mathlib.Core.Path.{_≡_, refl, sym, _∙_}
 use mathlib.Core.Bool.{true, _&&_, true≢false}
 use mathlib.Core.Logic.{_↔_}
-use mathlib.Core.List.{List}
+use mathlib.Core.List.{List, [], _∷_, map}
 use Prim.Native.Nat.{ℕ}
 use lib.Dec.{leb}
 use Rattle.sheet.specs.declared.Answer.{Answer}
@@ -44,3 +44,9 @@ zero-written s room = zero-taken (writeAnswer s room) (write-listed s room)
 
 pub zero-engines : (t : List ℕ) (a b : ℕ) → (faced (enginesAnswer (readEngines t) a b) .refusal ≡ 0) ↔ (taken (enginesAnswer (readEngines t) a b) ≡ true)
 zero-engines t a b = zero-taken (enginesAnswer (readEngines t) a b) (engines-listed t a b)
+
+-- each answer, figure by figure
+answers-right :
+    map faced (Refused 12 ∷ Done ∷ Count 718 ∷ Plate 326 20000 ∷ [])
+    ≡ record { refusal = 12; first = 0; second = 0; third = 0 } ∷ record { refusal = 0; first = 0; second = 0; third = 0 } ∷ record { refusal = 0; first = 718; second = 0; third = 0 } ∷ record { refusal = 0; first = 326; second = 20000; third = 0 } ∷ []
+answers-right = refl

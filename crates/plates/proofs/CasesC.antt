@@ -4,8 +4,8 @@ use Prim.Native.Nat.{ℕ, zero, suc}
 use lib.ListN.{replicate}
 use Rattle.sheet.specs.declared.Answer.{Answer}
 use Rattle.sheet.specs.declared.Answer.the-variants.{Refused, Plate}
-use Rattle.plates.specs.Samples.{seated, load, inboard}
-use Rattle.plates.proofs.Boats.{Told, onC, weighing, launch, seats}
+use Rattle.plates.specs.Samples.{seated, load, power, inboard}
+use Rattle.plates.proofs.Boats.{Told, onC, weighing, massed, launch, transom, seats}
 
 -- ---- loads, persons, the engine
 
@@ -24,7 +24,7 @@ loadsC =
     ∷ weighing 60000 (launch 1 20000 614671 138000) (Plate 573 5) ∷ weighing 60000 (launch 1 20000 614672 138000) (Plate 572 5)
     ∷ weighing 60000 (launch 1 1500 613004 138000) (Plate 860 5) ∷ weighing 60000 (launch 1 1500 613005 138000) (Plate 859 5)
     ∷ weighing 60000 (launch 1 1501 614671 138000) (Plate 573 5) ∷ weighing 60000 (launch 0 1500 613004 138000) (Plate 860 5)
-    -- a marked load of 1 and of 0, a live load of too little for anybody
+    -- a marked load of 1, which carries nobody, and of 0
     ∷ weighing 0 (seated 3 20000 1828333 0) (Refused 15) ∷ weighing 0 (seated 3 20000 1828334 0) (Refused 12)
     -- two persons at 150000 g and one at 149999; one at 75000 and none at 74999, or below zero
     ∷ weighing 60000 (seated 4 20000 783333 0) (Plate 210 2) ∷ weighing 60001 (seated 4 20000 783333 0) (Plate 210 1)
@@ -38,6 +38,8 @@ loadsC =
     ∷ twice (1 ∷ 2 ∷ []) (launch 1 0 612621 138000) (Plate 860 11) ∷ twice (1 ∷ 2 ∷ []) (launch 1 1 612621 138000) (Plate 860 10)
     ∷ twice (1 ∷ 2 ∷ []) (launch 1 2 612621 138000) (Plate 860 8) ∷ twice (1 ∷ 2 ∷ []) (launch 1 3 612621 138000) (Refused 11)
     ∷ twice (1500 ∷ 1501 ∷ []) (launch 1 1500 612621 138000) (Plate 860 10) ∷ twice (1500 ∷ 1501 ∷ []) (launch 1 1501 612621 138000) (Plate 573 4)
+    -- with whatever bottom, steering and transom, and whatever an inboard has aboard
+    ∷ weighing 60000 (transom 499 (power 4000 4500 1200 1 0)) (Plate 326 3) ∷ weighing 60000 (massed 0 20000 200000 0 0) (Plate 326 4)
     ∷ twice (1 ∷ 2 ∷ []) (launch 0 1 612621 138000) (Plate 860 11) ∷ twice (1 ∷ 2 ∷ []) (launch 0 20000 612621 138000) (Plate 573 7)
     ∷ []
 
@@ -63,7 +65,7 @@ rowsC =
     -- rising by one, not rising, falling
     ∷ judged (5 ∷ 6 ∷ []) (0 ∷ 0 ∷ []) right ∷ judged (5 ∷ 5 ∷ []) (0 ∷ 0 ∷ []) (Refused 10) ∷ judged (5 ∷ 4 ∷ []) (0 ∷ 0 ∷ []) (Refused 10)
     -- the ends of a power and of a weight, in any row
-    ∷ judged (0 ∷ []) (0 ∷ []) (Refused 10) ∷ judged (200000 ∷ []) (1000000 ∷ []) right ∷ judged (200001 ∷ []) (0 ∷ []) (Refused 10) ∷ judged (1 ∷ []) (1000001 ∷ []) (Refused 10)
+    ∷ judged (0 ∷ []) (0 ∷ []) (Refused 10) ∷ judged (200000 ∷ []) (1000000 ∷ []) right ∷ judged (200001 ∷ []) (0 ∷ []) (Refused 10) ∷ judged (1 ∷ []) (1000001 ∷ []) (Refused 10) ∷ judged (200000 ∷ []) (1000001 ∷ []) (Refused 10)
     ∷ judged (1 ∷ 200001 ∷ []) (0 ∷ 0 ∷ []) (Refused 10) ∷ judged (1 ∷ 2 ∷ []) (0 ∷ 1000001 ∷ []) (Refused 10)
     ∷ []
 

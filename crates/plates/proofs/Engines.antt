@@ -3,12 +3,12 @@ use mathlib.Core.Path.{_≡_, refl, sym, _∙_}
 use mathlib.Core.Bool.{Bool, true, false, _&&_}
 use mathlib.Core.List.{List}
 use Prim.Native.Nat.{ℕ, suc, _+_, _≤_, _<_}
-use borrow.Author.Tests.{le-leb, lt-leb, eq-eqb, ne-eqb}
+use borrow.Author.Tests.{lt-ltb, le-leb, lt-leb, eq-eqb, ne-eqb}
 use lib.Dec.{eqb, leb}
 use lib.ListN.{length, getD, drop, drop-of-length-le, List·getD-eq-default}
 use Rattle.text.proofs.Stores.{drop-more}
 use Rattle.sheet.specs.Lines.{mostRows}
-use Rattle.plates.specs.Words.{declared}
+use Rattle.plates.specs.Words.{outboard, declared}
 use Rattle.plates.specs.PlateC.{rowFits, rising, leastRows, rowsRight, wantsRow, rowFor, noRow, engineWeight}
 
 -- ---- rows that rise
@@ -64,6 +64,20 @@ unfolding rowFor
 row-past power ps i h = rw (drop-of-length-le ps {i = i} h) refl
 
 -- ---- the engine's weight
+
+-- an engine is weighed for an outboard declared above 0 W, and for no other boat
+pub row-due : (s : List ℕ) → eqb (outboard s) 1 ≡ true → 0 < declared s → wantsRow s ≡ true
+row-due s e h = rw (e, lt-ltb 0 (declared s) h) refl
+
+pub inboard-rowless : (s : List ℕ) → eqb (outboard s) 1 ≡ false → wantsRow s ≡ false
+inboard-rowless s e = rw e refl
+
+pub idle-rowless : (s : List ℕ) → declared s ≡ 0 → wantsRow s ≡ false
+idle-rowless s e = rw e (go (eqb (outboard s) 1))
+  where
+    go : (t : Bool) → (t && false) ≡ false
+    go true = refl
+    go false = refl
 
 pub row-unwanted : (s ps : List ℕ) → wantsRow s ≡ false → false ≡ noRow s ps
 unfolding noRow

@@ -95,6 +95,12 @@ first-row s {p} e a b = rw (a, b, ← e) (go (leb p 2250000) _)
     go true k = refl
     go false k = sym (ne-eqb (suc k) 0 (λ z. omega arith))
 
+pub inboard-powered : (s : List ℕ) → eqb (outboard s) 1 ≡ false → noPower s ≡ false
+inboard-powered s e = first-fails _ e
+
+pub round-powered : (s : List ℕ) → eqb (flatBottom s) 1 ≡ false → noPower s ≡ false
+round-powered s e = second-fails (eqb (outboard s) 1) (first-fails _ e)
+
 either : (t : Bool) {a b n : ℕ} → a ≤ n → b ≤ n → cond t a b ≤ n
 either true h k = h
 either false h k = k

@@ -18,11 +18,14 @@ use Rattle.plates.specs.PlateA.{inboardX, loadX, markedA, formulaWatts, powerA,
 use Rattle.printout.specs.Input.{sheetBytes}
 use Rattle.printout.specs.Printed.{platesText, rowsPrinted, printed}
 
--- 01's sheet with another boat, and then engine lines
+-- 01's sheet with another FORM line and another boat, and then engine lines
+withForm : String → String → String → List ℕ
+withForm form mass engines =
+    bytes "HULL\t0\n" ++ (bytes form ++ (bytes "STN\tQ\t1000\t500\t500\t500\t500\t500\t500\nSTN\tR\t1000\t500\t500\t500\t500\t500\t500\nSTN\tS\t1000\t500\t500\t500\t500\t500\t500\nSTN\tT\t1000\t500\t500\t500\t500\t500\t500\nVOL\t0\t0\t0\n"
+    ++ (bytes mass ++ (bytes "PWR\t1\t20000\nSEAT\t5\t3\nFIT\t1\t3334\nEND\n" ++ bytes engines))))
+
 withBoat : String → String → List ℕ
-withBoat mass engines =
-    bytes "HULL\t0\nFORM\t4500\t4000\t1200\t500\t0\t1\nSTN\tQ\t1000\t500\t500\t500\t500\t500\t500\nSTN\tR\t1000\t500\t500\t500\t500\t500\t500\nSTN\tS\t1000\t500\t500\t500\t500\t500\t500\nSTN\tT\t1000\t500\t500\t500\t500\t500\t500\nVOL\t0\t0\t0\n"
-    ++ (bytes mass ++ (bytes "PWR\t1\t20000\nSEAT\t5\t3\nFIT\t1\t3334\nEND\n" ++ bytes engines))
+withBoat = withForm "FORM\t4500\t4000\t1200\t500\t0\t1\n"
 
 abbrev boat : String
 boat = "MASS\t200000\t0\t0\n"
@@ -39,6 +42,8 @@ inputs =
     ∷ (bytes "END\n" ++ withBoat boat engines) ∷ [] ∷ withBoat boat "" ∷ withBoat boat "ENG\t20000\t60000\n\n"
     -- no row reaches the declared power; too heavy a boat for either plate
     ∷ withBoat boat "ENG\t10000\t45000\n" ∷ withBoat "MASS\t2000000\t0\t0\n" engines
+    -- a flat bottom in the first row of the power table: plate A refuses, plate C does not
+    ∷ withForm "FORM\t2250\t2250\t1000\t500\t1\t0\n" boat engines
     -- the sheet is judged before the engine lines
     ∷ withBoat "MASS\t0\t0\t0\n" "" ∷ withBoat boat "ENG\t0\t0\n"
     -- an END that is not at the start of its line does not end the sheet, which has more than 4,096 bytes then
@@ -52,11 +57,12 @@ inputs-right :
     ≡ bytes "PLATE\tA\t326\t20000\nPLATE\tC\t325\t3\n"
     ∷ bytes "INPUT\t2\n" ∷ bytes "INPUT\t2\n" ∷ bytes "INPUT\t2\n" ∷ bytes "INPUT\t2\n"
     ∷ bytes "PLATE\tA\t326\t20000\nREFUSED\tC\t11\n" ∷ bytes "REFUSED\tA\t12\nREFUSED\tC\t12\n"
+    ∷ bytes "REFUSED\tA\t13\nPLATE\tC\t165\t1\n"
     ∷ bytes "INPUT\t3\n" ∷ bytes "INPUT\t3\n"
     ∷ bytes "INPUT\t2\n" ∷ bytes "INPUT\t3\n"
     ∷ bytes "INPUT\t3\n" ∷ bytes "INPUT\t2\n"
     ∷ []
-unfolding inputs withBoat printed rowsPrinted platesText sheetBytes readSheet readLines readLine agreed readNumbers readEntry fieldOf numberOf restOf readRest readFits readEnd readEngines readRows numbersText digitsOf digitsIn stationProduct volumeN netZ addedUp boatM exactX markedC rising rowsRight rowFor noRow engineWeight liveLoad persons untested plateC inboardX loadX markedA formulaWatts powerA plateA
+unfolding inputs withForm withBoat printed rowsPrinted platesText sheetBytes readSheet readLines readLine agreed readNumbers readEntry fieldOf numberOf restOf readRest readFits readEnd readEngines readRows numbersText digitsOf digitsIn stationProduct volumeN netZ addedUp boatM exactX markedC rising rowsRight rowFor noRow engineWeight liveLoad persons untested plateC inboardX loadX markedA formulaWatts powerA plateA
 inputs-right = refl
 
 -- ---- where the sheet ends

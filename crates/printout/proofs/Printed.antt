@@ -20,7 +20,8 @@ use Rattle.sheet.specs.Reading.{readSheet}
 use Rattle.sheet.specs.Engines.{readEngines, powersOf, weightsOf}
 use Rattle.sheet.proofs.Words.{words-of}
 use Rattle.sheet.proofs.SheetTrip.{reads-written}
-use Rattle.sheet.proofs.Faults.{sheet-fault, engines-fault}
+use Rattle.sheet.proofs.Faults.{sheet-fault}
+use Rattle.sheet.proofs.EngineFaults.{engines-fault}
 use Rattle.plates.specs.Whole.{isBelow}
 use Rattle.plates.specs.PlateA.{markedA, noPower, plateA}
 use Rattle.plates.specs.PlateC.{markedC, rowsRight, noRow, liveLoad, untested, persons, plateC}

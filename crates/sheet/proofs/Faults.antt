@@ -19,21 +19,20 @@ use Rattle.text.specs.Number.{numberOf}
 use Rattle.text.specs.Limit.{Limit, orNone, within}
 use Rattle.text.specs.Line.{Line, Reading, shiftBy, followed, onEntry, judged, ender, readEntry, readNumbers, readLine}
 use Rattle.text.proofs.Line.{line-tagged, line-untagged}
-use Rattle.sheet.specs.Lines.{lines, fittings, fitLine, endLine, engineLine, mostRows, mostBytes}
+use Rattle.sheet.specs.Lines.{lines, fittings, fitLine, endLine, mostBytes}
 use Rattle.sheet.specs.Reading.{fitByte, onFit, readLines, readFits, readStop, readEnd, readRest, readSheet}
-use Rattle.sheet.specs.Engines.{orStop, onRow, readRows, readEngines}
 use Rattle.sheet.proofs.Fits.{fits-more, fits-none}
 
 -- whether a number is one of the two
-abbrev twoOrThree : ℕ → Bool
+abbrev pub twoOrThree : ℕ → Bool
 twoOrThree number = eqb number 2 || eqb number 3
 
 -- whether a reading ended well, or with one of them
-abbrev byNumber : LineRead → Bool
+abbrev pub byNumber : LineRead → Bool
 byNumber (Taken k) = true
 byNumber (Fault number at) = twoOrThree number
 
-abbrev Textual : Reading → Type 0
+abbrev pub Textual : Reading → Type 0
 Textual p = byNumber (p .ended) ≡ true
 
 -- what holds of both holds of either
@@ -41,7 +40,7 @@ pub either : {A : Type 0} (f : A → Bool) (u : Bool) {a b : A} → f a ≡ true
 either f true h k = h
 either f false h k = k
 
-shifted : (k : ℕ) (r : LineRead) → byNumber r ≡ true → byNumber (shiftBy k r) ≡ true
+pub shifted : (k : ℕ) (r : LineRead) → byNumber r ≡ true → byNumber (shiftBy k r) ≡ true
 shifted k (Taken n) h = h
 shifted k (Fault number at) h = h
 
@@ -77,7 +76,7 @@ unfolding readNumbers
 numbers-textual [] last t = refl
 numbers-textual (l ∷ ls) last t = on-entry (readEntry l last (ender ls) t) (readNumbers ls) t (entry-textual l last (ender ls) t) (numbers-textual ls)
 
-line-textual : (l : Line) (t : List ℕ) → Textual (readLine l t)
+pub line-textual : (l : Line) (t : List ℕ) → Textual (readLine l t)
 line-textual l t = go (eqb (agreed (l .tag) t) (length (l .tag))) refl
   where
     go : (u : Bool) → eqb (agreed (l .tag) t) (length (l .tag)) ≡ u → Textual (readLine l t)
@@ -125,31 +124,9 @@ sheet-textual : (t : List ℕ) → Textual (readSheet t)
 unfolding readSheet
 sheet-textual t = either (λ (p : Reading). byNumber (p .ended)) (ltb mostBytes (length t)) refl (followed-textual (readLines lines t) readRest t (lines-textual lines t) rest-textual)
 
--- ---- engine rows
-
-on-row : (p : Reading) (more : ℕ → List ℕ → Reading) (t : List ℕ) → Textual p → ((n : ℕ) (u : List ℕ) → Textual (more n u)) → Textual (onRow p more t)
-on-row p more t h ih = go (p .ended) refl
-  where
-    stopped : (n : ℕ) (u : List ℕ) → Textual (orStop (more n) u)
-    stopped n [] = refl
-    stopped n (b ∷ u) = ih n (b ∷ u)
-
-    go : (r : LineRead) → p .ended ≡ r → Textual (onRow p more t)
-    go (Taken k) e = let n : ℕ = suc (getD (p .numbers) 0 0) in rw e (shifted k (orStop (more n) (drop k t) .ended) (stopped n (drop k t)))
-    go (Fault number at) e = rw e (rw e at h)
-
-rows-textual : (left next : ℕ) (t : List ℕ) → Textual (readRows left next t)
-unfolding readRows
-rows-textual zero next t = refl
-rows-textual (suc left) next t = on-row (readLine (engineLine next) t) (readRows left) t (line-textual (engineLine next) t) (rows-textual left)
-
-engines-textual : (t : List ℕ) → Textual (readEngines t)
-unfolding readEngines
-engines-textual t = either (λ (p : Reading). byNumber (p .ended)) (ltb mostBytes (length t)) refl (rows-textual mostRows 1 t)
-
 -- ---- the number of a fault
 
-two-or-three : (number : ℕ) → twoOrThree number ≡ true → (number ≡ 2) ⊎ (number ≡ 3)
+pub two-or-three : (number : ℕ) → twoOrThree number ≡ true → (number ≡ 2) ⊎ (number ≡ 3)
 two-or-three number h = go (eqb number 2) (eqb number 3) refl refl h
   where
     go : (a b : Bool) → eqb number 2 ≡ a → eqb number 3 ≡ b → (a || b) ≡ true → (number ≡ 2) ⊎ (number ≡ 3)
@@ -159,6 +136,3 @@ two-or-three number h = go (eqb number 2) (eqb number 3) refl refl h
 
 pub sheet-fault : (t : List ℕ) (number at : ℕ) → readSheet t .ended ≡ Fault number at → (number ≡ 2) ⊎ (number ≡ 3)
 sheet-fault t number at e = two-or-three number (rw e at (sheet-textual t))
-
-pub engines-fault : (t : List ℕ) (number at : ℕ) → readEngines t .ended ≡ Fault number at → (number ≡ 2) ⊎ (number ≡ 3)
-engines-fault t number at e = two-or-three number (rw e at (engines-textual t))

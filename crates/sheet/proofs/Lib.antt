@@ -16,6 +16,8 @@ pub mod EngineTrip
 pub mod Calls
 pub mod Refused
 pub mod Faults
+pub mod EngineFaults
 pub mod Listed
 pub mod Examples
 pub mod Ends
+pub mod Answered

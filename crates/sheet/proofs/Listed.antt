@@ -14,7 +14,8 @@ use Rattle.sheet.specs.Sheet.{sheetOk, sheetText}
 use Rattle.sheet.specs.Reading.{readSheet}
 use Rattle.sheet.specs.Engines.{powersOf, readEngines}
 use Rattle.sheet.specs.Calls.{noRoom, readAnswer, writeAnswer, rowsFit, enginesAnswer}
-use Rattle.sheet.proofs.Faults.{either, sheet-fault, engines-fault}
+use Rattle.sheet.proofs.Faults.{either, sheet-fault}
+use Rattle.sheet.proofs.EngineFaults.{engines-fault}
 
 -- whether an answer, if it is a refusal, is by a number of the list
 abbrev pub isListed : Answer → Bool
