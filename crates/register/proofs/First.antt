@@ -116,11 +116,11 @@ pub never-outside : (m : List ℕ) (i room : ℕ) → isOutside (hullWritten m i
 unfolding hullRefusal
 never-outside m i room = go (formed m) (ltb i (hullCount m)) refl refl
   where
-    fits : (u : Bool) (n : ℕ) → isOutside (cond u (Count n) (Refused noRoom)) ≡ false
-    fits true n = refl
-    fits false n = refl
+    room-or-not : (u : Bool) (n : ℕ) → isOutside (cond u (Count n) (Refused noRoom)) ≡ false
+    room-or-not true n = refl
+    room-or-not false n = refl
 
     go : (f t : Bool) → formed m ≡ f → ltb i (hullCount m) ≡ t → isOutside (orRefused (cond f (cond t 0 5) 1) (writeAnswer (i ∷ hullSheet m i) room)) ≡ false
-    go true true e l = rw (hull-within m i e (ltb-true i (hullCount m) l)) (fits (leb (length (sheetText (i ∷ hullSheet m i))) room) _)
+    go true true e l = rw (hull-within m i e (ltb-true i (hullCount m) l)) (room-or-not (leb (length (sheetText (i ∷ hullSheet m i))) room) _)
     go true false e l = refl
     go false t e l = refl

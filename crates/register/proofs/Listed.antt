@@ -36,8 +36,8 @@ by-refusal refusal a h k = go (eqb refusal 0) refl
     go true e = k
     go false e = let n = eqb-false refusal 0 e in rw (le-leb 1 refusal (omega arith), h) refl
 
-two : (first next : ℕ) → orNone first ≡ true → orNone next ≡ true → orNone (orNext first next) ≡ true
-two first next h k = either orNone (eqb first 0) k h
+next-listed : (first next : ℕ) → orNone first ≡ true → orNone next ≡ true → orNone (orNext first next) ≡ true
+next-listed first next h k = either orNone (eqb first 0) k h
 
 hull-listed : (m : List ℕ) (h : ℕ) → orNone (hullRefusal m h) ≡ true
 unfolding hullRefusal
@@ -70,13 +70,13 @@ open-listed m d h = by-refusal (openRefusal m d h) (Count (edit m h)) (either or
 pub put-listed : (m : List ℕ) (d line w : ℕ) → isListed (putAnswer m d line w) ≡ true
 unfolding putRefusal
 put-listed m d line w =
-    by-refusal (putRefusal m d line w) Done (two (deskRefusal m d) (putOwn line w) (desk-listed m d) (either orNone (leb 1 line && (leb line fittings && (leb 1 w && leb w fittingHigh))) refl refl)) refl
+    by-refusal (putRefusal m d line w) Done (next-listed (deskRefusal m d) (putOwn line w) (desk-listed m d) (either orNone (leb 1 line && (leb line fittings && (leb 1 w && leb w fittingHigh))) refl refl)) refl
 
 pub take-listed : (m : List ℕ) (d line : ℕ) → isListed (takeAnswer m d line) ≡ true
 unfolding takeRefusal
 take-listed m d line =
     by-refusal (takeRefusal m d line) Done
-    (two (deskRefusal m d) (takeOwn m d line) (desk-listed m d) (either orNone (leb 1 line && leb line fittings) (either orNone (eqb (getD m (fittingAt d line) 0) 0) refl refl) refl)) refl
+    (next-listed (deskRefusal m d) (takeOwn m d line) (desk-listed m d) (either orNone (leb 1 line && leb line fittings) (either orNone (eqb (getD m (fittingAt d line) 0) 0) refl refl) refl)) refl
 
 pub replace-listed : (m : List ℕ) (d : ℕ) (t : List ℕ) → isListed (replaceAnswer m d t) ≡ true
 replace-listed m d t = by-refusal (deskRefusal m d) _ (desk-listed m d) (text-answer t Done refl)
@@ -88,7 +88,7 @@ pub save-listed : (m : List ℕ) (d : ℕ) → isListed (saveAnswer m d) ≡ tru
 unfolding saveRefusal
 save-listed m d =
     by-refusal (saveRefusal m d) (Count (edit m (draftHull m d) + 1))
-    (two (deskRefusal m d) (saveOwn m d) (desk-listed m d) (either orNone (eqb (edit m (draftHull m d)) (opening m d)) (either orNone (eqb (edit m (draftHull m d)) mostEdits) refl refl) refl)) refl
+    (next-listed (deskRefusal m d) (saveOwn m d) (desk-listed m d) (either orNone (eqb (edit m (draftHull m d)) (opening m d)) (either orNone (eqb (edit m (draftHull m d)) mostEdits) refl refl) refl)) refl
 
 pub drop-listed : (m : List ℕ) (d : ℕ) → isListed (dropAnswer m d) ≡ true
 drop-listed m d = by-refusal (deskRefusal m d) Done (desk-listed m d) refl

@@ -68,12 +68,12 @@ fields (n ∷ m ∷ ns) = digitsOf n ++ (bytes "\t" ++ fields (m ∷ ns))
 line : String → ℕ → (List ℕ → List ℕ) → List ℕ → List ℕ
 line tag n rest s = bytes tag ++ (fields (take n s) ++ rest (drop n s))
 
-fits : ℕ → List ℕ → List ℕ
-fits k [] = bytes "END\n"
-fits k (w ∷ ws) = bytes "FIT\t" ++ (fields (k ∷ w ∷ []) ++ fits (suc k) ws)
+fitLines : ℕ → List ℕ → List ℕ
+fitLines k [] = bytes "END\n"
+fitLines k (w ∷ ws) = bytes "FIT\t" ++ (fields (k ∷ w ∷ []) ++ fitLines (suc k) ws)
 
 text : List ℕ → List ℕ
-text = line "HULL\t" 1 (line "FORM\t" 6 (line "STN\tQ\t" 7 (line "STN\tR\t" 7 (line "STN\tS\t" 7 (line "STN\tT\t" 7 (line "VOL\t" 3 (line "MASS\t" 3 (line "PWR\t" 2 (line "SEAT\t" 2 (fits 1))))))))))
+text = line "HULL\t" 1 (line "FORM\t" 6 (line "STN\tQ\t" 7 (line "STN\tR\t" 7 (line "STN\tS\t" 7 (line "STN\tT\t" 7 (line "VOL\t" 3 (line "MASS\t" 3 (line "PWR\t" 2 (line "SEAT\t" 2 (fitLines 1))))))))))
 
 -- ---- what is taken, what is refused
 
@@ -131,5 +131,5 @@ every f [] = true
 every f (x ∷ xs) = f x && every f xs
 
 limits-right : (every takes taken ≡ true) × (every beside rows ≡ true)
-unfolding every taken takes lows highs turns rows station alike base beside refuses outside none-at is-done is-outside text line fits fields digitsOf digitsIn allHold sheetLimits limitsOn readSheet readLines readLine agreed readNumbers readEntry fieldOf numberOf restOf readRest readFits readEnd
+unfolding every taken takes lows highs turns rows station alike base beside refuses outside none-at is-done is-outside text line fitLines fields digitsOf digitsIn allHold sheetLimits limitsOn readSheet readLines readLine agreed readNumbers readEntry fieldOf numberOf restOf readRest readFits readEnd
 limits-right = (refl, refl)
