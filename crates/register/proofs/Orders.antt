@@ -72,7 +72,7 @@ ended hull number = 0 ∷ hull ∷ number ∷ sheet
 fifteen : List ℕ
 fifteen = 15 ∷ (hulls 16 0 ++ idle 8)
 
--- hull 0 at edit number 65534 and hull 1 at 65535; desks 4 and 5 have them as they stood one save before, 6 and 7 as they stand; desks 2 and 3 had them so
+-- hull 0 at edit number 65534 and hull 1 at 65535; desks 4 and 5 have them as they stood one save before, 6 and 7 as they stand; on desks 2 and 3 such drafts have ended
 edited : List ℕ
 edited = 2 ∷ (hulls 1 65534 ++ (hulls 1 65535 ++ (replicate 966 99 ++ (idle 2 ++ (ended 0 65533 ++ (ended 1 65535 ++ (draft 0 65533 ++ (draft 1 65534 ++ (draft 0 65534 ++ draft 1 65535)))))))))
 
