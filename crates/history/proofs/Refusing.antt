@@ -1,11 +1,11 @@
 -- 01, Refusal numbers, of every call on the register in one statement each: a memory that is not well formed is 1, and a refusal is by a number of the list. Assumes nothing.
 use mathlib.Core.Path.{_≡_}
-use mathlib.Core.Bool.{true, false}
+use mathlib.Core.Bool.{false}
 use mathlib.Core.List.{List}
 use Prim.Native.Nat.{ℕ}
 use lib.ListN.{length}
 use Rattle.sheet.specs.declared.Answer.the-variants.{Refused}
-use Rattle.sheet.proofs.Listed.{isListed}
+use Rattle.sheet.proofs.Listed.{OfList}
 use Rattle.memory.specs.Formed.{formed}
 use Rattle.register.proofs.Listed.{new-listed, open-listed, put-listed, take-listed, replace-listed, trial-listed, save-listed, drop-listed, hull-plate-listed, written-listed}
 use Rattle.register.proofs.First.{new-unformed, opens-unformed, put-unformed, take-unformed, replace-unformed, trial-unformed, save-unformed, drop-unformed, plate-unformed, written-unformed}
@@ -25,7 +25,7 @@ memory-first m (dropDraft d) e = drop-unformed m e d
 memory-first m (ask h (plate k)) e = plate-unformed m e h k
 memory-first m (ask h (write out)) e = written-unformed m e h (length out)
 
-pub reply-listed : (m : List ℕ) (c : Call) → isListed (reply m c .answer) ≡ true
+pub reply-listed : (m : List ℕ) (c : Call) → OfList (reply m c .answer)
 unfolding reply
 reply-listed m (newHull t) = new-listed m t
 reply-listed m (openHull d h) = open-listed m d h

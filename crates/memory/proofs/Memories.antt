@@ -6,6 +6,7 @@ use mathlib.Core.List.{List, [], _∷_, _++_, map}
 use Prim.Native.Nat.{ℕ, zero, suc, _+_}
 use lib.ListN.{set, take, replicate}
 use Rattle.text.specs.Limit.{allHold}
+use Rattle.text.proofs.Examples.{upFrom}
 use Rattle.sheet.specs.Sheet.{limitsOn, sheetLimits}
 use Rattle.memory.specs.Layout.{registerWords, hullCount, edit, hullSheet, held, draftHull, opening, draftSheet, fittingAt}
 use Rattle.memory.specs.Formed.{each, hullOk, draftOk, formed}
@@ -70,19 +71,14 @@ drafts-right = refl
 
 -- ---- where things stand
 
--- k, k + 1, .., n of them
-from : ℕ → ℕ → List ℕ
-from zero k = []
-from (suc n) k = k ∷ from n (suc k)
-
 abbrev m : List ℕ
-m = from 1673 0
+m = upFrom 1673 0
 
 -- the words that each getter finds in a memory of 0, 1, 2, .., and in one of none
 places-right :
     (registerWords ∷ hullCount m ∷ edit m 0 ∷ edit m 15 ∷ held m 0 ∷ draftHull m 0 ∷ opening m 0 ∷ held m 7 ∷ draftHull m 7 ∷ opening m 7 ∷ [] ≡ 1673 ∷ 0 ∷ 1 ∷ 1036 ∷ 1105 ∷ 1106 ∷ 1107 ∷ 1602 ∷ 1603 ∷ 1604 ∷ [])
-    × (hullSheet m 0 ≡ from 68 2) × (hullSheet m 15 ≡ from 68 1037) × (draftSheet m 0 ≡ from 68 1108) × (draftSheet m 7 ≡ from 68 1605)
+    × (hullSheet m 0 ≡ upFrom 68 2) × (hullSheet m 15 ≡ upFrom 68 1037) × (draftSheet m 0 ≡ upFrom 68 1108) × (draftSheet m 7 ≡ upFrom 68 1605)
     × (hullCount [] ∷ edit [] 0 ∷ held [] 0 ∷ draftHull [] 0 ∷ opening [] 0 ∷ [] ≡ replicate 5 0)
     × (fittingAt 0 1 ∷ fittingAt 0 24 ∷ fittingAt 7 1 ∷ fittingAt 7 24 ∷ [] ≡ 1152 ∷ 1175 ∷ 1649 ∷ 1672 ∷ [])
-unfolding from
+unfolding upFrom
 places-right = (refl, refl, refl, refl, refl, refl, refl)

@@ -10,7 +10,7 @@ use Rattle.sheet.specs.declared.Answer.the-variants.{Refused, Done, Count, Plat
 use Rattle.sheet.specs.Reading.{readSheet}
 use Rattle.sheet.specs.Engines.{readEngines}
 use Rattle.sheet.specs.Calls.{readAnswer, writeAnswer, enginesAnswer}
-use Rattle.sheet.proofs.Listed.{isListed, read-listed, write-listed, engines-listed}
+use Rattle.sheet.proofs.Listed.{OfList, read-listed, write-listed, engines-listed}
 use Rattle.register.specs.Hulls.{freshAnswer}
 use Rattle.register.proofs.Listed.{fresh-listed}
 use Rattle.history.specs.Calls.{Call, reply}
@@ -22,7 +22,7 @@ use Rattle.office.specs.Face.{faced}
 not-none : (n : ℕ) → (leb 1 n && leb n 17) ≡ true → n ≡ 0 → ⊥
 not-none n h e = true≢false (sym h ∙ rw e refl)
 
-zero-taken : (a : Answer) → isListed a ≡ true → (faced a .refusal ≡ 0) ↔ (taken a ≡ true)
+zero-taken : (a : Answer) → OfList a → (faced a .refusal ≡ 0) ↔ (taken a ≡ true)
 zero-taken (Refused n) h = (λ e. absurd (not-none n h e), λ e. absurd (true≢false (sym e)))
 zero-taken Done h = (λ e. refl, λ e. refl)
 zero-taken (Count n) h = (λ e. refl, λ e. refl)

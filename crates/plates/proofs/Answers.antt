@@ -4,9 +4,9 @@ use mathlib.Core.Bool.{true, false, not}
 use mathlib.Core.List.{List}
 use Prim.Native.Nat.{ℕ}
 use lib.Dec.{eqb}
+use Rattle.text.proofs.Number.{either}
 use Rattle.sheet.specs.declared.Answer.the-variants.{Refused, Plate}
-use Rattle.sheet.proofs.Faults.{either}
-use Rattle.sheet.proofs.Listed.{isListed}
+use Rattle.sheet.proofs.Listed.{OfList}
 use Rattle.plates.specs.Whole.{isBelow, orZero}
 use Rattle.plates.specs.PlateC.{markedC, rowsRight, noRow, liveLoad, persons, untested, plateC}
 use Rattle.plates.specs.PlateA.{markedA, powerA, noPower, plateA}
@@ -54,22 +54,22 @@ c-marks s ps ws r e f g h k l = rw (r, below-one (markedC s) ∙ e, f, g, below-
 
 -- ---- every plate refuses by a number of 01's list
 
-a-listed : (s : List ℕ) → isListed (plateA s) ≡ true
+a-listed : (s : List ℕ) → OfList (plateA s)
 unfolding plateA
-a-listed s = either isListed (isBelow (markedA s) 1) refl (either isListed (noPower s) refl refl)
+a-listed s = either OfList (isBelow (markedA s) 1) refl (either OfList (noPower s) refl refl)
 
-c-listed : (s ps ws : List ℕ) → isListed (plateC s ps ws) ≡ true
+c-listed : (s ps ws : List ℕ) → OfList (plateC s ps ws)
 unfolding plateC
 c-listed s ps ws =
     let live = liveLoad s ps ws in
-    either isListed (not (rowsRight ps ws)) refl
-    (either isListed (isBelow (markedC s) 1) refl (either isListed (noRow s ps) refl (either isListed (untested s live) refl (either isListed (isBelow (persons s live) 1) refl refl))))
+    either OfList (not (rowsRight ps ws)) refl
+    (either OfList (isBelow (markedC s) 1) refl (either OfList (noRow s ps) refl (either OfList (untested s live) refl (either OfList (isBelow (persons s live) 1) refl refl))))
 
-u-listed : (s : List ℕ) → isListed (plateU s) ≡ true
+u-listed : (s : List ℕ) → OfList (plateU s)
 unfolding plateU
-u-listed s = either isListed (isBelow (markedU s) 1) refl refl
+u-listed s = either OfList (isBelow (markedU s) 1) refl refl
 
-pub plate-listed : (k : PlateKind) (s : List ℕ) → isListed (plateOf k s) ≡ true
+pub plate-listed : (k : PlateKind) (s : List ℕ) → OfList (plateOf k s)
 plate-listed kindA s = a-listed s
 plate-listed (kindC ps ws) s = c-listed s ps ws
 plate-listed kindU s = u-listed s

@@ -1,7 +1,8 @@
 -- Cases of plate C: each figure of its rules at its value and one beside it, and its refusals two at once. Assumes nothing.
 use mathlib.Core.List.{List, [], _∷_}
-use Prim.Native.Nat.{ℕ, zero, suc}
+use Prim.Native.Nat.{ℕ}
 use lib.ListN.{replicate}
+use Rattle.text.proofs.Examples.{upFrom}
 use Rattle.sheet.specs.declared.Answer.{Answer}
 use Rattle.sheet.specs.declared.Answer.the-variants.{Refused, Plate}
 use Rattle.plates.specs.Samples.{seated, load, power, inboard}
@@ -45,11 +46,6 @@ loadsC =
 
 -- ---- engine rows, of an inboard, which weighs none
 
--- powers n, n + 1, ..
-unfoldable pub rise : ℕ → ℕ → List ℕ
-rise zero n = []
-rise (suc k) n = n ∷ rise k (suc n)
-
 abbrev judged : List ℕ → List ℕ → Answer → Told
 judged = onC inboard
 
@@ -61,7 +57,7 @@ rowsC =
     -- none; unequal either way; one
     judged [] [] (Refused 10) ∷ judged (1 ∷ []) [] (Refused 10) ∷ judged [] (0 ∷ []) (Refused 10) ∷ judged (1 ∷ 2 ∷ []) (0 ∷ []) (Refused 10) ∷ judged (1 ∷ []) (0 ∷ 0 ∷ []) (Refused 10) ∷ judged (1 ∷ []) (0 ∷ []) right
     -- forty, and one more
-    ∷ judged (rise 40 1) (replicate 40 0) right ∷ judged (rise 41 1) (replicate 41 0) (Refused 10)
+    ∷ judged (upFrom 40 1) (replicate 40 0) right ∷ judged (upFrom 41 1) (replicate 41 0) (Refused 10)
     -- rising by one, not rising, falling
     ∷ judged (5 ∷ 6 ∷ []) (0 ∷ 0 ∷ []) right ∷ judged (5 ∷ 5 ∷ []) (0 ∷ 0 ∷ []) (Refused 10) ∷ judged (5 ∷ 4 ∷ []) (0 ∷ 0 ∷ []) (Refused 10)
     -- the ends of a power and of a weight, in any row

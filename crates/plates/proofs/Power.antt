@@ -1,12 +1,12 @@
 -- Plate A's power, by the case that the code finds. Assumes nothing.
 use mathlib.Core.Path.{_≡_, refl, sym, ap, _∙_}
-use mathlib.Core.Bool.{Bool, true, false, _&&_, cond}
+use mathlib.Core.Bool.{Bool, true, false, _&&_}
 use mathlib.Core.List.{List, [], _∷_}
 use Prim.Native.Nat.{ℕ, zero, suc, _-_, _*_, _≤_, _<_}
 use native.Mathlib.Nat.{mul-le-mul}
 use native.Mathlib.Omega.{arith}
 use borrow.Author.Tests.{lt-ltb, le-ltb, le-leb, lt-leb, leb-true, ne-eqb}
-use Rattle.text.proofs.Number.{both-hold}
+use Rattle.text.proofs.Number.{both-hold, either}
 use lib.Dec.{eqb, leb, ltb}
 use lib.ListN.{length, getD}
 use Rattle.plates.specs.Words.{hullLength, transomWidth, transomHeight, flatBottom, remote, outboard}
@@ -101,13 +101,13 @@ inboard-powered s e = first-fails _ e
 pub round-powered : (s : List ℕ) → eqb (flatBottom s) 1 ≡ false → noPower s ≡ false
 round-powered s e = second-fails (eqb (outboard s) 1) (first-fails _ e)
 
-either : (t : Bool) {a b n : ℕ} → a ≤ n → b ≤ n → cond t a b ≤ n
-either true h k = h
-either false h k = k
+-- a power that fits 32 bits with room to spare
+abbrev Fitting : ℕ → Type 0
+Fitting watts = watts ≤ 300000
 
-formula-most : (s : List ℕ) → factorP s ≤ 18000000 → formulaWatts s ≤ 300000
+formula-most : (s : List ℕ) → factorP s ≤ 18000000 → Fitting (formulaWatts s)
 unfolding formulaWatts
-formula-most s h = either (eqb (remote s) 1 && leb 500 (transomHeight s)) (omega arith) (either (eqb (flatBottom s) 1) (omega arith) (omega arith))
+formula-most s h = either Fitting (eqb (remote s) 1 && leb 500 (transomHeight s)) (omega arith) (either Fitting (eqb (flatBottom s) 1) (omega arith) (omega arith))
 
 abbrev allMost : List ℕ → ℕ → Bool
 allMost [] n = true
@@ -118,11 +118,11 @@ getD-most [] n e k = omega arith
 getD-most (x ∷ l) n e zero = leb-true x n (both-hold (leb x n) (allMost l n) e .0)
 getD-most (x ∷ l) n e (suc k) = getD-most l n (both-hold (leb x n) (allMost l n) e .1) k
 
-watts-most : (k : ℕ) → getD tableWatts k 0 ≤ 300000
+watts-most : (k : ℕ) → Fitting (getD tableWatts k 0)
 watts-most = getD-most tableWatts 300000 refl
 
 pub power-most : (s : List ℕ) → Bounds s → powerA s ≤ 300000
 unfolding powerA
 power-most s b =
-    either (eqb (outboard s) 0) (omega arith)
-    (either (ltb tableEnd (factorP s)) (formula-most s (factor-most s b refl refl)) (either (eqb (flatBottom s) 1 && ltb (factorP s) tableEnd) (watts-most (rowOf (factorP s))) (watts-most (suc (rowOf (factorP s))))))
+    either Fitting (eqb (outboard s) 0) (omega arith)
+    (either Fitting (ltb tableEnd (factorP s)) (formula-most s (factor-most s b refl refl)) (either Fitting (eqb (flatBottom s) 1 && ltb (factorP s) tableEnd) (watts-most (rowOf (factorP s))) (watts-most (suc (rowOf (factorP s))))))

@@ -3,13 +3,14 @@
 use mathlib.Core.Path.{_≡_, refl}
 use mathlib.Core.Bool.{Bool, true, false, _&&_}
 use mathlib.Core.List.{List, [], _∷_, _++_, map}
-use Prim.Native.Nat.{ℕ, zero, suc, _+_, _*_}
+use Prim.Native.Nat.{ℕ, _+_, _*_}
 use lib.ListN.{getD, replicate}
 use Rattle.text.specs.Quoted.{bytes}
 use Rattle.text.specs.Field.{fieldOf, agreed}
 use Rattle.text.specs.Number.{restOf, numberOf}
 use Rattle.text.specs.Limit.{allHold}
 use Rattle.text.specs.Line.{readEntry, readNumbers, readLine}
+use Rattle.text.proofs.Examples.{upFrom}
 use Rattle.sheet.specs.declared.Answer.the-variants.{Refused}
 use Rattle.sheet.specs.Sheet.{limitsOn, sheetLimits}
 use Rattle.sheet.specs.Reading.{readLines, readFits, readEnd, readRest, readSheet}
@@ -23,7 +24,7 @@ use Rattle.plates.specs.Bounds.{heaviest}
 use Rattle.plates.specs.Samples.{words, seated, load, power, inboard, Case, marks, agrees, refuses, second-is, answer-c, holds-of, stands, cases}
 use Rattle.plates.proofs.Boats.{Told, answered, all-within, massed, stationed, launch, transom, bare-boat, driven, seats}
 use Rattle.plates.proofs.CasesA.{casesA}
-use Rattle.plates.proofs.CasesC.{loadsC, rowsC, ordersC, rise}
+use Rattle.plates.proofs.CasesC.{loadsC, rowsC, ordersC}
 use Rattle.plates.proofs.CasesU.{casesU}
 
 -- ---- 01's
@@ -84,15 +85,10 @@ table = casesA ++ (loadsC ++ (rowsC ++ (ordersC ++ casesU)))
 
 -- every plate of the table answers as it must, and every sheet is within the limits
 plates-right : (map answered table ≡ map (λ (t : Told). t .must) table) × (all-within table ≡ true)
-unfolding table casesA loadsC rowsC ordersC casesU all-within massed stationed launch transom bare-boat driven seats rise seated load power inboard words allHold sheetLimits limitsOn stationProduct volumeN netZ addedUp boatM exactX markedC rising rowsRight rowFor noRow engineWeight liveLoad persons untested plateC inboardX loadX markedA formulaWatts powerA plateA ruleU markedU plateU
+unfolding table casesA loadsC rowsC ordersC casesU all-within massed stationed launch transom bare-boat driven seats upFrom seated load power inboard words allHold sheetLimits limitsOn stationProduct volumeN netZ addedUp boatM exactX markedC rising rowsRight rowFor noRow engineWeight liveLoad persons untested plateC inboardX loadX markedA formulaWatts powerA plateA ruleU markedU plateU
 plates-right = (refl, refl)
 
 -- ---- the words
-
--- k, k + 1, .., n of them
-from : ℕ → ℕ → List ℕ
-from zero k = []
-from (suc n) k = k ∷ from n (suc k)
 
 -- by name, in the order of the text
 named : List ℕ → List ℕ
@@ -102,8 +98,8 @@ named s =
     ++ (aft s ∷ well s ∷ flooding s ∷ bare s ∷ fuel s ∷ machinery s ∷ outboard s ∷ declared s ∷ positions s ∷ tested s ∷ fittingsOf s)))))
 
 -- each at its place, and 0 where the list has none
-names-right : (named (from 68 0) ≡ from 68 0) × (named [] ≡ replicate 16 0)
-unfolding named from
+names-right : (named (upFrom 68 0) ≡ upFrom 68 0) × (named [] ≡ replicate 16 0)
+unfolding named upFrom
 names-right = (refl, refl)
 
 -- ---- each depth and each station by its own factor

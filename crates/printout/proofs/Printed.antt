@@ -1,6 +1,6 @@
 -- What is printed, path by path; and it is never longer than 60 bytes, two lines of two figures of ten digits each. Assumes nothing.
 use mathlib.Core.Path.{_≡_, refl}
-use mathlib.Core.Bool.{Bool, true, false, not, cond}
+use mathlib.Core.Bool.{Bool, true, false, not}
 use mathlib.Core.Logic.{_⊎_, inl, inr}
 use mathlib.Core.List.{List, [], _∷_, _++_}
 use Prim.Native.Nat.{ℕ, _+_, _≤_, _<_}
@@ -13,7 +13,7 @@ use Rattle.text.specs.declared.LineRead.the-variants.{Taken, Fault}
 use Rattle.text.specs.Quoted.{bytes}
 use Rattle.text.specs.Number.{elevenDigits, digitsOf}
 use Rattle.text.specs.Line.{numbersText, lineText}
-use Rattle.text.proofs.Number.{length-digits-ten}
+use Rattle.text.proofs.Number.{either, length-digits-ten}
 use Rattle.sheet.specs.declared.Answer.{Answer}
 use Rattle.sheet.specs.declared.Answer.the-variants.{Refused, Done, Count, Plate}
 use Rattle.sheet.specs.Reading.{readSheet}
@@ -101,23 +101,22 @@ plate-most l k (Plate a b) h = omega (arith, two-length (bytes "PLATE\t" ++ (l �
 both-most : (a b : ℕ) → a ≤ 30 → b ≤ 30 → a + b ≤ mostPrinted
 both-most a b h k = omega arith
 
-either : {A : Type 0} (number : A → ℕ) {n : ℕ} (u : Bool) {a b : A} → number a ≤ n → number b ≤ n → number (cond u a b) ≤ n
-either number true h k = h
-either number false h k = k
+abbrev Low : Answer → Type 0
+Low a = sumOf a ≤ 320000
 
 module _ (s : List ℕ) (b : Bounds s) where
-  a-small : sumOf (plateA s) ≤ 320000
+  a-small : Low (plateA s)
   unfolding plateA
-  a-small = either sumOf (isBelow (markedA s) 1) (omega arith) (either sumOf (noPower s) (omega arith) (omega (arith, marked-most s b, power-most s b)))
+  a-small = either Low (isBelow (markedA s) 1) (omega arith) (either Low (noPower s) (omega arith) (omega (arith, marked-most s b, power-most s b)))
 
-  c-small : (ps ws : List ℕ) → sumOf (plateC s ps ws) ≤ 320000
+  c-small : (ps ws : List ℕ) → Low (plateC s ps ws)
   unfolding plateC
   c-small ps ws =
-      either sumOf (not (rowsRight ps ws)) (omega arith)
-      (either sumOf (isBelow (markedC s) 1) (omega arith)
-      (either sumOf (noRow s ps) (omega arith)
-      (either sumOf (untested s (liveLoad s ps ws)) (omega arith)
-      (either sumOf (isBelow (persons s (liveLoad s ps ws)) 1) (omega arith) (omega (arith, c-most s b, persons-most s (liveLoad s ps ws) b))))))
+      either Low (not (rowsRight ps ws)) (omega arith)
+      (either Low (isBelow (markedC s) 1) (omega arith)
+      (either Low (noRow s ps) (omega arith)
+      (either Low (untested s (liveLoad s ps ws)) (omega arith)
+      (either Low (isBelow (persons s (liveLoad s ps ws)) 1) (omega arith) (omega (arith, c-most s b, persons-most s (liveLoad s ps ws) b))))))
 
   plates-most : (ps ws : List ℕ) → length (platesText s ps ws) ≤ mostPrinted
   unfolding platesText

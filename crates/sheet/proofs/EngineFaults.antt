@@ -8,9 +8,10 @@ use lib.ListN.{length, drop, getD}
 use Rattle.text.specs.declared.LineRead.{LineRead}
 use Rattle.text.specs.declared.LineRead.the-variants.{Taken, Fault}
 use Rattle.text.specs.Line.{Reading, readLine}
+use Rattle.text.proofs.Number.{either}
 use Rattle.sheet.specs.Lines.{engineLine, mostRows, mostBytes}
 use Rattle.sheet.specs.Engines.{orStop, onRow, readRows, readEngines}
-use Rattle.sheet.proofs.Faults.{byNumber, Textual, either, shifted, line-textual, two-or-three}
+use Rattle.sheet.proofs.Faults.{Textual, shifted, line-textual, two-or-three}
 
 on-row : (p : Reading) (more : ℕ → List ℕ → Reading) (t : List ℕ) → Textual p → ((n : ℕ) (u : List ℕ) → Textual (more n u)) → Textual (onRow p more t)
 on-row p more t h ih = go (p .ended) refl
@@ -30,7 +31,7 @@ rows-textual (suc left) next t = on-row (readLine (engineLine next) t) (readRows
 
 engines-textual : (t : List ℕ) → Textual (readEngines t)
 unfolding readEngines
-engines-textual t = either (λ (p : Reading). byNumber (p .ended)) (ltb mostBytes (length t)) refl (rows-textual mostRows 1 t)
+engines-textual t = either Textual (ltb mostBytes (length t)) refl (rows-textual mostRows 1 t)
 
 pub engines-fault : (t : List ℕ) (number at : ℕ) → readEngines t .ended ≡ Fault number at → (number ≡ 2) ⊎ (number ≡ 3)
 engines-fault t number at e = two-or-three number (rw e at (engines-textual t))

@@ -1,6 +1,6 @@
 -- 01, Refusal numbers: a text is refused with 2 or 3 and with no other number. Assumes nothing.
 use mathlib.Core.Path.{_≡_, refl, sym}
-use mathlib.Core.Bool.{Bool, true, false, _&&_, _||_, cond, true≢false}
+use mathlib.Core.Bool.{Bool, true, false, _&&_, _||_, true≢false}
 use mathlib.Core.Logic.{_⊎_, inl, inr}
 use mathlib.Core.List.{List, [], _∷_}
 use Prim.Native.Nat.{ℕ, zero, suc}
@@ -18,6 +18,7 @@ use Rattle.text.specs.Field.{fieldOf, begins, agreed}
 use Rattle.text.specs.Number.{numberOf}
 use Rattle.text.specs.Limit.{Limit, orNone, within}
 use Rattle.text.specs.Line.{Line, Reading, shiftBy, followed, onEntry, judged, ender, readEntry, readNumbers, readLine}
+use Rattle.text.proofs.Number.{either}
 use Rattle.text.proofs.Line.{line-tagged, line-untagged}
 use Rattle.sheet.specs.Lines.{lines, fittings, fitLine, endLine, mostBytes}
 use Rattle.sheet.specs.Reading.{fitByte, onFit, readLines, readFits, readStop, readEnd, readRest, readSheet}
@@ -34,11 +35,6 @@ byNumber (Fault number at) = twoOrThree number
 
 abbrev pub Textual : Reading → Type 0
 Textual p = byNumber (p .ended) ≡ true
-
--- what holds of both holds of either
-pub either : {A : Type 0} (f : A → Bool) (u : Bool) {a b : A} → f a ≡ true → f b ≡ true → f (cond u a b) ≡ true
-either f true h k = h
-either f false h k = k
 
 pub shifted : (k : ℕ) (r : LineRead) → byNumber r ≡ true → byNumber (shiftBy k r) ≡ true
 shifted k (Taken n) h = h
@@ -57,17 +53,20 @@ abbrev entryBy : EntryRead → Bool
 entryBy (Number n k) = true
 entryBy (Misread number at) = twoOrThree number
 
-judged-textual : (r : NumberRead) (l : Limit) (last e len : ℕ) (t : List ℕ) → entryBy (judged r l last e len t) ≡ true
-judged-textual (Malformed at) l last e len t = refl
-judged-textual (Value n) l last e len t = either entryBy (begins e t) (either entryBy (within l last n) refl refl) refl
+abbrev EntryTextual : EntryRead → Type 0
+EntryTextual r = entryBy r ≡ true
 
-entry-textual : (l : Limit) (last e : ℕ) (t : List ℕ) → entryBy (readEntry l last e t) ≡ true
+judged-textual : (r : NumberRead) (l : Limit) (last e len : ℕ) (t : List ℕ) → EntryTextual (judged r l last e len t)
+judged-textual (Malformed at) l last e len t = refl
+judged-textual (Value n) l last e len t = either EntryTextual (begins e t) (either EntryTextual (within l last n) refl refl) refl
+
+entry-textual : (l : Limit) (last e : ℕ) (t : List ℕ) → EntryTextual (readEntry l last e t)
 unfolding readEntry
 entry-textual l last e t =
-    either entryBy (eqb (l .rule) orNone && begins dash t) (either entryBy (begins e (drop 1 t)) refl refl)
+    either EntryTextual (eqb (l .rule) orNone && begins dash t) (either EntryTextual (begins e (drop 1 t)) refl refl)
     (judged-textual (numberOf (fieldOf t)) l last e (length (fieldOf t)) (drop (length (fieldOf t)) t))
 
-on-entry : (r : EntryRead) (rest : ℕ → List ℕ → Reading) (t : List ℕ) → entryBy r ≡ true → ((n : ℕ) (u : List ℕ) → Textual (rest n u)) → Textual (onEntry r rest t)
+on-entry : (r : EntryRead) (rest : ℕ → List ℕ → Reading) (t : List ℕ) → EntryTextual r → ((n : ℕ) (u : List ℕ) → Textual (rest n u)) → Textual (onEntry r rest t)
 on-entry (Misread number at) rest t h ih = h
 on-entry (Number n k) rest t h ih = shifted k (rest n (drop k t) .ended) (ih n (drop k t))
 
@@ -122,7 +121,7 @@ rest-textual t = followed-textual (readFits fittings 1 t) readEnd t (fits-textua
 
 sheet-textual : (t : List ℕ) → Textual (readSheet t)
 unfolding readSheet
-sheet-textual t = either (λ (p : Reading). byNumber (p .ended)) (ltb mostBytes (length t)) refl (followed-textual (readLines lines t) readRest t (lines-textual lines t) rest-textual)
+sheet-textual t = either Textual (ltb mostBytes (length t)) refl (followed-textual (readLines lines t) readRest t (lines-textual lines t) rest-textual)
 
 -- ---- the number of a fault
 

@@ -8,13 +8,14 @@ use lib.Dec.{leb}
 use lib.ListN.{length}
 use Rattle.text.specs.declared.LineRead.{LineRead}
 use Rattle.text.specs.declared.LineRead.the-variants.{Taken, Fault}
+use Rattle.text.proofs.Number.{either}
 use Rattle.sheet.specs.declared.Answer.{Answer}
 use Rattle.sheet.specs.declared.Answer.the-variants.{Refused, Done, Count, Plate}
 use Rattle.sheet.specs.Sheet.{sheetOk, sheetText}
 use Rattle.sheet.specs.Reading.{readSheet}
 use Rattle.sheet.specs.Engines.{powersOf, readEngines}
 use Rattle.sheet.specs.Calls.{noRoom, readAnswer, writeAnswer, rowsFit, enginesAnswer}
-use Rattle.sheet.proofs.Faults.{either, sheet-fault}
+use Rattle.sheet.proofs.Faults.{sheet-fault}
 use Rattle.sheet.proofs.EngineFaults.{engines-fault}
 
 -- whether an answer, if it is a refusal, is by a number of the list
@@ -24,26 +25,29 @@ isListed Done = true
 isListed (Count n) = true
 isListed (Plate a b) = true
 
-pub text-listed : {number : ℕ} → (number ≡ 2) ⊎ (number ≡ 3) → isListed (Refused number) ≡ true
+abbrev pub OfList : Answer → Type 0
+OfList a = isListed a ≡ true
+
+pub text-listed : {number : ℕ} → (number ≡ 2) ⊎ (number ≡ 3) → OfList (Refused number)
 text-listed (inl e) = rw e refl
 text-listed (inr e) = rw e refl
 
-pub read-listed : (t : List ℕ) → isListed (readAnswer (readSheet t .ended)) ≡ true
+pub read-listed : (t : List ℕ) → OfList (readAnswer (readSheet t .ended))
 read-listed t = go (readSheet t .ended) refl
   where
-    go : (r : LineRead) → readSheet t .ended ≡ r → isListed (readAnswer r) ≡ true
+    go : (r : LineRead) → readSheet t .ended ≡ r → OfList (readAnswer r)
     go (Taken k) e = refl
     go (Fault number at) e = text-listed (sheet-fault t number at e)
 
-pub write-listed : (s : List ℕ) (room : ℕ) → isListed (writeAnswer s room) ≡ true
-write-listed s room = either isListed (sheetOk s) (either isListed (leb (length (sheetText s)) room) refl refl) refl
+pub write-listed : (s : List ℕ) (room : ℕ) → OfList (writeAnswer s room)
+write-listed s room = either OfList (sheetOk s) (either OfList (leb (length (sheetText s)) room) refl refl) refl
 
-pub engines-listed : (t : List ℕ) (a b : ℕ) → isListed (enginesAnswer (readEngines t) a b) ≡ true
+pub engines-listed : (t : List ℕ) (a b : ℕ) → OfList (enginesAnswer (readEngines t) a b)
 engines-listed t a b = go (readEngines t .ended) refl
   where
     rows : List ℕ
     rows = readEngines t .numbers
 
-    go : (r : LineRead) → readEngines t .ended ≡ r → isListed (elim r [ Taken k ↦ cond (rowsFit rows a b) (Count (length (powersOf rows))) (Refused noRoom) | Fault number at ↦ Refused number ]) ≡ true
-    go (Taken k) e = either isListed (rowsFit rows a b) refl refl
+    go : (r : LineRead) → readEngines t .ended ≡ r → OfList (elim r [ Taken k ↦ cond (rowsFit rows a b) (Count (length (powersOf rows))) (Refused noRoom) | Fault number at ↦ Refused number ])
+    go (Taken k) e = either OfList (rowsFit rows a b) refl refl
     go (Fault number at) e = text-listed (engines-fault t number at e)

@@ -1,7 +1,7 @@
 -- Worked fields and numbers, computed: one statement over each list of them. Assumes nothing.
 use mathlib.Core.Path.{_≡_, refl}
 use mathlib.Core.List.{List, [], _∷_, map}
-use Prim.Native.Nat.{ℕ, _-_}
+use Prim.Native.Nat.{ℕ, zero, suc, _-_}
 use Prim.Native.String.{String}
 use lib.ListN.{length}
 use Rattle.text.specs.declared.NumberRead.the-variants.{Value, Malformed}
@@ -74,3 +74,10 @@ entries-right = refl
 
 tables-right : limitsOf ((0 ∷ 1 ∷ 0 ∷ []) ∷ (1 ∷ 24 ∷ 1 ∷ []) ∷ (2000 ∷ 6000 ∷ 2 ∷ []) ∷ [] ∷ []) ≡ ranging 0 1 ∷ rangingOrNone 1 24 ∷ rangingCapped 2000 6000 ∷ ranging 0 0 ∷ []
 tables-right = refl
+
+-- ---- for the computed statements of the nouns above
+
+-- so many numbers from k on: k, k + 1, ..
+unfoldable pub upFrom : ℕ → ℕ → List ℕ
+upFrom zero k = []
+upFrom (suc n) k = k ∷ upFrom n (suc k)

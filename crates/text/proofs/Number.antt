@@ -1,7 +1,7 @@
 -- Laws of numbers: read digit by digit, written digit by digit. Assumes nothing.
 use mathlib.Core.Path.{_≡_, refl, sym, ap, _∙_}
 use mathlib.Core.Logic.{_≢_}
-use mathlib.Core.Bool.{Bool, true, false, _&&_, true≢false}
+use mathlib.Core.Bool.{Bool, true, false, _&&_, cond, true≢false}
 use mathlib.Core.List.{List, [], _∷_, _++_}
 use Prim.Native.Nat.{ℕ, zero, suc, _+_, _*_, _-_, _/_, _%_, _^_, _≤_, _<_}
 use native.Mathlib.Numerals.{add-one}
@@ -22,6 +22,11 @@ digit-is b h l = rw (le-leb 48 b h, le-leb b 57 l)
 pub both-hold : (s t : Bool) → (s && t) ≡ true → (s ≡ true) × (t ≡ true)
 both-hold true t e = (refl, e)
 both-hold false t e = absurd (true≢false (sym e))
+
+-- what holds of both holds of either
+pub either : {A : Type 0} (P : A → Type 0) (u : Bool) {a b : A} → P a → P b → P (cond u a b)
+either P true h k = h
+either P false h k = k
 
 pub digit-low : (b : ℕ) → isDigit b ≡ true → 48 ≤ b
 digit-low b e = leb-true 48 b (both-hold _ _ e .0)
