@@ -140,7 +140,7 @@ def power(sheet):
     factor = sheet.length * sheet.width
     if factor <= POWERS[-1][0]:
         row = next(i for i, (most, _) in enumerate(POWERS) if factor <= most)
-        if sheet.flat and factor < 5000000:
+        if sheet.flat:
             row -= 1
         return POWERS[row][1] if row >= 0 else None
     thousands = Fraction(factor, 1000)

@@ -246,16 +246,43 @@ static void try_power_rows(void)
     wb_sheet sheet;
     begin_part("power rows");
     for (int row = 0; row < 6; row++) {
-        int last = row == 5;
         insist(set_product(&sheet, bounds[row], 1) == bounds[row], "no length and width give a row's bound exactly");
         expect_power_at(bounds[row], 1, 0, watts[row + 1]);
-        expect_power_at(bounds[row], 1, 1, watts[last ? row + 1 : row]);
+        expect_power_at(bounds[row], 1, 1, watts[row]);
         expect_power_at(bounds[row] - 1, 0, 0, watts[row + 1]);
         expect_power_at(bounds[row] - 1, 0, 1, watts[row]);
-        if (!last) {
+        if (row < 5) {
             expect_power_at(bounds[row] + 1, 1, 0, watts[row + 2]);
             expect_power_at(bounds[row] + 1, 1, 1, watts[row + 1]);
         }
+    }
+}
+
+/* A flat bottom takes the row before its own to the end of the table, there too, and not above it; 0 watts stand for refusal 13. */
+static void try_flat_line(void)
+{
+    static const struct {
+        uint32_t length, width, flat, remote, height, watts;
+    } hulls[] = {
+        {2250, 1000, 1, 0, 500, 0},     {2251, 1000, 1, 0, 500, 1500},  {3300, 1000, 1, 0, 500, 1500},  {3301, 1000, 1, 0, 500, 3000},
+        {4200, 1000, 1, 0, 500, 5250},  {4201, 1000, 1, 0, 500, 7500},  {4999, 1000, 1, 0, 500, 7500},  {5000, 1000, 1, 0, 500, 7500},
+        {4000, 1250, 1, 0, 500, 7500},  {5001, 1000, 1, 0, 500, 10000}, {5000, 1000, 1, 1, 499, 7500},  {5001, 1000, 1, 1, 499, 10000},
+        {5000, 1000, 1, 1, 500, 7500},  {5001, 1000, 1, 1, 500, 15000}, {5000, 1000, 1, 1, 900, 7500},  {5000, 1000, 1, 0, 200, 7500},
+        {5000, 1000, 0, 0, 500, 12000}, {5000, 1000, 0, 1, 500, 12000}, {5001, 1000, 0, 0, 500, 15000}, {5001, 1000, 0, 1, 500, 15000},
+    };
+    begin_part("flat bottoms about the end of the power table");
+    for (size_t i = 0; i < sizeof hulls / sizeof *hulls; i++) {
+        wb_sheet sheet = base_hull();
+        sheet.reference = 2000;
+        sheet.length = hulls[i].length;
+        sheet.transom_width = hulls[i].width;
+        sheet.flat = hulls[i].flat;
+        sheet.remote = hulls[i].remote;
+        sheet.transom_height = hulls[i].height;
+        if (hulls[i].watts)
+            expect_power(&sheet, hulls[i].watts);
+        else
+            expect_plate('A', &sheet, 13, 0, 0);
     }
 }
 
@@ -486,6 +513,7 @@ void try_plate_edges(void)
     try_no_two_alike();
     try_ends();
     try_power_rows();
+    try_flat_line();
     try_formulas();
     try_persons();
     try_reaching_rows();

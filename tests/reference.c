@@ -285,7 +285,7 @@ static uint32_t power_a(const uint32_t *sheet, uint32_t *watts)
     }
     while (p > rows[row].up_to)
         row++;
-    if (sheet[FLAT] && p < 5000000)
+    if (sheet[FLAT])
         row--;
     if (row < 0)
         return WB_NO_POWER;

@@ -414,10 +414,8 @@ fn power_a(sheet: &[u32]) -> u64
         0
     } else if TABLE_END < p {
         formula_watts(sheet, p)
-    } else if sheet[FLAT] == 1 && p < TABLE_END {
-        row_watts(p, true)
     } else {
-        row_watts(p, false)
+        row_watts(p, sheet[FLAT] == 1)
     }
 }
 

@@ -23,7 +23,15 @@ casesA =
     ∷ onA (driven 0 (power 2250 2250 1000 1 0)) (Plate 166 0) ∷ onA (driven 0 (power 2250 2250 1000 0 0)) (Plate 166 0)
     -- about the table's end, flat and not
     ∷ onA (power 4000 4363 1146 0 0) (Plate 327 12000) ∷ onA (power 4000 4000 1250 0 0) (Plate 327 12000) ∷ onA (power 4000 5071 986 0 0) (Plate 327 15000)
-    ∷ onA (power 4000 4363 1146 1 0) (Plate 327 7500) ∷ onA (power 4000 4000 1250 1 0) (Plate 327 12000) ∷ onA (power 4000 5071 986 1 0) (Plate 327 10000)
+    ∷ onA (power 4000 4363 1146 1 0) (Plate 327 7500) ∷ onA (power 4000 4000 1250 1 0) (Plate 327 7500) ∷ onA (power 4000 5071 986 1 0) (Plate 327 10000)
+    -- 02 (ii): the builder's flat skiff a shade smaller, on the line and a shade bigger; on it whatever its steering and transom, another bottom by its own row, an inboard by none
+    ∷ onA (power 4000 4999 1000 1 0) (Plate 327 7500) ∷ onA (power 4000 5000 1000 1 0) (Plate 327 7500) ∷ onA (power 4000 5001 1000 1 0) (Plate 327 10000)
+    ∷ onA (power 4000 4999 1000 1 1) (Plate 327 7500) ∷ onA (power 4000 5000 1000 1 1) (Plate 327 7500) ∷ onA (power 4000 5001 1000 1 1) (Plate 327 15000)
+    ∷ onA (transom 499 (power 4000 5000 1000 1 1)) (Plate 327 7500) ∷ onA (transom 499 (power 4000 5001 1000 1 1)) (Plate 327 10000) ∷ onA (transom 200 (power 4000 5000 1000 1 0)) (Plate 327 7500) ∷ onA (transom 900 (power 4000 5000 1000 1 1)) (Plate 327 7500)
+    ∷ onA (power 4000 5000 1000 0 0) (Plate 327 12000) ∷ onA (power 4000 5000 1000 0 1) (Plate 327 12000) ∷ onA (driven 0 (power 4000 5000 1000 1 0)) (Plate 327 0)
+    -- and flat at the ends of other rows
+    ∷ onA (power 2250 2251 1000 1 0) (Plate 166 1500) ∷ onA (power 3300 3300 1000 1 0) (Plate 263 1500) ∷ onA (power 3300 3301 1000 1 0) (Plate 263 3000)
+    ∷ onA (power 4000 4200 1000 1 0) (Plate 327 5250) ∷ onA (power 4000 4201 1000 1 0) (Plate 327 7500)
     -- within the table remote steering plays no part
     ∷ onA (power 4000 4000 1200 0 1) (Plate 327 12000) ∷ onA (power 4000 4000 1200 1 1) (Plate 327 7500)
     -- 01's case 8

@@ -4,6 +4,8 @@ pub mod Order
 pub mod Volume
 pub mod Loads
 pub mod Power
+pub mod Rising
+pub mod Watts
 pub mod Within
 pub mod Rounding
 pub mod Pounds

@@ -1,6 +1,6 @@
 -- Plate A's power, by the case that the code finds. Assumes nothing.
 use mathlib.Core.Path.{_≡_, refl, sym, ap, _∙_}
-use mathlib.Core.Bool.{Bool, true, false, _&&_}
+use mathlib.Core.Bool.{Bool, true, false, _&&_, cond}
 use mathlib.Core.List.{List, [], _∷_}
 use Prim.Native.Nat.{ℕ, zero, suc, _-_, _*_, _≤_, _<_}
 use native.Mathlib.Nat.{mul-le-mul}
@@ -53,13 +53,10 @@ pub by-formula : (s : List ℕ) {p : ℕ} → p ≡ factorP s → eqb (outboard 
 unfolding powerA
 by-formula s e a h = rw (a, sym (ap (ltb tableEnd) e) ∙ lt-ltb tableEnd _ h) refl
 
-pub by-row-before : (s : List ℕ) {p : ℕ} → p ≡ factorP s → eqb (outboard s) 0 ≡ false → p ≤ tableEnd → eqb (flatBottom s) 1 ≡ true → ltb p tableEnd ≡ true → beforeWatts p ≡ powerA s
+-- within the table a flat bottom by the row before its own, another by its own
+pub by-row : (s : List ℕ) {p : ℕ} {flat : Bool} → p ≡ factorP s → eqb (outboard s) 0 ≡ false → p ≤ tableEnd → flat ≡ eqb (flatBottom s) 1 → cond flat (beforeWatts p) (rowWatts p) ≡ powerA s
 unfolding powerA
-by-row-before s {p} e a h b k = rw (a, sym (ap (ltb tableEnd) e) ∙ le-ltb tableEnd p h, b, sym (ap (λ (x : ℕ). ltb x tableEnd) e) ∙ k) (ap beforeWatts e)
-
-pub by-row : (s : List ℕ) {p : ℕ} → p ≡ factorP s → eqb (outboard s) 0 ≡ false → p ≤ tableEnd → (eqb (flatBottom s) 1 && ltb p tableEnd) ≡ false → rowWatts p ≡ powerA s
-unfolding powerA
-by-row s {p} e a h b = rw (a, sym (ap (ltb tableEnd) e) ∙ le-ltb tableEnd p h, sym (ap (λ (x : ℕ). eqb (flatBottom s) 1 && ltb x tableEnd) e) ∙ b) (ap rowWatts e)
+by-row s {p} e a h f = rw (a, sym (ap (ltb tableEnd) e) ∙ le-ltb tableEnd p h, f, e) refl
 
 -- ---- the row of the table
 
@@ -125,4 +122,4 @@ pub power-most : (s : List ℕ) → Bounds s → powerA s ≤ 300000
 unfolding powerA
 power-most s b =
     either Fitting (eqb (outboard s) 0) (omega arith)
-    (either Fitting (ltb tableEnd (factorP s)) (formula-most s (factor-most s b refl refl)) (either Fitting (eqb (flatBottom s) 1 && ltb (factorP s) tableEnd) (watts-most (rowOf (factorP s))) (watts-most (suc (rowOf (factorP s))))))
+    (either Fitting (ltb tableEnd (factorP s)) (formula-most s (factor-most s b refl refl)) (either Fitting (eqb (flatBottom s) 1) (watts-most (rowOf (factorP s))) (watts-most (suc (rowOf (factorP s))))))

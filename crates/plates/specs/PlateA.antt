@@ -1,4 +1,4 @@
--- 01, Plate A (003, A2, A3, 2.6.1). Load first, then power, then the two refusals, 12 before 13. Assumes nothing: these are definitions.
+-- 01, Plate A (003, A2, A3, 2.6.1), as 02 (ii) amends it. Load first, then power, then the two refusals, 12 before 13. Assumes nothing: these are definitions.
 use Prim.Native.Nat.{ℕ, suc, _+_, _-_, _*_}
 use mathlib.Core.Bool.{Bool, _&&_, cond}
 use mathlib.Core.List.{List, [], _∷_}
@@ -60,6 +60,10 @@ beforeWatts p = getD tableWatts (rowOf p) 0
 abbrev pub raised : ℕ → ℕ → ℕ
 raised a d = 5000 * ceilDiv a (5000 * d)
 
+-- 02 (ii): in the whole of the table, at its end too, a flat bottom takes the row before its own
+abbrev pub listedWatts : List ℕ → ℕ
+listedWatts s = cond (eqb (flatBottom s) 1) (beforeWatts (factorP s)) (rowWatts (factorP s))
+
 -- above 5000000: 16P/1000 − 67000, 4P/1000 − 11000, 6.5P/1000 − 20000, each over whole numbers
 unfoldable pub formulaWatts : List ℕ → ℕ
 formulaWatts s =
@@ -67,12 +71,8 @@ formulaWatts s =
     cond (eqb (remote s) 1 && leb 500 (transomHeight s)) (raised (16 * p - 67000000) 1000)
     (cond (eqb (flatBottom s) 1) (raised (4 * p - 11000000) 1000) (raised (13 * p - 40000000) 2000))
 
--- below the end of the table a flat bottom is marked by the row before its own
 unfoldable pub powerA : List ℕ → ℕ
-powerA s =
-    cond (eqb (outboard s) 0) 0
-    (cond (ltb tableEnd (factorP s)) (formulaWatts s)
-    (cond (eqb (flatBottom s) 1 && ltb (factorP s) tableEnd) (beforeWatts (factorP s)) (rowWatts (factorP s))))
+powerA s = cond (eqb (outboard s) 0) 0 (cond (ltb tableEnd (factorP s)) (formulaWatts s) (listedWatts s))
 
 -- a flat outboard that P puts in the first row can be given no power
 abbrev pub noPower : List ℕ → Bool

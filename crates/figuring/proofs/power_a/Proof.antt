@@ -1,11 +1,9 @@
 -- `power_a` meets its contract. Assumes nothing.
-use lib.Dec.{eqb, lit<}
-use Rattle.plates.specs.Words.{flatBottom}
+use lib.Dec.{lit<}
 use borrow.Author.Tests.{eq-eqb, ne-eqb}
-use mathlib.Core.Path.{_∙_}
-use mathlib.Core.Logic.{inl, inr}
+use mathlib.Core.Path.{refl, _∙_}
 use native.Mathlib.Nat.{lt-of-le-of-lt}
-use Rattle.plates.proofs.Power.{first-fails, second-fails, factor-is, factor-most, no-outboard, by-formula, by-row-before, by-row}
+use Rattle.plates.proofs.Power.{factor-is, factor-most, no-outboard, by-formula, by-row}
 use borrow.Author.Needs.{needs}
 use Rattle.figuring.proofs.power_a.Statement.{statement}
 use Rattle.figuring.proofs.power_a.Tie as tie
@@ -37,14 +35,11 @@ formula-watts-requires c κs =
     let at-wide2 = c .before .before .before in
     (start .pre, (factor-is (start .args .sheet .now) (at-wide .wide .ensures) (at-wide2 .wide2 .ensures)), c .if2 .taken, factor-most (start .args .sheet .now) (start .pre) (at-wide .wide .ensures) (at-wide2 .wide2 .ensures))
 
-shared-slice-read-if3 : tie.Need-shared-slice-read-if3
-shared-slice-read-if3 c = search needs
+shared-slice-read-row-watts : tie.Need-shared-slice-read-row-watts
+shared-slice-read-row-watts c = search needs
 
 row-watts-requires : tie.Need-row-watts-requires
 row-watts-requires c κs = search needs
-
-row-watts-requires-2 : tie.Need-row-watts-requires-2
-row-watts-requires-2 c κs = search needs
 
 returns : tie.Need-returns
 returns c =
@@ -60,21 +55,10 @@ returns-2 c =
 
 returns-3 : tie.Need-returns-3
 returns-3 c =
-    let start = c .before .before .before .before .before .before .before .before .before .before .before .before in
-    let at-wide = c .before .before .before .before .before .before .before .before .before in
-    let at-wide2 = c .before .before .before .before .before .before .before in
-    let at-if1 = c .before .before .before .before .before in
-    let at-if2 = c .before .before .before .before in
-    c .row-watts .ensures ∙ by-row-before (start .args .sheet .now) (factor-is (start .args .sheet .now) (at-wide .wide .ensures) (at-wide2 .wide2 .ensures)) (ne-eqb _ _ (at-if1 .if1 .left)) (at-if2 .if2 .left) (eq-eqb _ _ (c .before .before .if3 .taken)) (c .before .if4 .taken)
-
-returns-4 : tie.Need-returns-4
-returns-4 c =
-    let start = c .before .before .before .before .before .before .before .before .before .before .before in
-    let at-wide = c .before .before .before .before .before .before .before .before in
-    let at-wide2 = c .before .before .before .before .before .before in
-    let at-if1 = c .before .before .before .before in
-    let at-if2 = c .before .before .before in
-    c .row-watts2 .ensures ∙ by-row (start .args .sheet .now) (factor-is (start .args .sheet .now) (at-wide .wide .ensures) (at-wide2 .wide2 .ensures)) (ne-eqb _ _ (at-if1 .if1 .left)) (at-if2 .if2 .left) (elim (c .before .if3 .came) [ inl x ↦ second-fails (eqb (flatBottom (start .args .sheet .now)) 1) (x .1 .left) | inr x ↦ first-fails _ (ne-eqb _ _ (x .left)) ])
+    let start = c .before .before .before .before .before .before .before .before .before .before in
+    let at-wide = c .before .before .before .before .before .before .before in
+    let at-wide2 = c .before .before .before .before .before in
+    c .row-watts .ensures ∙ by-row (start .args .sheet .now) (factor-is (start .args .sheet .now) (at-wide .wide .ensures) (at-wide2 .wide2 .ensures)) (ne-eqb _ _ (c .before .before .before .if1 .left)) (c .before .before .if2 .left) refl
 
 pub power-a-spec : {M : Type 1} → statement M
 power-a-spec =
@@ -87,10 +71,8 @@ power-a-spec =
     mul-p
     shared-slice-read-if1
     formula-watts-requires
-    shared-slice-read-if3
+    shared-slice-read-row-watts
     row-watts-requires
-    row-watts-requires-2
     returns
     returns-2
-    returns-3
-    returns-4)
+    returns-3)
