@@ -6,6 +6,7 @@ pub mod Loads
 pub mod Power
 pub mod Rising
 pub mod Watts
+pub mod Former
 pub mod Within
 pub mod Rounding
 pub mod Pounds
