@@ -83,12 +83,22 @@ static void random_fittings(wb_sheet *sheet)
             sheet->fitting[i] = one_in(2) ? number_at_limit(FIRST_FITTING) : random_between(1, 20000);
 }
 
+/* The length x the transom's width at the end of a row of plate A's power table, or a millimetre of length beside it. */
+static void put_on_a_row_end(wb_sheet *sheet)
+{
+    static const uint32_t lengths[] = {2250, 3300, 3600, 3900, 4200, 5000};
+    sheet->length = ONE_OF(lengths) + random_between(0, 2) - 1;
+    sheet->transom_width = 1000;
+}
+
 /* A boat whose loads are small, so that every refusal of the plates comes near. */
 static void make_small(wb_sheet *sheet)
 {
     static const uint32_t powers[] = {0, 1, 1490, 1491, 1492, 1499, 1500, 1501, 20000, 199999, 200000};
     sheet->transom_width = random_between(500, 1500);
     sheet->transom_height = random_between(495, 505);
+    if (one_in(4))
+        put_on_a_row_end(sheet);
     for (int i = 0; i < 4; i++) {
         uint32_t *readings = &sheet->station[i].b;
         readings[0] = random_between(0, 1200);
