@@ -221,7 +221,15 @@ static uint32_t set_product(wb_sheet *sheet, uint32_t wanted, int above)
     return best;
 }
 
-/* 0 watts stand for refusal 13. */
+/* The power of an outboard; 0 watts stand for refusal 13. */
+static void expect_outboard_power(const wb_sheet *sheet, uint32_t watts)
+{
+    if (watts)
+        expect_power(sheet, watts);
+    else
+        expect_plate('A', sheet, 13, 0, 0);
+}
+
 static void expect_power_at(uint32_t p, int above, uint32_t flat, uint32_t watts)
 {
     wb_sheet sheet = base_hull();
@@ -230,10 +238,7 @@ static void expect_power_at(uint32_t p, int above, uint32_t flat, uint32_t watts
     set_product(&sheet, p, above);
     for (sheet.remote = 0; sheet.remote < 2; sheet.remote++)
         for (sheet.transom_height = 499; sheet.transom_height <= 500; sheet.transom_height++)
-            if (watts)
-                expect_power(&sheet, watts);
-            else
-                expect_plate('A', &sheet, 13, 0, 0);
+            expect_outboard_power(&sheet, watts);
     sheet.remote = 0;
     sheet.outboard = 0;
     expect_power(&sheet, 0);
@@ -258,7 +263,7 @@ static void try_power_rows(void)
     }
 }
 
-/* A flat bottom takes the row before its own to the end of the table, there too, and not above it; 0 watts stand for refusal 13. */
+/* A flat bottom takes the row before its own to the end of the table, there too, and not above it. */
 static void try_flat_line(void)
 {
     static const struct {
@@ -279,10 +284,7 @@ static void try_flat_line(void)
         sheet.flat = hulls[i].flat;
         sheet.remote = hulls[i].remote;
         sheet.transom_height = hulls[i].height;
-        if (hulls[i].watts)
-            expect_power(&sheet, hulls[i].watts);
-        else
-            expect_plate('A', &sheet, 13, 0, 0);
+        expect_outboard_power(&sheet, hulls[i].watts);
     }
 }
 
