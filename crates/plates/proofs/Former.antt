@@ -1,39 +1,41 @@
 -- The rule that 02 (ii) amends, by which a flat bottom on the line of 5000000 had its own row: where the two differ, and the builder's complaint. Assumes nothing.
-use mathlib.Core.Path.{_≡_, refl, ap}
+use mathlib.Core.Path.{_≡_, refl}
 use mathlib.Core.Bool.{Bool, true, false, _&&_, cond}
 use mathlib.Core.List.{List, [], _∷_, map}
-use Prim.Native.Nat.{ℕ, _≤_}
+use Prim.Native.Nat.{ℕ, _≤_, _<_}
 use native.Mathlib.Omega.{arith}
-use borrow.Author.Tests.{ltb-false, eqb-true}
-use lib.Dec.{eqb, ltb}
-use Rattle.plates.specs.Words.{flatBottom, outboard}
+use borrow.Author.Tests.{lt-ltb, ltb-false, eqb-true, eqb-false}
+use lib.Dec.{eqb, leb, ltb}
+use Rattle.plates.specs.Words.{transomHeight, flatBottom, remote, outboard}
 use Rattle.plates.specs.PlateC.{rowFor}
-use Rattle.plates.specs.PlateA.{factorP, tableEnd, rowWatts, beforeWatts, listedWatts, formulaWatts, powerA}
+use Rattle.plates.specs.PlateA.{factorP, tableEnd, rowWatts, beforeWatts, formulaWatts, powerA}
 use Rattle.plates.specs.Samples.{words, power}
 
 unfoldable pub former : List ℕ → ℕ
 former s = cond (eqb (outboard s) 0) 0 (cond (ltb tableEnd (factorP s)) (formulaWatts s) (cond (eqb (flatBottom s) 1 && ltb (factorP s) tableEnd) (beforeWatts (factorP s)) (rowWatts (factorP s))))
 
--- a flat bottom on the line had 12000 W
+-- a flat outboard on the line had 12000 W by it, and one a shade bigger 10000 at most, but for the formula of remote steering: of each such kind the power fell
 pub former-line : (s : List ℕ) → outboard s ≡ 1 → flatBottom s ≡ 1 → factorP s ≡ 5000000 → former s ≡ 12000
 unfolding former rowFor
 former-line s o f p = rw (o, f, p) refl
 
--- and no other power is amended
-pub one-point : (s : List ℕ) → (flatBottom s ≡ 1 → factorP s ≡ 5000000 → ⊥) → former s ≡ powerA s
+pub former-fell : (s : List ℕ) → outboard s ≡ 1 → flatBottom s ≡ 1 → (eqb (remote s) 1 && leb 500 (transomHeight s)) ≡ false → 5000000 < factorP s → factorP s ≤ 5250000 → former s ≤ 10000
+unfolding former formulaWatts
+former-fell s o f r h k = rw (o, lt-ltb tableEnd (factorP s) h, r, f) (omega (arith, h, k))
+
+-- no other power is amended
+pub one-point : (s : List ℕ) → ((outboard s ≡ 0 → ⊥) → flatBottom s ≡ 1 → factorP s ≡ 5000000 → ⊥) → former s ≡ powerA s
 unfolding former powerA
-one-point s other = ap (cond (eqb (outboard s) 0) 0) (above (ltb tableEnd (factorP s)) refl)
+one-point s other = go (eqb (outboard s) 0) (ltb tableEnd (factorP s)) (eqb (flatBottom s) 1) (ltb (factorP s) tableEnd) (formulaWatts s) (beforeWatts (factorP s)) (rowWatts (factorP s)) refl refl refl refl
   where
-    listed : (f b : Bool) → eqb (flatBottom s) 1 ≡ f → ltb (factorP s) tableEnd ≡ b → factorP s ≤ tableEnd → cond (f && b) (beforeWatts (factorP s)) (rowWatts (factorP s)) ≡ cond f (beforeWatts (factorP s)) (rowWatts (factorP s))
-    listed false b e d h = refl
-    listed true true e d h = refl
-    listed true false e d h = absurd (other (eqb-true (flatBottom s) 1 e) (omega (arith, h, ltb-false (factorP s) tableEnd d)))
+    go : (inboard above flat below : Bool) (x y z : ℕ) → eqb (outboard s) 0 ≡ inboard → ltb tableEnd (factorP s) ≡ above → eqb (flatBottom s) 1 ≡ flat → ltb (factorP s) tableEnd ≡ below → cond inboard 0 (cond above x (cond (flat && below) y z)) ≡ cond inboard 0 (cond above x (cond flat y z))
+    go true above flat below x y z o a f b = refl
+    go false true flat below x y z o a f b = refl
+    go false false false below x y z o a f b = refl
+    go false false true true x y z o a f b = refl
+    go false false true false x y z o a f b = absurd (other (eqb-false (outboard s) 0 o) (eqb-true (flatBottom s) 1 f) (omega (arith, ltb-false tableEnd (factorP s) a, ltb-false (factorP s) tableEnd b)))
 
-    above : (u : Bool) → ltb tableEnd (factorP s) ≡ u → cond u (formulaWatts s) (cond (eqb (flatBottom s) 1 && ltb (factorP s) tableEnd) (beforeWatts (factorP s)) (rowWatts (factorP s))) ≡ cond u (formulaWatts s) (listedWatts s)
-    above true a = refl
-    above false a = listed (eqb (flatBottom s) 1) (ltb (factorP s) tableEnd) refl refl (ltb-false tableEnd (factorP s) a)
-
--- by it the power fell where the builder says: his flat skiff, without remote steering, a shade smaller, on the line and a shade bigger
+-- the builder's flat skiff, without remote steering, a shade smaller, on the line and a shade bigger
 skiffs : List (List ℕ)
 skiffs = power 4000 4999 1000 1 0 ∷ power 4000 5000 1000 1 0 ∷ power 4000 5001 1000 1 0 ∷ []
 

@@ -20,11 +20,6 @@ alike : (u : Bool) {a b c d : ℕ} → a ≤ c → b ≤ d → cond u a b ≤ co
 alike true h k = h
 alike false h k = k
 
--- by a test on the left alone
-under : (u : Bool) {a b c : ℕ} → a ≤ c → b ≤ c → cond u a b ≤ c
-under true h k = h
-under false h k = k
-
 -- by two tests, of which the right one holds only where the left one does
 crossed : (u v : Bool) {a b c d : ℕ} → (v ≡ true → u ≡ true) → a ≤ c → a ≤ d → b ≤ d → cond u a b ≤ cond v c d
 crossed true true e h k l = h
@@ -100,7 +95,8 @@ across s t f h k =
     let within = row-in (factorP s) h in
     let before : beforeWatts (factorP s) ≤ 7500 = watts-grow (rowOf (factorP s)) 5 (omega arith) (omega arith) in
     let own : rowWatts (factorP s) ≤ 12000 = watts-grow (suc (rowOf (factorP s))) 6 (omega arith) (omega arith) in
-    either (λ (w : ℕ). listedWatts s ≤ w) (eqb (remote t) 1 && leb 500 (transomHeight t)) (under (eqb (flatBottom s) 1) (omega arith) (omega arith)) (crossed (eqb (flatBottom s) 1) (eqb (flatBottom t) 1) f (omega arith) (omega arith) (omega arith))
+    let most : listedWatts s ≤ 12000 = either (λ (w : ℕ). w ≤ 12000) (eqb (flatBottom s) 1) (omega arith) (omega arith) in
+    either (λ (w : ℕ). listedWatts s ≤ w) (eqb (remote t) 1 && leb 500 (transomHeight t)) (omega arith) (crossed (eqb (flatBottom s) 1) (eqb (flatBottom t) 1) f (omega arith) (omega arith) (omega arith))
 
 -- neither a greater P nor a bottom that is not flat brings a lesser power
 pub power-order : (s t : List ℕ) → OneRig s t → Flatter s t → factorP s ≤ factorP t → powerA s ≤ powerA t
