@@ -1,15 +1,16 @@
 -- The rule that 02 (ii) amends, by which a flat bottom on the line of 5000000 had its own row: where the two differ, and the builder's complaint. Assumes nothing.
-use mathlib.Core.Path.{_≡_, refl}
+use mathlib.Core.Path.{_≡_, refl, sym}
 use mathlib.Core.Bool.{Bool, true, false, _&&_, cond}
 use mathlib.Core.List.{List, [], _∷_, map}
 use Prim.Native.Nat.{ℕ, _≤_, _<_}
 use native.Mathlib.Omega.{arith}
-use borrow.Author.Tests.{lt-ltb, ltb-false, eqb-true, eqb-false}
+use borrow.Author.Tests.{lt-ltb, ltb-true, ltb-false, eqb-true, eqb-false}
 use lib.Dec.{eqb, leb, ltb}
 use Rattle.plates.specs.Words.{transomHeight, flatBottom, remote, outboard}
 use Rattle.plates.specs.PlateC.{rowFor}
 use Rattle.plates.specs.PlateA.{factorP, tableEnd, rowWatts, beforeWatts, formulaWatts, powerA}
 use Rattle.plates.specs.Samples.{words, power}
+use Rattle.plates.proofs.Power.{no-outboard, by-formula, by-row}
 
 unfoldable pub former : List ℕ → ℕ
 former s = cond (eqb (outboard s) 0) 0 (cond (ltb tableEnd (factorP s)) (formulaWatts s) (cond (eqb (flatBottom s) 1 && ltb (factorP s) tableEnd) (beforeWatts (factorP s)) (rowWatts (factorP s))))
@@ -25,15 +26,15 @@ former-fell s o f r h k = rw (o, lt-ltb tableEnd (factorP s) h, r, f) (omega (ar
 
 -- no other power is amended
 pub one-point : (s : List ℕ) → ((outboard s ≡ 0 → ⊥) → flatBottom s ≡ 1 → factorP s ≡ 5000000 → ⊥) → former s ≡ powerA s
-unfolding former powerA
-one-point s other = go (eqb (outboard s) 0) (ltb tableEnd (factorP s)) (eqb (flatBottom s) 1) (ltb (factorP s) tableEnd) (formulaWatts s) (beforeWatts (factorP s)) (rowWatts (factorP s)) refl refl refl refl
+unfolding former
+one-point s other = go (eqb (outboard s) 0) (ltb tableEnd (factorP s)) (eqb (flatBottom s) 1) (ltb (factorP s) tableEnd) refl refl refl refl
   where
-    go : (inboard above flat below : Bool) (x y z : ℕ) → eqb (outboard s) 0 ≡ inboard → ltb tableEnd (factorP s) ≡ above → eqb (flatBottom s) 1 ≡ flat → ltb (factorP s) tableEnd ≡ below → cond inboard 0 (cond above x (cond (flat && below) y z)) ≡ cond inboard 0 (cond above x (cond flat y z))
-    go true above flat below x y z o a f b = refl
-    go false true flat below x y z o a f b = refl
-    go false false false below x y z o a f b = refl
-    go false false true true x y z o a f b = refl
-    go false false true false x y z o a f b = absurd (other (eqb-false (outboard s) 0 o) (eqb-true (flatBottom s) 1 f) (omega (arith, ltb-false tableEnd (factorP s) a, ltb-false (factorP s) tableEnd b)))
+    go : (inboard above flat below : Bool) → eqb (outboard s) 0 ≡ inboard → ltb tableEnd (factorP s) ≡ above → eqb (flatBottom s) 1 ≡ flat → ltb (factorP s) tableEnd ≡ below → cond inboard 0 (cond above (formulaWatts s) (cond (flat && below) (beforeWatts (factorP s)) (rowWatts (factorP s)))) ≡ powerA s
+    go true above flat below o a f b = no-outboard s o
+    go false true flat below o a f b = by-formula s refl o (ltb-true tableEnd (factorP s) a)
+    go false false false below o a f b = by-row s {flat = false} refl o (ltb-false tableEnd (factorP s) a) (sym f)
+    go false false true true o a f b = by-row s {flat = true} refl o (ltb-false tableEnd (factorP s) a) (sym f)
+    go false false true false o a f b = absurd (other (eqb-false (outboard s) 0 o) (eqb-true (flatBottom s) 1 f) (omega (arith, ltb-false tableEnd (factorP s) a, ltb-false (factorP s) tableEnd b)))
 
 -- the builder's flat skiff, without remote steering, a shade smaller, on the line and a shade bigger
 skiffs : List (List ℕ)
