@@ -16,9 +16,9 @@ use Rattle.plates.proofs.Power.{row-in}
 -- ---- choices
 
 -- by one test on both sides
-alike : (u : Bool) {a b c d : ℕ} → a ≤ c → b ≤ d → cond u a b ≤ cond u c d
-alike true h k = h
-alike false h k = k
+by-one-test : (u : Bool) {a b c d : ℕ} → a ≤ c → b ≤ d → cond u a b ≤ cond u c d
+by-one-test true h k = h
+by-one-test false h k = k
 
 -- by two tests, of which the right one holds only where the left one does
 crossed : (u v : Bool) {a b c d : ℕ} → (v ≡ true → u ≡ true) → a ≤ c → a ≤ d → b ≤ d → cond u a b ≤ cond v c d
@@ -86,7 +86,7 @@ both-in-table s t f h k =
 
 both-above : (s t : List ℕ) → OneRig s t → Flatter s t → factorP s ≤ factorP t → tableEnd < factorP s → formulaWatts s ≤ formulaWatts t
 unfolding formulaWatts
-both-above s t r f h k = rw (r .steering, r .transom) (alike (eqb (remote t) 1 && leb 500 (transomHeight t)) (omega arith) (crossed (eqb (flatBottom s) 1) (eqb (flatBottom t) 1) f (omega arith) (omega arith) (omega arith)))
+both-above s t r f h k = rw (r .steering, r .transom) (by-one-test (eqb (remote t) 1 && leb 500 (transomHeight t)) (omega arith) (crossed (eqb (flatBottom s) 1) (eqb (flatBottom t) 1) f (omega arith) (omega arith) (omega arith)))
 
 -- the last row but one is below every formula, and the last below those of the bottoms that it is for
 across : (s t : List ℕ) → Flatter s t → factorP s ≤ tableEnd → tableEnd < factorP t → listedWatts s ≤ formulaWatts t
@@ -101,7 +101,7 @@ across s t f h k =
 -- neither a greater P nor a bottom that is not flat brings a lesser power
 pub power-order : (s t : List ℕ) → OneRig s t → Flatter s t → factorP s ≤ factorP t → powerA s ≤ powerA t
 unfolding powerA
-power-order s t r f h = rw (r .drive) (alike (eqb (outboard t) 0) (omega arith) (go (ltb tableEnd (factorP s)) (ltb tableEnd (factorP t)) refl refl))
+power-order s t r f h = rw (r .drive) (by-one-test (eqb (outboard t) 0) (omega arith) (go (ltb tableEnd (factorP s)) (ltb tableEnd (factorP t)) refl refl))
   where
     go : (u v : Bool) → ltb tableEnd (factorP s) ≡ u → ltb tableEnd (factorP t) ≡ v → cond u (formulaWatts s) (listedWatts s) ≤ cond v (formulaWatts t) (listedWatts t)
     go true true a b = both-above s t r f h (ltb-true _ _ a)
