@@ -3,6 +3,7 @@
 #include "compare.h"
 
 #include "offices.h"
+#include "painted.h"
 #include "random.h"
 
 #include <signal.h>
@@ -14,13 +15,14 @@
 
 struct contents lent[BUFFERS];
 
-/* ---- what each call is lent, and what it can answer by the header ---- */
+/* ---- what each call is lent, what it can answer by the header, and the most stack that it may take, where the man page says so ---- */
 
 #define BIT(n) (1ul << (n))
 
 static const struct {
     const char *name;
     unsigned long reads, writes, answers;
+    long stack;
 } kinds[KINDS] = {
     [FRESH] = {"fresh", 0, BIT(MEMORY), BIT(0) | BIT(1)},
     [NEW_HULL] = {"new_hull", BIT(TEXT), BIT(MEMORY), BIT(0) | BIT(1) | BIT(2) | BIT(3) | BIT(4)},
@@ -28,16 +30,16 @@ static const struct {
     [PUT] = {"put", 0, BIT(MEMORY), BIT(0) | BIT(1) | BIT(3) | BIT(6) | BIT(7)},
     [TAKE_OFF] = {"take_off", 0, BIT(MEMORY), BIT(0) | BIT(1) | BIT(3) | BIT(6) | BIT(7) | BIT(17)},
     [REPLACE] = {"replace", BIT(TEXT), BIT(MEMORY), BIT(0) | BIT(1) | BIT(2) | BIT(3) | BIT(6) | BIT(7)},
-    [TRIAL_A] = {"trial_a", BIT(MEMORY), 0, BIT(0) | BIT(1) | BIT(6) | BIT(7) | BIT(12) | BIT(13)},
+    [TRIAL_A] = {"trial_a", BIT(MEMORY), 0, BIT(0) | BIT(1) | BIT(6) | BIT(7) | BIT(12) | BIT(13), 128},
     [TRIAL_C] = {"trial_c", BIT(MEMORY) | BIT(POWERS) | BIT(WEIGHTS), 0,
-                 BIT(0) | BIT(1) | BIT(6) | BIT(7) | BIT(10) | BIT(11) | BIT(12) | BIT(14) | BIT(15)},
-    [TRIAL_U] = {"trial_u", BIT(MEMORY), 0, BIT(0) | BIT(1) | BIT(6) | BIT(7) | BIT(12)},
+                 BIT(0) | BIT(1) | BIT(6) | BIT(7) | BIT(10) | BIT(11) | BIT(12) | BIT(14) | BIT(15), 160},
+    [TRIAL_U] = {"trial_u", BIT(MEMORY), 0, BIT(0) | BIT(1) | BIT(6) | BIT(7) | BIT(12), 128},
     [SAVE] = {"save", 0, BIT(MEMORY), BIT(0) | BIT(1) | BIT(6) | BIT(7) | BIT(8) | BIT(9)},
     [DROP] = {"drop", 0, BIT(MEMORY), BIT(0) | BIT(1) | BIT(6) | BIT(7)},
-    [PLATE_A] = {"plate_a", BIT(MEMORY), 0, BIT(0) | BIT(1) | BIT(5) | BIT(12) | BIT(13)},
+    [PLATE_A] = {"plate_a", BIT(MEMORY), 0, BIT(0) | BIT(1) | BIT(5) | BIT(12) | BIT(13), 128},
     [PLATE_C] = {"plate_c", BIT(MEMORY) | BIT(POWERS) | BIT(WEIGHTS), 0,
-                 BIT(0) | BIT(1) | BIT(5) | BIT(10) | BIT(11) | BIT(12) | BIT(14) | BIT(15)},
-    [PLATE_U] = {"plate_u", BIT(MEMORY), 0, BIT(0) | BIT(1) | BIT(5) | BIT(12)},
+                 BIT(0) | BIT(1) | BIT(5) | BIT(10) | BIT(11) | BIT(12) | BIT(14) | BIT(15), 160},
+    [PLATE_U] = {"plate_u", BIT(MEMORY), 0, BIT(0) | BIT(1) | BIT(5) | BIT(12), 128},
     [WRITE_HULL] = {"write_hull", BIT(MEMORY), BIT(OUT), BIT(0) | BIT(1) | BIT(5) | BIT(16)},
     [READ_SHEET] = {"read_sheet", BIT(TEXT), BIT(SHEET), BIT(0) | BIT(2) | BIT(3)},
     [WRITE_SHEET] = {"write_sheet", BIT(SHEET), BIT(OUT), BIT(0) | BIT(3) | BIT(16)},
@@ -51,6 +53,7 @@ static const char *const buffer_names[BUFFERS] = {"memory", "text", "output", "p
 #define REFUSALS 18
 
 static unsigned long made, seen[KINDS][REFUSALS];
+static long deepest[KINDS];
 static uint64_t seed;
 static const char *part = "start";
 static struct call current;
@@ -163,19 +166,6 @@ static uint8_t *guarded_pages(void)
     return pages;
 }
 
-void begin_compare(uint64_t the_seed)
-{
-    struct sigaction action;
-    memset(&action, 0, sizeof action);
-    action.sa_handler = on_fault;
-    sigaction(SIGSEGV, &action, NULL);
-    sigaction(SIGBUS, &action, NULL);
-    seed = the_seed;
-    for (int side = 0; side < SIDES; side++)
-        for (int buffer = 0; buffer < BUFFERS; buffer++)
-            places[side][buffer].pages = guarded_pages();
-}
-
 uint8_t *lent_bytes(enum buffer buffer)
 {
     return (uint8_t *)lent[buffer].words;
@@ -284,6 +274,60 @@ static wb_answer call_office(const struct office *office, struct call call, cons
     }
 }
 
+/* ---- a call of the library on a painted stack ---- */
+
+typedef void (*any_call)(void);
+
+/* The calls of an office stand in the order of their kinds. */
+static any_call call_of(const struct office *office, enum kind kind)
+{
+    any_call call;
+    memcpy(&call, (const uint8_t *)office + kind * sizeof call, sizeof call);
+    return call;
+}
+
+static struct office painted_office; /* every call of it is painted_entry */
+static wb_answer painted_answer;
+
+static void begin_paint(void)
+{
+    any_call entry = painted_entry;
+    insist(sizeof painted_office == KINDS * sizeof entry, "an office has other calls than there are kinds");
+    for (int kind = 0; kind < KINDS; kind++)
+        memcpy((uint8_t *)&painted_office + kind * sizeof entry, &entry, sizeof entry);
+}
+
+static void call_painted_office(void)
+{
+    painted_answer = call_office(&painted_office, current, places[LIBRARY]);
+}
+
+static wb_answer call_on_paint(void)
+{
+    painted_call = call_of(&library, current.kind);
+    long depth = painted_depth(call_painted_office, made % 2 ? 0xA5 : 0x5A);
+    if (depth > deepest[current.kind])
+        deepest[current.kind] = depth;
+    insist(kinds[current.kind].stack == 0 || depth <= kinds[current.kind].stack, "the call took more stack than the man page says");
+    return painted_answer;
+}
+
+/* ---- the start ---- */
+
+void begin_compare(uint64_t the_seed)
+{
+    struct sigaction action;
+    memset(&action, 0, sizeof action);
+    action.sa_handler = on_fault;
+    sigaction(SIGSEGV, &action, NULL);
+    sigaction(SIGBUS, &action, NULL);
+    seed = the_seed;
+    for (int side = 0; side < SIDES; side++)
+        for (int buffer = 0; buffer < BUFFERS; buffer++)
+            places[side][buffer].pages = guarded_pages();
+    begin_paint();
+}
+
 /* ---- holding the one to the other ---- */
 
 static void compare_answers(wb_answer got, wb_answer wanted)
@@ -340,7 +384,7 @@ static wb_answer call_both(unsigned long reads, unsigned long uses)
     if (sealed)
         protect(reads, PROT_READ);
     running = "the library";
-    wb_answer got = call_office(one_in(2) ? &library : &library_with_rubbish, current, places[LIBRARY]);
+    wb_answer got = one_in(2) ? call_on_paint() : call_office(&library_with_rubbish, current, places[LIBRARY]);
     running = "the reference";
     wb_answer wanted = call_office(&reference, current, places[REFERENCE]);
     running = "the test";
@@ -381,7 +425,7 @@ void print_answers_seen(void)
     printf("%-13s", "answers seen");
     for (int refusal = 0; refusal < REFUSALS; refusal++)
         printf(" %6d", refusal);
-    printf("\n");
+    printf("  stack\n");
     for (int kind = 0; kind < KINDS; kind++) {
         printf("%-13s", kinds[kind].name);
         for (int refusal = 0; refusal < REFUSALS; refusal++)
@@ -390,7 +434,7 @@ void print_answers_seen(void)
                 missing += seen[kind][refusal] == 0;
             } else
                 printf(" %6s", "");
-        printf("\n");
+        printf(" %6ld\n", deepest[kind]);
     }
     if (missing > 0) {
         printf("c tests: %lu calls, %d answers that the header names were never seen\n", made, missing);

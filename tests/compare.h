@@ -44,7 +44,7 @@ void begin_compare(uint64_t seed);
 
 unsigned long calls_made(void);
 
-/* The table of answers seen for every call. Ends the program if one that the header names was never seen, or another one was. */
+/* The table of answers seen for every call, and the most stack that it took. Ends the program if an answer that the header names was never seen. */
 void print_answers_seen(void);
 
 uint8_t *lent_bytes(enum buffer buffer);

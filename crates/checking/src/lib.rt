@@ -83,6 +83,8 @@ pub fn words_ok(words: &[u32]) -> bool
     requires { ⌜ length (now words) ≡ sheetWords ⌝ }
     ensures { λ r. ⌜ r ≡ wordsOk (now (words .entry)) ⌝ }
 {
+    // Lent on as a part of itself, it goes in registers and takes no stack (DECISIONS).
+    let words = &words[..];
     let limits = LIMITS;
     if part_ok(&limits[1..], words, 0, STATION_Q) {
         from_stations(&limits[1..], words)

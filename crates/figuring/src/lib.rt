@@ -107,16 +107,16 @@ fn station_product(l: [u32; 7]) -> u64
             + 2 * wide(l[6]))
 }
 
-// N, of the readings of the four stations. Each product is kept, and then they are added.
+// N, of the readings of the four stations: one station at a time, its share added to a running total.
 fn volume_of(readings: [[u32; 7]; 4], reference: u32) -> u64
     requires { ⌜ Stations readings reference ⌝ }
     ensures { λ r. ⌜ r ≡ summed reference (stationProduct (getD readings 0 [])) (stationProduct (getD readings 1 [])) (stationProduct (getD readings 2 [])) (stationProduct (getD readings 3 [])) ⌝ }
 {
-    let q = station_product(readings[0]);
-    let r = station_product(readings[1]);
-    let s = station_product(readings[2]);
-    let t = station_product(readings[3]);
-    wide(reference) * (4 * q + 2 * r + 4 * s + t)
+    let mut total = 4 * station_product(readings[0]);
+    total += 2 * station_product(readings[1]);
+    total += 4 * station_product(readings[2]);
+    total += station_product(readings[3]);
+    wide(reference) * total
 }
 
 // The largest whole number not above (gain - loss) / divisor, or 0 where that is below zero.
@@ -371,8 +371,8 @@ fn table_row(p: u64) -> usize
     }
 }
 
-// Watts of the table's row for a power factor, or of the row before it; before the first there is none, and 0 stands for its watts.
-fn row_watts(p: u64, before: bool) -> u64
+// Watts of the table's row for a power factor, or of the row before it; before the first there is none, and 0 stands for its watts. The table is laid on the stack, so its words are narrow.
+fn row_watts(p: u64, before: bool) -> u32
     requires { ⌜ p ≤ tableEnd ⌝ }
     ensures { λ r. ⌜ r ≡ cond before (beforeWatts p) (rowWatts p) ⌝ }
 {
@@ -415,7 +415,7 @@ fn power_a(sheet: &[u32]) -> u64
     } else if TABLE_END < p {
         formula_watts(sheet, p)
     } else {
-        row_watts(p, sheet[FLAT] == 1)
+        wide(row_watts(p, sheet[FLAT] == 1))
     }
 }
 
@@ -501,6 +501,8 @@ pub fn plate_a(sheet: &[u32]) -> Answer
     requires { ⌜ Bounds (now sheet) ⌝ }
     ensures { λ r. ⌜ r ≡ plateA (now (sheet .entry)) ⌝ }
 {
+    // Lent on as a part of itself, it goes in registers and takes no stack (DECISIONS).
+    let sheet = &sheet[..];
     let load = marked_a(sheet);
     if load == 0 {
         Answer::Refused(NO_LOAD)
@@ -516,6 +518,8 @@ pub fn plate_c(sheet: &[u32], powers: &[u32], weights: &[u32]) -> Answer
     requires { ⌜ Bounds (now sheet) ⌝ }
     ensures { λ r. ⌜ r ≡ plateC (now (sheet .entry)) (now (powers .entry)) (now (weights .entry)) ⌝ }
 {
+    // Lent on as a part of itself, it goes in registers and takes no stack (DECISIONS).
+    let sheet = &sheet[..];
     if rows_right(powers, weights) {
         let load = marked_c(sheet);
         if load == 0 {
@@ -543,6 +547,8 @@ pub fn plate_u(sheet: &[u32]) -> Answer
     requires { ⌜ Bounds (now sheet) ⌝ }
     ensures { λ r. ⌜ r ≡ plateU (now (sheet .entry)) ⌝ }
 {
+    // Lent on as a part of itself, it goes in registers and takes no stack (DECISIONS).
+    let sheet = &sheet[..];
     let load = marked_u(sheet);
     if load == 0 {
         Answer::Refused(NO_LOAD)

@@ -90,6 +90,8 @@ fn drafts_ok(mem: &[u32]) -> bool
 pub fn is_formed(mem: &[u32]) -> bool
     ensures { λ r. ⌜ r ≡ formed (now (mem .entry)) ⌝ }
 {
+    // Lent on as a part of itself, it goes in registers and takes no stack (DECISIONS).
+    let mem = &mem[..];
     if mem.len() != REGISTER_WORDS {
         return false;
     }

@@ -1,14 +1,15 @@
--- Laws of the volume: a station's readings, and bounds of its product and of N. Assumes nothing.
-use mathlib.Core.Path.{_≡_, ap, _∙_}
+-- Laws of the volume: a station's readings, its product, and N by a running total. Assumes nothing.
+use mathlib.Core.Path.{_≡_, sym, ap, _∙_}
 use mathlib.Core.List.{List, [], _∷_}
-use Prim.Native.Nat.{ℕ, suc, _+_, _*_, _≤_, _<_}
+use Prim.Native.Nat.{ℕ, zero, suc, _+_, _*_, _≤_, _<_}
 use native.Mathlib.Nat.{mul-add, mul-le-mul, le-trans}
 use native.Mathlib.Numerals.{add-one, add-two, add-three, add-four, add-five, add-six}
 use native.Mathlib.Omega.{arith}
 use lib.ListN.{length, getD, take, drop, drop-of-length-le}
 use lib.Seq.{drop-cons}
 use Rattle.text.proofs.Stores.{drop-more}
-use Rattle.plates.specs.Volume.{stationProduct}
+use Rattle.plates.specs.Words.{reference, station}
+use Rattle.plates.specs.Volume.{stationProduct, summed, volumeN}
 use Rattle.plates.specs.Weights.{addedUp}
 use Rattle.plates.specs.Bounds.{Readings}
 
@@ -51,6 +52,25 @@ product-exact b q r s t u v i j k l m n =
 pub product-most : (l : List ℕ) → Readings l → stationProduct l ≤ 150000000
 unfolding stationProduct
 product-most l r = le-trans (mul-le-mul {n₂ = 4000} {m₂ = 37500} (r .b) (omega arith)) (omega arith)
+
+-- ---- N, one station at a time
+
+-- the total once so many stations have added their shares, of the product that each has: Q and S count four times, R twice, T once
+unfoldable pub runningTotal : (ℕ → ℕ) → ℕ → ℕ
+runningTotal product zero = 0
+runningTotal product (suc i) = runningTotal product i + getD (4 ∷ 2 ∷ 4 ∷ 1 ∷ []) i 0 * product i
+
+pub shares-added : (product : ℕ → ℕ) → 4 * product 0 + 2 * product 1 + 4 * product 2 + product 3 ≡ runningTotal product 4
+unfolding runningTotal
+shares-added product = omega arith
+
+pub total-summed : (ref : ℕ) (product : ℕ → ℕ) → ref * runningTotal product 4 ≡ summed ref (product 0) (product 1) (product 2) (product 3)
+total-summed ref product = ap (λ (x : ℕ). ref * x) (sym (shares-added product))
+
+-- the reference length times the total of all four is N
+pub total-is-N : (s : List ℕ) → reference s * runningTotal (λ (i : ℕ). stationProduct (station s i)) 4 ≡ volumeN s
+unfolding volumeN
+total-is-N s = total-summed (reference s) (λ (i : ℕ). stationProduct (station s i))
 
 -- ---- the sum of weights, one after the other
 

@@ -17,8 +17,8 @@ marked-a-requires c κs = search needs
 no-power-requires : tie.Need-no-power-requires
 no-power-requires c κs = search needs
 
-cast-t7 : tie.Need-cast-t7
-cast-t7 c =
+cast-t9 : tie.Need-cast-t9
+cast-t9 c =
     let start = c .before .before .before .before .before in
     let at-marked-a = c .before .before .before in
     omega (arith, at-marked-a .marked-a .ensures, marked-most (start .args .sheet .now) (start .pre))
@@ -26,8 +26,8 @@ cast-t7 c =
 power-a-requires : tie.Need-power-a-requires
 power-a-requires c κs = search needs
 
-cast-t9 : tie.Need-cast-t9
-cast-t9 c =
+cast-t11 : tie.Need-cast-t11
+cast-t11 c =
     let start = c .before .before .before .before .before .before in
     omega (arith, c .power-a .ensures, power-most (start .args .sheet .now) (start .pre))
 
@@ -57,9 +57,9 @@ plate-a-spec =
     (tie.spec
     marked-a-requires
     no-power-requires
-    cast-t7
-    power-a-requires
     cast-t9
+    power-a-requires
+    cast-t11
     returns
     returns-2
     returns-3)

@@ -97,14 +97,14 @@ returns-4 c =
     let at-is-untested = c .before .before .before in
     c-empty (start .args .sheet .now) (start .args .powers .now) (start .args .weights .now) (sym (at-rows-right .rows-right .ensures) ∙ at-if1 .if1 .taken) (loaded ((c .before .before .before .before .before .before .before .before))) (sym (at-no-row .no-row .ensures) ∙ at-if3 .if3 .left) (ap (untested (start .args .sheet .now)) (sym (live ((c .before .before .before .before)))) ∙ (sym (at-is-untested .is-untested .ensures) ∙ c .before .before .if4 .left)) (sym (ap (λ (x : ℕ). eqb x 0) (c .before .persons-for .ensures ∙ ap (λ (z : ℤ). orZero (persons (start .args .sheet .now) z)) (live ((c .before .before .before .before))))) ∙ eq-eqb _ _ (c .if5 .taken))
 
-cast-t11 : tie.Need-cast-t11
-cast-t11 c =
+cast-t13 : tie.Need-cast-t13
+cast-t13 c =
     let at-marked-c = c .before .before .before .before .before .before .before .before .before in
     let start = c .before .before .before .before .before .before .before .before .before .before .before .before .before .before .before in
     omega (arith, at-marked-c .marked-c .ensures, c-most (start .args .sheet .now) (start .pre))
 
-cast-t14 : tie.Need-cast-t14
-cast-t14 c =
+cast-t16 : tie.Need-cast-t16
+cast-t16 c =
     let start = c .before .before .before .before .before .before .before .before .before .before .before .before .before .before .before in
     let at-marked-c = c .before .before .before .before .before .before .before .before .before in
     let at-wide = c .before .before .before .before in
@@ -143,7 +143,7 @@ plate-c-spec =
     mul-persons-for
     persons-for-requires
     returns-4
-    cast-t11
-    cast-t14
+    cast-t13
+    cast-t16
     returns-5
     returns-6)

@@ -12,8 +12,8 @@ use Rattle.figuring.proofs.plate_u.Tie as tie
 marked-u-requires : tie.Need-marked-u-requires
 marked-u-requires c κs = search needs
 
-cast-t5 : tie.Need-cast-t5
-cast-t5 c =
+cast-t7 : tie.Need-cast-t7
+cast-t7 c =
     let start = c .before .before .before in
     omega (arith, c .before .marked-u .ensures, pounds-most (start .args .sheet .now) (start .pre))
 
@@ -28,4 +28,4 @@ returns-2 c =
     u-marks (start .args .sheet .now) (sym (ap (λ (x : ℕ). eqb x 0) (c .before .marked-u .ensures)) ∙ ne-eqb _ _ (c .if1 .left)) (c .before .marked-u .ensures)
 
 pub plate-u-spec : {M : Type 1} → statement M
-plate-u-spec = tie.close (tie.spec marked-u-requires cast-t5 returns returns-2)
+plate-u-spec = tie.close (tie.spec marked-u-requires cast-t7 returns returns-2)

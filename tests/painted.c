@@ -1,0 +1,45 @@
+/* painted.c: see painted.h. */
+#include "painted.h"
+
+#include <stdio.h>
+#include <stdlib.h>
+#include <string.h>
+
+/* The paint is at the top, and below it is room for a report of a fault. */
+static uint8_t stack[1 << 16] __attribute__((aligned(64)));
+static uint8_t *const top = stack + sizeof stack;
+
+void (*painted_call)(void);
+void *painted_entered_at;
+
+/* Calls make() with the stack pointer at a place, and then goes back to its own. */
+void painted_switch(void (*make)(void), void *at);
+
+__asm__(".text\n"
+        ".globl painted_entry\n"
+        "painted_entry:\n"
+        "\tmovq %rsp, painted_entered_at(%rip)\n"
+        "\tjmp *painted_call(%rip)\n"
+        ".globl painted_switch\n"
+        "painted_switch:\n"
+        "\tpushq %rbp\n"
+        "\tmovq %rsp, %rbp\n"
+        "\tmovq %rsi, %rsp\n"
+        "\tcall *%rdi\n"
+        "\tmovq %rbp, %rsp\n"
+        "\tpopq %rbp\n"
+        "\tret\n");
+
+long painted_depth(void (*make)(void), uint8_t colour)
+{
+    uint8_t *low = top - PAINTED;
+    memset(low, colour, PAINTED);
+    painted_switch(make, top);
+    if (*low != colour) {
+        fprintf(stderr, "a call took all of the painted stack\n");
+        exit(1);
+    }
+    while (*low == colour)
+        low++;
+    return (long)((uint8_t *)painted_entered_at + sizeof(void *) - low);
+}
