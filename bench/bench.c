@@ -11,9 +11,7 @@
  * change of the machine's pace meets both; and all cases are gone through again and again, so that a slow spell does not fall on one of them alone. The
  * best batch of each counts: whatever else the machine does can only make a batch slower.
  *
- * Stack. The call is run on a stack of its own that was painted; a thunk notes the stack pointer at the call's entry. Its stack is what lies between
- * the return address, counted, and the deepest byte that lost its paint, over two runs with two colours. Room that a call sets aside and never writes
- * below that byte is not seen. What memcpy and memset use is counted.
+ * Stack. The call is run on a stack of its own that was painted (tests/painted.h), over two runs with two colours.
  *
  * Before it is timed, each case is run once by both on the same memory, and the answers and every byte are compared.
  */
@@ -23,13 +21,13 @@
 #include <stdlib.h>
 #include <string.h>
 #include <time.h>
-#include <ucontext.h>
 
 #include "layout.h"
+#include "painted.h"
 #include "reference.h"
 #include "willowblink.h"
 
-enum { PASSES = 20, ROUNDS = 50, BATCH_NS = 20000, PAINTED = 1 << 16 };
+enum { PASSES = 20, ROUNDS = 50, BATCH_NS = 20000 };
 
 /* Everything that the calls are lent, in one place, so that both implementations can be held to the same bytes; as every case starts; and kept. */
 static struct {
@@ -114,11 +112,8 @@ static size_t engines_len;
     X(rows_2, 2, "last line broken", read_engines, NONE, bad_engines, engines_len, ROOM) \
     X(rows_16, 16, "", read_engines, NONE, engines, engines_len, lent.powers, ROWS, lent.weights, ROWS - 1)
 
-/* Notes the stack pointer and goes on to the call in its place; arguments and return address stay as they are. */
-void *thunk_goes_to, *thunk_entered_at;
-void thunk(void);
-static void *volatile through = (void *)thunk;
-__asm__(".text\n.globl thunk\nthunk:\n\tmovq %rsp, thunk_entered_at(%rip)\n\tjmp *thunk_goes_to(%rip)\n");
+/* Where a call is measured it is made through this, and nothing is known of it when the program is compiled. */
+static void (*volatile through)(void) = painted_entry;
 
 /* An answer counts as used. */
 #define KEEP(a) __asm__ volatile("" : : "r"((a).refusal), "r"((a).first), "r"((a).second) : "memory")
@@ -134,7 +129,7 @@ __asm__(".text\n.globl thunk\nthunk:\n\tmovq %rsp, thunk_entered_at(%rip)\n\tjmp
     } \
     static wb_answer side##_once_##id(void) \
     { \
-        thunk_goes_to = (void *)side##_##call; \
+        painted_call = (void (*)(void))side##_##call; \
         reset; \
         return ((__typeof__(&side##_##call))through)(__VA_ARGS__); \
     }
@@ -322,38 +317,20 @@ static void time_case(struct bench_case *c)
     }
 }
 
-static uint8_t painted[PAINTED] __attribute__((aligned(64)));
-static ucontext_t here, there;
 static wb_answer (*once)(void);
 
-static void on_painted_stack(void)
+static void make_once(void)
 {
-    KEEP(once());
-}
-
-/* The bytes from the call's return address, counted, down to the deepest that lost its paint. */
-static long deepest(wb_answer (*f)(void), int colour)
-{
-    memset(painted, colour, sizeof painted);
-    once = f;
-    if (getcontext(&there) != 0)
-        die("no context for", "the painted stack");
-    there.uc_stack.ss_sp = painted;
-    there.uc_stack.ss_size = sizeof painted;
-    there.uc_link = &here;
-    makecontext(&there, on_painted_stack, 0);
-    swapcontext(&here, &there);
-    uint8_t *low = painted;
-    while (low < painted + sizeof painted && *low == (uint8_t)colour)
-        low++;
-    return (long)((uint8_t *)thunk_entered_at + sizeof(void *) - low);
+    wb_answer a = once();
+    KEEP(a);
 }
 
 static void measure_stack(struct side *s)
 {
     start_afresh();
-    s->once(); /* whatever is done at a first call is done */
-    long one = deepest(s->once, 0xa5), other = deepest(s->once, 0x5a);
+    once = s->once;
+    once(); /* whatever is done at a first call is done */
+    long one = painted_depth(make_once, 0xa5), other = painted_depth(make_once, 0x5a);
     s->stack = one > other ? one : other;
 }
 

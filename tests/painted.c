@@ -8,6 +8,7 @@
 /* The paint is at the top, and below it is room for a report of a fault. */
 static uint8_t stack[1 << 16] __attribute__((aligned(64)));
 static uint8_t *const top = stack + sizeof stack;
+static uint8_t paint[64];
 
 void (*painted_call)(void);
 void *painted_entered_at;
@@ -34,11 +35,14 @@ long painted_depth(void (*make)(void), uint8_t colour)
 {
     uint8_t *low = top - PAINTED;
     memset(low, colour, PAINTED);
+    memset(paint, colour, sizeof paint);
     painted_switch(make, top);
-    if (*low != colour) {
+    if (memcmp(low, paint, sizeof paint) != 0) {
         fprintf(stderr, "a call took all of the painted stack\n");
         exit(1);
     }
+    while (memcmp(low, paint, sizeof paint) == 0)
+        low += sizeof paint;
     while (*low == colour)
         low++;
     return (long)((uint8_t *)painted_entered_at + sizeof(void *) - low);

@@ -8,7 +8,7 @@
 #include <stdint.h>
 
 /* No call may take as much. */
-#define PAINTED 4096
+#define PAINTED 8192
 
 /* Goes in the place of a call, with whatever arguments: it notes the stack pointer and goes on to the call that is named here. */
 void painted_entry(void);
