@@ -1,6 +1,6 @@
 -- Laws of the volume: a station's readings, its product, and N by a running total. Assumes nothing.
-use mathlib.Core.Path.{_≡_, sym, ap, _∙_}
-use mathlib.Core.List.{List, [], _∷_}
+use mathlib.Core.Path.{_≡_, refl, sym, ap, _∙_}
+use mathlib.Core.List.{List, [], _∷_, map}
 use Prim.Native.Nat.{ℕ, zero, suc, _+_, _*_, _≤_, _<_}
 use native.Mathlib.Nat.{mul-add, mul-le-mul, le-trans}
 use native.Mathlib.Numerals.{add-one, add-two, add-three, add-four, add-five, add-six}
@@ -60,17 +60,24 @@ unfoldable pub runningTotal : (ℕ → ℕ) → ℕ → ℕ
 runningTotal product zero = 0
 runningTotal product (suc i) = runningTotal product i + getD (4 ∷ 2 ∷ 4 ∷ 1 ∷ []) i 0 * product i
 
+-- that of all four, written out as the volume step makes it
 pub shares-added : (product : ℕ → ℕ) → 4 * product 0 + 2 * product 1 + 4 * product 2 + product 3 ≡ runningTotal product 4
 unfolding runningTotal
 shares-added product = omega arith
 
+-- times the reference length it is what N is made by
 pub total-summed : (ref : ℕ) (product : ℕ → ℕ) → ref * runningTotal product 4 ≡ summed ref (product 0) (product 1) (product 2) (product 3)
 total-summed ref product = ap (λ (x : ℕ). ref * x) (sym (shares-added product))
 
--- the reference length times the total of all four is N
+-- and so it is N, of a sheet
 pub total-is-N : (s : List ℕ) → reference s * runningTotal (λ (i : ℕ). stationProduct (station s i)) 4 ≡ volumeN s
 unfolding volumeN
 total-is-N s = total-summed (reference s) (λ (i : ℕ). stationProduct (station s i))
+
+-- the totals one after the other, of products that tell the stations apart
+totals-right : map (runningTotal (λ (i : ℕ). getD (1 ∷ 10 ∷ 100 ∷ 1000 ∷ []) i 0)) (0 ∷ 1 ∷ 2 ∷ 3 ∷ 4 ∷ []) ≡ 0 ∷ 4 ∷ 24 ∷ 424 ∷ 1424 ∷ []
+unfolding runningTotal
+totals-right = refl
 
 -- ---- the sum of weights, one after the other
 
