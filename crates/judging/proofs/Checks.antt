@@ -1,6 +1,6 @@
 -- Whether a memory is well formed, by the path that the code takes. Assumes nothing.
-use mathlib.Core.Path.{_≡_, refl, ap, _∙_}
-use mathlib.Core.Bool.{Bool, true, false}
+use mathlib.Core.Path.{_≡_, refl, sym, ap, _∙_}
+use mathlib.Core.Bool.{Bool, true, false, and-true, and-false}
 use mathlib.Core.List.{List}
 use Prim.Native.Nat.{ℕ, _+_, _≤_, _<_}
 use borrow.Author.Tests.{le-leb, lt-leb, lt-ltb, le-ltb, eq-eqb, ne-eqb}
@@ -72,10 +72,10 @@ module _ (m : List ℕ) (h : length m ≡ registerWords) {n : ℕ} (e : n ≡ hu
   unfolding formed
   formed-many l = rw (eq-eqb (length m) registerWords h, lt-leb (hullCount m) mostHulls (rw e at l)) refl
 
-  pub formed-hulls : n ≤ mostHulls → each n (hullOk m) ≡ false → false ≡ formed m
+  pub formed-drafts : n ≤ mostHulls → each desks (draftOk m) ≡ false → false ≡ formed m
   unfolding formed
-  formed-hulls l f = rw (eq-eqb (length m) registerWords h, le-leb (hullCount m) mostHulls (rw e at l), rw e at f) refl
+  formed-drafts l f = rw (eq-eqb (length m) registerWords h, le-leb (hullCount m) mostHulls (rw e at l), f) (sym (and-false (each (hullCount m) (hullOk m))))
 
-  pub formed-judged : {t : Bool} → n ≤ mostHulls → each n (hullOk m) ≡ true → t ≡ each desks (draftOk m) → t ≡ formed m
+  pub formed-judged : {t : Bool} → n ≤ mostHulls → each desks (draftOk m) ≡ true → t ≡ each n (hullOk m) → t ≡ formed m
   unfolding formed
-  formed-judged l f g = rw (eq-eqb (length m) registerWords h, le-leb (hullCount m) mostHulls (rw e at l), rw e at f) g
+  formed-judged l f g = rw (eq-eqb (length m) registerWords h, le-leb (hullCount m) mostHulls (rw e at l), f) (rw e at g ∙ sym (and-true (each (hullCount m) (hullOk m))))

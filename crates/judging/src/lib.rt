@@ -99,8 +99,9 @@ pub fn is_formed(mem: &[u32]) -> bool
     if MOST_HULLS < hulls {
         return false;
     }
-    if hulls_ok(mem, hulls) {
-        drafts_ok(mem)
+    // The drafts first: over each call the loop over the hulls then keeps only what it needs itself.
+    if drafts_ok(mem) {
+        hulls_ok(mem, hulls)
     } else {
         false
     }

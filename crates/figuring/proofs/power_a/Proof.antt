@@ -41,8 +41,8 @@ shared-slice-read-row-watts c = search needs
 row-watts-requires : tie.Need-row-watts-requires
 row-watts-requires c κs = search needs
 
-wide-requires-3 : tie.Need-wide-requires-3
-wide-requires-3 c κs = search needs
+cast-result : tie.Need-cast-result
+cast-result c = search needs
 
 returns : tie.Need-returns
 returns c =
@@ -58,10 +58,10 @@ returns-2 c =
 
 returns-3 : tie.Need-returns-3
 returns-3 c =
-    let start = c .before .before .before .before .before .before .before .before .before .before .before in
-    let at-wide = c .before .before .before .before .before .before .before .before in
-    let at-wide2 = c .before .before .before .before .before .before in
-    c .wide3 .ensures ∙ c .before .row-watts .ensures ∙ by-row (start .args .sheet .now) (factor-is (start .args .sheet .now) (at-wide .wide .ensures) (at-wide2 .wide2 .ensures)) (ne-eqb _ _ (c .before .before .before .before .if1 .left)) (c .before .before .before .if2 .left) refl
+    let start = c .before .before .before .before .before .before .before .before .before .before in
+    let at-wide = c .before .before .before .before .before .before .before in
+    let at-wide2 = c .before .before .before .before .before in
+    c .row-watts .ensures ∙ by-row (start .args .sheet .now) (factor-is (start .args .sheet .now) (at-wide .wide .ensures) (at-wide2 .wide2 .ensures)) (ne-eqb _ _ (c .before .before .before .if1 .left)) (c .before .before .if2 .left) refl
 
 pub power-a-spec : {M : Type 1} → statement M
 power-a-spec =
@@ -76,7 +76,7 @@ power-a-spec =
     formula-watts-requires
     shared-slice-read-row-watts
     row-watts-requires
-    wide-requires-3
+    cast-result
     returns
     returns-2
     returns-3)
