@@ -15,7 +15,7 @@
 
 struct contents lent[BUFFERS];
 
-/* ---- what each call is lent, what it can answer by the header, and the most stack that it may take, where the man page says so ---- */
+/* ---- what each call is lent, what it can answer by the header, and the most stack that it may take, where header and man page say so ---- */
 
 #define BIT(n) (1ul << (n))
 
@@ -276,6 +276,13 @@ static wb_answer call_office(const struct office *office, struct call call, cons
 
 /* ---- a call of the library on a painted stack ---- */
 
+/* Not under the compiler's checks, which have stacks of their own. */
+#ifdef __SANITIZE_ADDRESS__
+#define PAINTS 0
+#else
+#define PAINTS 1
+#endif
+
 typedef void (*any_call)(void);
 
 /* The calls of an office stand in the order of their kinds. */
@@ -302,13 +309,15 @@ static void call_painted_office(void)
     painted_answer = call_office(&painted_office, current, places[LIBRARY]);
 }
 
-static wb_answer call_on_paint(void)
+static wb_answer call_library(void)
 {
+    if (!PAINTS)
+        return call_office(&library, current, places[LIBRARY]);
     painted_call = call_of(&library, current.kind);
     long depth = painted_depth(call_painted_office, made % 2 ? 0xA5 : 0x5A);
     if (depth > deepest[current.kind])
         deepest[current.kind] = depth;
-    insist(kinds[current.kind].stack == 0 || depth <= kinds[current.kind].stack, "the call took more stack than the man page says");
+    insist(kinds[current.kind].stack == 0 || depth <= kinds[current.kind].stack, "the call took more stack than header and man page say");
     return painted_answer;
 }
 
@@ -384,7 +393,7 @@ static wb_answer call_both(unsigned long reads, unsigned long uses)
     if (sealed)
         protect(reads, PROT_READ);
     running = "the library";
-    wb_answer got = one_in(2) ? call_on_paint() : call_office(&library_with_rubbish, current, places[LIBRARY]);
+    wb_answer got = one_in(2) ? call_library() : call_office(&library_with_rubbish, current, places[LIBRARY]);
     running = "the reference";
     wb_answer wanted = call_office(&reference, current, places[REFERENCE]);
     running = "the test";

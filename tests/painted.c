@@ -13,7 +13,8 @@ static uint8_t paint[64];
 void (*painted_call)(void);
 void *painted_entered_at;
 
-/* Calls make() with the stack pointer at a place, and then goes back to its own. */
+/* Calls make() with the stack pointer at a place, and then goes back to its own. The registers that a call has to keep are 0 meanwhile: saved on the stack,
+ * one that holds the colour would look like paint. */
 void painted_switch(void (*make)(void), void *at);
 
 __asm__(".text\n"
@@ -25,9 +26,24 @@ __asm__(".text\n"
         "painted_switch:\n"
         "\tpushq %rbp\n"
         "\tmovq %rsp, %rbp\n"
+        "\tpushq %rbx\n"
+        "\tpushq %r12\n"
+        "\tpushq %r13\n"
+        "\tpushq %r14\n"
+        "\tpushq %r15\n"
+        "\txorl %ebx, %ebx\n"
+        "\txorl %r12d, %r12d\n"
+        "\txorl %r13d, %r13d\n"
+        "\txorl %r14d, %r14d\n"
+        "\txorl %r15d, %r15d\n"
         "\tmovq %rsi, %rsp\n"
         "\tcall *%rdi\n"
-        "\tmovq %rbp, %rsp\n"
+        "\tleaq -40(%rbp), %rsp\n"
+        "\tpopq %r15\n"
+        "\tpopq %r14\n"
+        "\tpopq %r13\n"
+        "\tpopq %r12\n"
+        "\tpopq %rbx\n"
         "\tpopq %rbp\n"
         "\tret\n");
 

@@ -16,7 +16,8 @@ extern void (*painted_call)(void);
 
 /*
  * Runs make() on the painted stack, which makes that one call. Answers the bytes from the call's return address, counted, down to the deepest one that
- * lost its paint: room that a call sets aside and never writes below that byte is not seen, and what memcpy and memset use is.
+ * lost its paint: room that a call sets aside and never writes below that byte is not seen, and what memcpy and memset use is. Compiled with
+ * -fno-optimize-sibling-calls, since what a caller has left below it before it jumps to the call would be counted too.
  */
 long painted_depth(void (*make)(void), uint8_t colour);
 

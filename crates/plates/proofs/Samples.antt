@@ -102,11 +102,11 @@ names-right : (named (upFrom 68 0) ≡ upFrom 68 0) × (named [] ≡ replicate 1
 unfolding named upFrom
 names-right = (refl, refl)
 
--- ---- each depth and each station by its own factor
+-- ---- each depth and each station by its own factor, and N of the largest hull that a sheet can have
 
-shares-right : (map stationProduct ((1 ∷ 1 ∷ 10 ∷ 100 ∷ 1000 ∷ 10000 ∷ 100000 ∷ []) ∷ (1 ∷ []) ∷ []) ≡ 224241 ∷ 0 ∷ []) × (summed 1 1 10 100 1000 ≡ 1424)
+shares-right : (map stationProduct ((1 ∷ 1 ∷ 10 ∷ 100 ∷ 1000 ∷ 10000 ∷ 100000 ∷ []) ∷ (1 ∷ []) ∷ []) ≡ 224241 ∷ 0 ∷ []) × (summed 1 1 10 100 1000 ≡ 1424) × (stationProduct (4000 ∷ replicate 6 2500) ≡ 150000000) × (summed 6000 150000000 150000000 150000000 150000000 ≡ 9900000000000)
 unfolding stationProduct
-shares-right = (refl, refl)
+shares-right = (refl, refl, refl, refl)
 
 -- ---- the heaviest boat that a sheet can have, an inboard of plate A
 
