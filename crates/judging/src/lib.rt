@@ -99,7 +99,7 @@ pub fn is_formed(mem: &[u32]) -> bool
     if MOST_HULLS < hulls {
         return false;
     }
-    // The drafts first: over each call the loop over the hulls then keeps only what it needs itself.
+    // The drafts first, so that the loop over the hulls keeps nothing for them over its calls (DECISIONS).
     if drafts_ok(mem) {
         hulls_ok(mem, hulls)
     } else {

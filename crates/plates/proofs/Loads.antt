@@ -93,7 +93,7 @@ unfolding boatM
 boat-most s b = omega (arith, b .bare-most, sum-most-in (fittingsOf s) 24 (b .fittings .few) (b .fittings .light))
 
 -- four stations and a reference length: N of them, and those of a sheet
-stations-most : (ls : List (List ℕ)) (ref : ℕ) → Stations ls ref → summed ref (stationProduct (getD ls 0 [])) (stationProduct (getD ls 1 [])) (stationProduct (getD ls 2 [])) (stationProduct (getD ls 3 [])) ≤ 9900000000000
+pub stations-most : (ls : List (List ℕ)) (ref : ℕ) → Stations ls ref → summed ref (stationProduct (getD ls 0 [])) (stationProduct (getD ls 1 [])) (stationProduct (getD ls 2 [])) (stationProduct (getD ls 3 [])) ≤ 9900000000000
 stations-most ls ref b =
     let q = product-most (getD ls 0 []) (b .at0) in
     let r = product-most (getD ls 1 []) (b .at1) in

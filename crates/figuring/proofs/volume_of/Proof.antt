@@ -1,14 +1,15 @@
 -- `volume_of` meets its contract. Assumes nothing.
 use mathlib.Core.Path.{ap, _∙_}
 use mathlib.Core.List.{[]}
-use Prim.Native.Nat.{ℕ, _+_, _*_, _≤_}
-use native.Mathlib.Nat.{mul-le-mul, lt-of-le-of-lt}
+use Prim.Native.Nat.{ℕ, _*_, _≤_}
+use native.Mathlib.Nat.{lt-of-le-of-lt}
 use native.Mathlib.Omega.{arith}
 use lib.Dec.{lit<}
 use lib.ListN.{getD}
 use borrow.Author.Needs.{needs}
 use Rattle.plates.specs.Volume.{stationProduct}
 use Rattle.plates.proofs.Volume.{product-most, shares-added, total-summed}
+use Rattle.plates.proofs.Loads.{stations-most}
 use Rattle.figuring.proofs.volume_of.Statement.{statement}
 use Rattle.figuring.proofs.volume_of.Tie as tie
 
@@ -33,10 +34,6 @@ most-t : (c : tie.After-station-product4) → c .station-product4 .result ≤ 15
 most-t c =
     let start = c .before .before .before .before .before .before .before .before in
     omega (arith, c .station-product4 .ensures, product-most (getD (start .args .t1) 3 []) (start .pre .at3))
-
--- the total of all four is then at most eleven times that
-most-total : (c : tie.After-station-product4) → 4 * c .before .before .before .before .before .before .station-product .result + 2 * c .before .before .before .before .station-product2 .result + 4 * c .before .before .station-product3 .result + c .station-product4 .result ≤ 1650000000
-most-total c = omega (arith, most-q (c .before .before .before .before .before .before), most-r (c .before .before .before .before), most-s (c .before .before), most-t c)
 
 -- ---- what is to be proved
 
@@ -80,21 +77,22 @@ station-product-requires-4 : tie.Need-station-product-requires-4
 station-product-requires-4 c κs = search needs
 
 add-total-3 : tie.Need-add-total-3
-add-total-3 c = omega (arith, most-total c)
+add-total-3 c = omega (arith, most-q (c .before .before .before .before .before .before), most-r (c .before .before .before .before), most-s (c .before .before), most-t c)
 
 wide-requires : tie.Need-wide-requires
 wide-requires c κs = search needs
-
-mul-result : tie.Need-mul-result
-mul-result c =
-    let start = c .before .before .before .before .before .before .before .before .before in
-    record { fits = lt-of-le-of-lt (mul-le-mul {n₂ = 6000} {m₂ = 1650000000} (omega (arith, c .wide .ensures, start .pre .reference-most)) (most-total (c .before))) (lit< tt) }
 
 returns : tie.Need-returns
 returns c =
     let start = c .before .before .before .before .before .before .before .before .before in
     let product : ℕ → ℕ = λ (i : ℕ). stationProduct (getD (start .args .t1) i []) in
     simp (c .wide .ensures, c .before .before .before .before .before .before .before .station-product .ensures, c .before .before .before .before .before .station-product2 .ensures, c .before .before .before .station-product3 .ensures, c .before .station-product4 .ensures) (ap (λ (x : ℕ). start .args .reference * x) (shares-added product) ∙ total-summed (start .args .reference) product)
+
+-- what it returns is N, and N fits
+mul-result : tie.Need-mul-result
+mul-result c =
+    let start = c .before .before .before .before .before .before .before .before .before in
+    record { fits = rw (returns c) (lt-of-le-of-lt (stations-most (start .args .t1) (start .args .reference) (start .pre)) (lit< tt)) }
 
 pub volume-of-spec : {M : Type 1} → statement M
 volume-of-spec =
