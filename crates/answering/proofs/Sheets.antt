@@ -7,14 +7,15 @@ use lib.ListN.{length, take, drop, replicate, length-drop}
 use lib.Seq.{take-all}
 use Rattle.text.specs.declared.LineRead.the-variants.{Taken}
 use Rattle.text.specs.Line.{Reads}
-use Rattle.sheet.specs.Sheet.{sheetWords, textWords}
+use Rattle.sheet.specs.Places.{sheetWords, textWords}
 use Rattle.sheet.specs.Reading.{readSheet}
-use Rattle.sheet.specs.declared.Answer.{Answer}
-use Rattle.sheet.specs.Settled.{Settled}
-use Rattle.sheet.specs.Calls.{putFirst, writeAnswer, writeInto}
+use Rattle.answers.specs.declared.Answer.{Answer}
+use Rattle.answers.specs.Settled.{Settled}
+use Rattle.sheet.specs.Calls.{writeAnswer, writeInto}
+use Rattle.ground.specs.Lists.{putFirst}
 use Rattle.sheet.proofs.Whole.{sheet-count, sheet-stored}
-use Rattle.plates.specs.Bounds.{Bounds}
-use Rattle.plates.proofs.Within.{within-bounds}
+use Rattle.capacity.specs.Bounds.{Bounds}
+use Rattle.capacity.proofs.Within.{within-bounds}
 use Rattle.memory.specs.Layout.{mostHulls, desks, hullAt, draftAt, hullSheet, draftSheet}
 use Rattle.memory.proofs.Sound.{sound}
 use Rattle.register.specs.Refusals.{hullRefusal, deskRefusal, sheetOf}

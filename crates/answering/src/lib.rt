@@ -2,10 +2,10 @@
 ghost use mathlib.Core.Path.{_≡_};
 ghost use mathlib.Core.List.{_∷_};
 ghost use lib.ListN.{length};
-ghost use Rattle.sheet.specs.Settled.{Settled};
-ghost use Rattle.sheet.specs.Sheet.{sheetWords};
+ghost use Rattle.answers.specs.Settled.{Settled};
+ghost use Rattle.sheet.specs.Places.{sheetWords};
 ghost use Rattle.memory.specs.Layout.{hullSheet, draftSheet};
-ghost use Rattle.plates.specs.Kinds.{kindA, kindC, kindU};
+ghost use Rattle.capacity.specs.Kinds.{kindA, kindC, kindU};
 ghost use Rattle.register.specs.Refusals.{hullRefusal, deskRefusal};
 ghost use Rattle.register.specs.Hulls.{freshAnswer, freshMemory, roomRefusal, newAnswer, newMemory, hullPlate, hullWritten, hullWrittenInto};
 ghost use Rattle.register.specs.Drafts.{openRefusal, openAnswer, openMemory, putRefusal, putAnswer, putMemory, takeRefusal, takeAnswer, takeMemory, replaceAnswer, replaceMemory, trial, saveRefusal, saveAnswer, saveMemory, dropAnswer, dropMemory};
@@ -13,12 +13,12 @@ use memory::DESKS;
 use memory::MOST_EDITS;
 use memory::MOST_HULLS;
 use memory::REGISTER_WORDS;
-use sheet::Answer;
+use answers::Answer;
 use sheet::FITTING_HIGH;
 use sheet::FITTING_LINES;
 use sheet::TEXT_WORDS;
 use text::LineRead;
-use text::OUTSIDE_LIMITS;
+use answers::OUTSIDE_LIMITS;
 
 // The refusals that are the register's own.
 const BAD_MEMORY: u32 = 1;
@@ -167,7 +167,7 @@ fn numbered(number: u32, sheet: &[u32]) -> [u32; TEXT_WORDS]
 {
     let mut words = [0u32; TEXT_WORDS];
     words[0] = number;
-    reading::copy_numbers(sheet, &mut words[1..]);
+    ground::copy_numbers(sheet, &mut words[1..]);
     words
 }
 

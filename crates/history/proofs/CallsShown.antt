@@ -10,7 +10,7 @@ use mathlib.Core.Option.{none, some}
 use lib.Dec.{eqb}
 use borrow.Author.Tests.{eqb-false, eq-eqb, ne-eqb}
 use Rattle.text.specs.declared.LineRead.the-variants.{Taken}
-use Rattle.sheet.specs.declared.Answer.the-variants.{Refused, Count}
+use Rattle.answers.specs.declared.Answer.the-variants.{Refused, Count}
 use Rattle.sheet.specs.Reading.{readSheet}
 use Rattle.memory.specs.Layout.{mostHulls, desks, edit, hullSheet, draftHull, draftSheet}
 use Rattle.memory.specs.Formed.{mostEdits}

@@ -11,15 +11,15 @@ use Rattle.text.specs.Field.{fieldOf, agreed}
 use Rattle.text.specs.Number.{restOf, numberOf, digitsIn, digitsOf}
 use Rattle.text.specs.Limit.{allHold}
 use Rattle.text.specs.Line.{readEntry, readNumbers, readLine, numbersText}
-use Rattle.sheet.specs.declared.Answer.the-variants.{Refused, Done, Count, Plate}
+use Rattle.answers.specs.declared.Answer.the-variants.{Refused, Done, Count, Plate}
 use Rattle.sheet.specs.Sheet.{limitsOn, sheetLimits, fitText, fitsText, linesText, sheetText}
 use Rattle.sheet.specs.Reading.{readLines, readFits, readEnd, readRest, readSheet}
-use Rattle.plates.specs.Volume.{stationProduct, volumeN, netZ}
-use Rattle.plates.specs.Weights.{addedUp, boatM}
-use Rattle.plates.specs.PlateC.{exactX, markedC, rising, rowsRight, rowFor, noRow, engineWeight, liveLoad, persons, untested, plateC}
-use Rattle.plates.specs.PlateA.{inboardX, loadX, markedA, formulaWatts, powerA, plateA}
-use Rattle.plates.specs.PlateU.{ruleU, markedU, plateU}
-use Rattle.plates.specs.Kinds.{kindA, kindC, kindU}
+use Rattle.capacity.specs.Volume.{stationProduct, volumeN, netZ}
+use Rattle.capacity.specs.Weights.{addedUp, boatM}
+use Rattle.capacity.specs.PlateC.{exactX, markedC, rising, rowsRight, rowFor, noRow, engineWeight, liveLoad, persons, untested, plateC}
+use Rattle.capacity.specs.PlateA.{inboardX, loadX, markedA, formulaWatts, powerA, plateA}
+use Rattle.capacity.specs.PlateU.{ruleU, markedU, plateU}
+use Rattle.capacity.specs.Kinds.{kindA, kindC, kindU}
 use Rattle.memory.specs.Formed.{each, hullOk, draftOk, formed}
 use Rattle.memory.specs.Updates.{freshWords, entered, opened, fitted, replaced, dropped, saved}
 use Rattle.register.specs.Refusals.{hullRefusal, deskRefusal}

@@ -9,7 +9,7 @@ use mathlib.Core.List.{List, [], _∷_, map}
 use mathlib.Core.Option.{Option, none, some}
 use lib.Dec.{eqb}
 use borrow.Author.Tests.{ne-eqb}
-use Rattle.sheet.specs.declared.Answer.the-variants.{Refused, Count}
+use Rattle.answers.specs.declared.Answer.the-variants.{Refused, Count}
 use Rattle.history.specs.Calls.{Work, Call, openHull, work, save, Reply, says}
 use Rattle.history.specs.Runs.{Event, _⇒_, call}
 use Rattle.history.specs.History.{block, role}

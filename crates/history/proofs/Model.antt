@@ -6,10 +6,10 @@ use mathlib.Core.List.{List, [], _∷_}
 use mathlib.Core.Option.{Option, none, some}
 use lib.Dec.{eqb, leb, ltb}
 use lib.ListN.{length, getD}
-use Rattle.sheet.specs.declared.Answer.the-variants.{Refused, Done, Count}
+use Rattle.answers.specs.declared.Answer.the-variants.{Refused, Done, Count}
 use Rattle.sheet.specs.Lines.{fittings}
 use Rattle.sheet.specs.Calls.{writeAnswer, writeInto}
-use Rattle.plates.specs.Kinds.{plateOf}
+use Rattle.capacity.specs.Kinds.{plateOf}
 use Rattle.memory.specs.Layout.{mostHulls, desks, hullSheet}
 use Rattle.memory.specs.Formed.{mostEdits}
 use Rattle.memory.specs.Updates.{freshWords}
@@ -17,7 +17,7 @@ use Rattle.register.specs.Refusals.{orRefused, sheetOf, onText}
 use Rattle.register.specs.Drafts.{putOwn}
 use Rattle.history.specs.Calls.{Work, put, takeOff, replace, tryPlate, Ask, plate, write, Call, newHull, openHull, work, save, dropDraft, ask, Reply, says}
 use Rattle.history.specs.Runs.{Event, _⇒_, accepted}
-use Rattle.sheet.specs.Sheet.{fittingWord}
+use Rattle.sheet.specs.Places.{fittingWord}
 use Rattle.history.specs.Told.{worked}
 
 pub record Hull : Type 0 where

@@ -4,8 +4,8 @@ use mathlib.Core.Bool.{false}
 use mathlib.Core.List.{List}
 use Prim.Native.Nat.{ℕ}
 use lib.ListN.{length}
-use Rattle.sheet.specs.declared.Answer.the-variants.{Refused}
-use Rattle.sheet.proofs.Listed.{OfList}
+use Rattle.answers.specs.declared.Answer.the-variants.{Refused}
+use Rattle.answers.proofs.Outcomes.{OfList}
 use Rattle.memory.specs.Formed.{formed}
 use Rattle.register.proofs.Listed.{new-listed, open-listed, put-listed, take-listed, replace-listed, trial-listed, save-listed, drop-listed, hull-plate-listed, written-listed}
 use Rattle.register.proofs.First.{new-unformed, opens-unformed, put-unformed, take-unformed, replace-unformed, trial-unformed, save-unformed, drop-unformed, plate-unformed, written-unformed}

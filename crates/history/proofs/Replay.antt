@@ -10,7 +10,7 @@ use mathlib.Core.Option.{Option, none, some}
 use mathlib.Core.Logic.{inl, inr}
 use lib.Dec.{eqb}
 use borrow.Author.Tests.{eq-eqb, ne-eqb}
-use Rattle.sheet.specs.declared.Answer.the-variants.{Count}
+use Rattle.answers.specs.declared.Answer.the-variants.{Count}
 use Rattle.memory.specs.Layout.{desks}
 use Rattle.memory.specs.Formed.{mostEdits}
 use Rattle.memory.proofs.Same.{same-or-not}

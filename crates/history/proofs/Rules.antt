@@ -7,7 +7,7 @@ use mathlib.Core.Logic.{inl, inr}
 use borrow.Author.Tests.{lt-ltb, le-ltb, eq-eqb, ne-eqb}
 use Rattle.text.specs.declared.LineRead.{LineRead}
 use Rattle.text.specs.declared.LineRead.the-variants.{Taken, Fault}
-use Rattle.sheet.specs.declared.Answer.the-variants.{Refused, Done, Count}
+use Rattle.answers.specs.declared.Answer.the-variants.{Refused, Done, Count}
 use Rattle.sheet.specs.Reading.{readSheet}
 use Rattle.memory.specs.Layout.{mostHulls, desks}
 use Rattle.memory.specs.Formed.{mostEdits}

@@ -9,15 +9,15 @@ use Rattle.text.specs.Field.{fieldOf, agreed}
 use Rattle.text.specs.Number.{restOf, numberOf}
 use Rattle.text.specs.Limit.{allHold}
 use Rattle.text.specs.Line.{readEntry, readNumbers, readLine}
-use Rattle.sheet.specs.declared.Answer.{Answer}
-use Rattle.sheet.specs.declared.Answer.the-variants.{Refused, Done, Count, Plate}
+use Rattle.answers.specs.declared.Answer.{Answer}
+use Rattle.answers.specs.declared.Answer.the-variants.{Refused, Done, Count, Plate}
 use Rattle.sheet.specs.Sheet.{limitsOn, sheetLimits}
 use Rattle.sheet.specs.Reading.{readLines, readFits, readEnd, readRest, readSheet}
-use Rattle.plates.specs.Volume.{stationProduct, volumeN, netZ}
-use Rattle.plates.specs.Weights.{addedUp, boatM}
-use Rattle.plates.specs.PlateC.{exactX, markedC, rising, rowsRight, rowFor, noRow, engineWeight, liveLoad, persons, untested, plateC}
-use Rattle.plates.specs.PlateA.{inboardX, loadX, markedA, formulaWatts, powerA, plateA}
-use Rattle.plates.specs.Samples.{words, seated, load, power, inboard, Case, marks, agrees, refuses, second-is, answer-c, holds-of, stands, cases}
+use Rattle.capacity.specs.Volume.{stationProduct, volumeN, netZ}
+use Rattle.capacity.specs.Weights.{addedUp, boatM}
+use Rattle.capacity.specs.PlateC.{exactX, markedC, rising, rowsRight, rowFor, noRow, engineWeight, liveLoad, persons, untested, plateC}
+use Rattle.capacity.specs.PlateA.{inboardX, loadX, markedA, formulaWatts, powerA, plateA}
+use Rattle.capacity.specs.Samples.{words, seated, load, power, inboard, Case, marks, agrees, refuses, second-is, answer-c, holds-of, stands, cases}
 use Rattle.memory.specs.Formed.{each, hullOk, draftOk, formed}
 use Rattle.memory.specs.Updates.{freshWords, entered, opened, saved, dropped}
 use Rattle.register.specs.Refusals.{deskRefusal}

@@ -5,7 +5,7 @@ use mathlib.Core.Path.{_≡_, sym, ap, _∙_}
 use mathlib.Core.Bool.{true, false≢true}
 use mathlib.Core.List.{List}
 use mathlib.Core.Option.{none, some}
-use Rattle.sheet.specs.declared.Answer.the-variants.{Count}
+use Rattle.answers.specs.declared.Answer.the-variants.{Count}
 use Rattle.memory.specs.Formed.{mostEdits}
 use Rattle.history.specs.Calls.{Call, save, Reply, says}
 use Rattle.history.specs.Runs.{Event, accepted}

@@ -3,7 +3,7 @@ use Prim.Native.Nat.{ℕ, suc, _≤_, _<_}
 use mathlib.Core.Path.{_≡_, refl, ap, _∙_}
 use mathlib.Core.List.{List, [], _∷_, _++_, map}
 use Rattle.text.specs.declared.LineRead.the-variants.{Taken, Fault}
-use Rattle.sheet.specs.declared.Answer.the-variants.{Refused, Count}
+use Rattle.answers.specs.declared.Answer.the-variants.{Refused, Count}
 use Rattle.sheet.specs.Reading.{readSheet}
 use Rattle.memory.specs.Layout.{mostHulls}
 use Rattle.memory.specs.Formed.{mostEdits}

@@ -11,11 +11,11 @@ use lib.ListN.{getD}
 use borrow.Author.Tests.{eqb-true, leb-true, ne-eqb}
 use Rattle.text.specs.declared.LineRead.{LineRead}
 use Rattle.text.specs.declared.LineRead.the-variants.{Taken, Fault}
-use Rattle.text.proofs.Number.{both-hold}
-use Rattle.sheet.specs.declared.Answer.{Answer}
-use Rattle.sheet.specs.declared.Answer.the-variants.{Refused, Done, Count, Plate}
+use Rattle.ground.proofs.Booleans.{both-hold}
+use Rattle.answers.specs.declared.Answer.{Answer}
+use Rattle.answers.specs.declared.Answer.the-variants.{Refused, Done, Count, Plate}
 use Rattle.sheet.specs.Lines.{fittings}
-use Rattle.sheet.specs.Sheet.{sheetWords}
+use Rattle.sheet.specs.Places.{sheetWords}
 use Rattle.sheet.specs.Reading.{readSheet}
 use Rattle.memory.specs.Layout.{draftAt, fittingAt, draftSheet}
 use Rattle.memory.specs.Formed.{formed}
@@ -25,7 +25,7 @@ use Rattle.memory.proofs.Changes.{SheetChanges}
 use Rattle.register.specs.Refusals.{deskRefusal, orRefused, onText}
 use Rattle.register.specs.Drafts.{putRefusal, putAnswer, takeOwn, takeRefusal, takeAnswer, replaceAnswer}
 use Rattle.register.proofs.Keeps.{put-keeps, take-keeps, replace-keeps}
-use Rattle.sheet.proofs.Refused.{isRefusal}
+use Rattle.answers.specs.Values.{isRefusal}
 use Rattle.register.proofs.Effects.{put-refused, take-refused, replace-refused, put-makes, take-makes, replace-makes}
 use Rattle.history.specs.Calls.{Work, put, takeOff, replace, tryPlate, workReply, workMemory}
 use Rattle.history.specs.Runs.{taken, accepted}

@@ -3,8 +3,8 @@
 use Prim.Native.Nat.{ℕ}
 use mathlib.Core.List.{List, []}
 use lib.ListN.{length}
-use Rattle.sheet.specs.declared.Answer.{Answer}
-use Rattle.plates.specs.Kinds.{PlateKind}
+use Rattle.answers.specs.declared.Answer.{Answer}
+use Rattle.capacity.specs.Kinds.{PlateKind}
 use Rattle.register.specs.Hulls.{newAnswer, newMemory, hullPlate, hullWritten, hullWrittenInto}
 use Rattle.register.specs.Drafts.{openAnswer, openMemory, putAnswer, putMemory, takeAnswer, takeMemory, replaceAnswer, replaceMemory, trial, saveAnswer, saveMemory, dropAnswer, dropMemory}
 

@@ -5,8 +5,8 @@ use mathlib.Core.Bool.{true}
 use mathlib.Core.Logic.{_↔_}
 use mathlib.Core.List.{List, _∷_, map}
 use mathlib.Core.Option.{some}
-use Rattle.sheet.specs.declared.Answer.{Answer}
-use Rattle.sheet.specs.declared.Answer.the-variants.{Count}
+use Rattle.answers.specs.declared.Answer.{Answer}
+use Rattle.answers.specs.declared.Answer.the-variants.{Count}
 use Rattle.memory.specs.Layout.{hullCount, edit, hullSheet}
 use Rattle.memory.specs.Formed.{mostEdits}
 use Rattle.history.specs.Calls.{Call, save, reply}

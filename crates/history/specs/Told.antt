@@ -6,7 +6,7 @@ use mathlib.Core.List.{List, [], _∷_}
 use mathlib.Core.Option.{Option, none, some}
 use lib.Dec.{eqb}
 use lib.ListN.{set}
-use Rattle.sheet.specs.Sheet.{fittingWord}
+use Rattle.sheet.specs.Places.{fittingWord}
 use Rattle.register.specs.Refusals.{sheetOf}
 use Rattle.history.specs.Calls.{Work, put, takeOff, replace, tryPlate, newHull, openHull, work, save, dropDraft, ask}
 use Rattle.history.specs.Runs.{Event, _⇒_, accepted}

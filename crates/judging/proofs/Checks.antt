@@ -6,7 +6,8 @@ use Prim.Native.Nat.{ℕ, _+_, _≤_, _<_}
 use borrow.Author.Tests.{le-leb, lt-leb, lt-ltb, le-ltb, eq-eqb, ne-eqb}
 use native.Mathlib.Omega.{arith}
 use lib.ListN.{length, getD}
-use Rattle.sheet.specs.Sheet.{sheetWords, wordsOk}
+use Rattle.sheet.specs.Sheet.{wordsOk}
+use Rattle.sheet.specs.Places.{sheetWords}
 use Rattle.memory.specs.Layout.{mostHulls, desks, registerWords, hullAt, draftAt, part, hullCount, edit, held, draftHull, opening}
 use Rattle.memory.specs.Formed.{mostEdits, each, hullOk, draftOk, formed}
 

@@ -2,7 +2,8 @@
 ghost use mathlib.Core.Path.{_≡_};
 ghost use Prim.Native.Nat.{_+_, _≤_, _<_};
 ghost use lib.ListN.{length};
-ghost use Rattle.sheet.specs.Sheet.{sheetWords, wordsOk};
+ghost use Rattle.sheet.specs.Sheet.{wordsOk};
+ghost use Rattle.sheet.specs.Places.{sheetWords};
 ghost use Rattle.memory.specs.Layout.{mostHulls, desks, registerWords, part, hullCount};
 ghost use Rattle.memory.specs.Formed.{each, hullOk, draftOk, formed};
 use memory::DESKS;
@@ -15,7 +16,7 @@ fn words_at_ok(mem: &[u32], at: usize) -> bool
     requires { ⌜ at + sheetWords ≤ length (now mem) ⌝ }
     ensures { λ r. ⌜ r ≡ wordsOk (part (now (mem .entry)) at sheetWords) ⌝ }
 {
-    checking::words_ok(keeping::sheet_at(mem, at))
+    measuring::words_ok(keeping::sheet_at(mem, at))
 }
 
 // Whether a hull is well formed: its edit number, then its sheet.

@@ -7,9 +7,9 @@ use native.Mathlib.Numerals.{add-one, add-two, add-three}
 use native.Mathlib.Omega.{arith}
 use lib.ListN.{length, getD, set, take, drop, replicate, length-take, length-drop, length-replicate, getD-replicate}
 use lib.Seq.{sets, take-all}
-use Rattle.text.proofs.Stores.{putBack, part-sets, rest-part, sets-whole, sets-start}
-use Rattle.sheet.specs.Sheet.{sheetWords}
-use Rattle.sheet.specs.Calls.{putFirst}
+use Rattle.ground.proofs.Stores.{putBack, part-sets, rest-part, sets-whole, sets-start}
+use Rattle.sheet.specs.Places.{sheetWords}
+use Rattle.ground.specs.Lists.{putFirst}
 use Rattle.memory.specs.Layout.{hullAt, draftAt, part, hullCount, edit, hullSheet, draftHull, draftSheet}
 use Rattle.memory.specs.Updates.{entered, opened, dropped, saved}
 use Rattle.memory.proofs.Parts.{Outside, word-outside, set-before, part-length, part-word, write-more}

@@ -4,7 +4,7 @@ ghost use mathlib.Core.Logic.{_⊎_};
 ghost use Prim.Native.Nat.{_+_, _≤_, _<_};
 ghost use lib.ListN.{length, getD, replicate};
 ghost use lib.Seq.{sets};
-ghost use Rattle.sheet.specs.Sheet.{sheetWords};
+ghost use Rattle.sheet.specs.Places.{sheetWords};
 ghost use Rattle.memory.specs.Layout.{mostHulls, desks, registerWords, hullAt, draftAt, part, hullCount, edit, draftHull, fittingAt};
 ghost use Rattle.memory.specs.Formed.{mostEdits};
 ghost use Rattle.memory.specs.Updates.{entered, opened, fitted, replaced, dropped, saved};
@@ -97,7 +97,7 @@ fn lay_sheet(mem: &mut [u32], at: usize, sheet: &[u32])
     requires { ⌜ (at + sheetWords ≤ length (now mem)) × (length (now sheet) ≡ sheetWords) ⌝ }
     ensures { λ _. ⌜ now (mem .exit) ≡ sets (now (mem .entry)) at (now (sheet .entry)) ⌝ }
 {
-    reading::copy_numbers(sheet, &mut mem[at..]);
+    ground::copy_numbers(sheet, &mut mem[at..]);
 }
 
 // Enters a new hull, with edit number 0, and answers its number.

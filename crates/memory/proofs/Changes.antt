@@ -6,7 +6,7 @@ use Prim.Native.Nat.{ℕ, zero, suc, _+_, _≤_, _<_}
 use native.Mathlib.Omega.{arith}
 use lib.ListN.{length, getD, set, replicate, length-replicate}
 use lib.Seq.{sets, take-all, getD-set-same}
-use Rattle.sheet.specs.Sheet.{sheetWords}
+use Rattle.sheet.specs.Places.{sheetWords}
 use Rattle.memory.specs.Layout.{mostHulls, desks, draftWords, registerWords, hullAt, draftAt, hullCount, edit, hullSheet, held, draftHull, opening, draftSheet, fittingAt}
 use Rattle.memory.specs.Updates.{freshWords, entered, opened, fitted, replaced, dropped, saved}
 use Rattle.memory.proofs.Parts.{word-outside, word-inside, word-first, part-length, part-whole, part-inside, part-set}

@@ -10,10 +10,11 @@ use lib.Dec.{eqb}
 use lib.ListN.{length, getD, set, drop, replicate, length-append, length-replicate, getD-replicate}
 use lib.Seq.{drop-append-add, getD-append-add}
 use Rattle.text.specs.Limit.{Limit, holds, allHold}
-use Rattle.text.proofs.Number.{both-hold}
+use Rattle.ground.proofs.Booleans.{both-hold}
 use Rattle.text.proofs.Limit.{hold-length}
 use Rattle.sheet.specs.Lines.{lines, fittings, fittingHigh}
-use Rattle.sheet.specs.Sheet.{sheetWords, limitsOn, sheetLimits, wordsOk}
+use Rattle.sheet.specs.Sheet.{limitsOn, sheetLimits, wordsOk}
+use Rattle.sheet.specs.Places.{sheetWords}
 use Rattle.sheet.proofs.Held.{opens, hold-free}
 use Rattle.sheet.proofs.Most.{fitLimit}
 

@@ -6,7 +6,7 @@ use Prim.Native.Nat.{ℕ, _+_, _≤_, _<_}
 use native.Mathlib.Omega.{arith}
 use lib.ListN.{length, getD}
 use lib.Seq.{sets, take-all, length-sets}
-use Rattle.sheet.specs.Sheet.{sheetWords}
+use Rattle.sheet.specs.Places.{sheetWords}
 use Rattle.memory.specs.Layout.{mostHulls, desks, hullWords, draftWords, registerWords, hullAt, draftAt, hullCount, edit, hullSheet}
 use Rattle.memory.proofs.Parts.{Outside, word-outside, word-first, part-inside}
 use Rattle.memory.proofs.Slots.{SameHull, SameDraft, OnlyIn, draft-count, draft-hulls, draft-others}

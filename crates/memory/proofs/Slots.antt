@@ -8,7 +8,7 @@ use native.Mathlib.Omega.{arith}
 use borrow.Author.Tests.{ltb-true, ltb-false}
 use lib.Dec.{ltb}
 use lib.ListN.{length, getD}
-use Rattle.sheet.specs.Sheet.{sheetWords}
+use Rattle.sheet.specs.Places.{sheetWords}
 use Rattle.memory.specs.Layout.{mostHulls, desks, hullWords, draftWords, registerWords, hullAt, draftAt, hullCount, edit, hullSheet, held, draftHull, opening, draftSheet}
 use Rattle.memory.proofs.Parts.{Outside, part-same}
 

@@ -3,7 +3,7 @@
 use Prim.Native.Nat.{ℕ, _+_, _*_}
 use mathlib.Core.List.{List}
 use lib.ListN.{getD, take, drop}
-use Rattle.sheet.specs.Sheet.{sheetWords, fittingWord}
+use Rattle.sheet.specs.Places.{sheetWords, fittingWord}
 
 abbrev pub mostHulls : ℕ
 mostHulls = 16

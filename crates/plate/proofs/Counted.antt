@@ -11,9 +11,9 @@ use types.Run.{OneOf}
 use denote.Enum.Declared as declared
 use Rattle.io.specs.Counts.{Counts}
 use Rattle.io.proofs.Counting.{counts}
-use Rattle.sheet.specs.Settled.{Settled}
-use Rattle.sheet.specs.declared.Answer.{Answer}
-use Rattle.sheet.specs.declared.Answer.the-variants.{Refused, Done, Count, Plate}
+use Rattle.answers.specs.Settled.{Settled}
+use Rattle.answers.specs.declared.Answer.{Answer}
+use Rattle.answers.specs.declared.Answer.the-variants.{Refused, Done, Count, Plate}
 use Rattle.sheet.proofs.Answer as answer
 use Rattle.printout.specs.Printed.{printed, printAnswer, printInto}
 use Rattle.printout.proofs.Printed.{mostPrinted, printed-most}

@@ -9,7 +9,7 @@ ghost use Rattle.plate.specs.Input.{bytesOf};
 use libc::STDIN_FILENO;
 use libc::STDOUT_FILENO;
 use printing::MOST_PRINTED;
-use sheet::Answer;
+use answers::Answer;
 
 // One byte more than may be judged, so that an input that is too long is seen to be so.
 const ROOM: usize = 8193;

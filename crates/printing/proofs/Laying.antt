@@ -8,17 +8,17 @@ use lib.ListN.{length, take, drop, replicate, length-append, length-drop}
 use lib.Seq.{take-all}
 use Rattle.text.specs.declared.LineRead.the-variants.{Taken, Fault}
 use Rattle.text.specs.Line.{Reads, Laid}
-use Rattle.text.proofs.Stores.{putBack, rest-part}
+use Rattle.ground.proofs.Stores.{putBack, rest-part}
 use Rattle.text.proofs.Laid.{laid-more, laid-part}
 use Rattle.sheet.specs.declared.RowsRead.the-variants.{Rows, NoRows}
 use Rattle.sheet.specs.Lines.{mostRows}
-use Rattle.sheet.specs.Sheet.{sheetWords, textWords}
+use Rattle.sheet.specs.Places.{sheetWords, textWords}
 use Rattle.sheet.specs.Reading.{readSheet}
 use Rattle.sheet.specs.Engines.{readEngines, Rowed}
 use Rattle.sheet.proofs.Written.{laid-length}
 use Rattle.sheet.proofs.Whole.{sheet-stored, sheet-count}
 use Rattle.sheet.proofs.EnginesCall.{ended-fault, ended-rows, first-powers, first-weights}
-use Rattle.plates.specs.Bounds.{Bounds}
+use Rattle.capacity.specs.Bounds.{Bounds}
 use Rattle.printout.specs.Input.{mostInput, sheetBytes}
 use Rattle.printout.specs.Printed.{inputText, platesText, rowsPrinted, printed}
 use Rattle.printout.proofs.Printed.{rows-fault, rows-plates, printed-fault, printed-rows, read-bounds}

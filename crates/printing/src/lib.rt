@@ -4,13 +4,13 @@ ghost use mathlib.Core.Bool.{true};
 ghost use Prim.Native.Nat.{_≤_};
 ghost use lib.ListN.{length};
 ghost use Rattle.text.specs.Line.{Laid};
-ghost use Rattle.sheet.specs.Settled.{Settled};
-ghost use Rattle.plates.specs.Bounds.{Bounds};
+ghost use Rattle.answers.specs.Settled.{Settled};
+ghost use Rattle.capacity.specs.Bounds.{Bounds};
 ghost use Rattle.printout.specs.Input.{sheetBytes};
 ghost use Rattle.printout.specs.Printed.{inputText, plateText, platesText, rowsPrinted, printed, printAnswer, printInto};
-use sheet::Answer;
+use answers::Answer;
 use sheet::MOST_ROWS;
-use sheet::NO_ROOM;
+use answers::NO_ROOM;
 use sheet::RowsRead;
 use sheet::TEXT_WORDS;
 use text::Limit;
@@ -111,7 +111,7 @@ fn lay_printed(input: &[u8], out: &mut [u8]) -> usize
     ensures { λ r. ⌜ Laid (printed (now (input .entry))) (now (out .entry)) 0 r (now (out .exit)) ⌝ }
 {
     if input.len() > MOST_INPUT {
-        return lay_fault(text::BROKEN_LINE, out);
+        return lay_fault(answers::BROKEN_LINE, out);
     }
     let end = sheet_bytes(input);
     let mut words = [0u32; TEXT_WORDS];

@@ -11,9 +11,9 @@ use lib.ListN.{length, take, drop, getD, length-drop, drop-of-length-le}
 use lib.Seq.{drop-cons}
 use Rattle.text.specs.Quoted.{feed}
 use Rattle.text.specs.Field.{agreed}
-use Rattle.text.proofs.Stores.{rest-part}
+use Rattle.ground.proofs.Stores.{rest-part}
 use Rattle.text.proofs.Field.{agreed-fits}
-use Rattle.plates.proofs.Power.{second-fails}
+use Rattle.ground.proofs.Booleans.{second-fails}
 use Rattle.sheet.specs.Lines.{endLine}
 use Rattle.printout.specs.Input.{sheetBytes}
 

@@ -9,13 +9,15 @@ use lib.Dec.{leb}
 use lib.ListN.{length, take, drop}
 use lib.Seq.{sets, take-at}
 use Rattle.text.specs.Line.{Laid}
-use Rattle.text.proofs.Stores.{sets-start}
-use Rattle.sheet.specs.declared.Answer.{Answer}
-use Rattle.sheet.specs.declared.Answer.the-variants.{Refused, Count}
-use Rattle.sheet.specs.Settled.{Settled}
-use Rattle.sheet.specs.Calls.{noRoom, putFirst}
-use Rattle.sheet.proofs.Calls.{one-outcome}
-use Rattle.sheet.proofs.Refused.{isRefusal, none-refused}
+use Rattle.ground.proofs.Stores.{sets-start}
+use Rattle.answers.specs.declared.Answer.{Answer}
+use Rattle.answers.specs.declared.Answer.the-variants.{Refused, Count}
+use Rattle.answers.specs.Settled.{Settled}
+use Rattle.ground.specs.Lists.{putFirst}
+use Rattle.answers.specs.Refusals.{noRoom}
+use Rattle.answers.proofs.Outcomes.{one-outcome}
+use Rattle.ground.proofs.Booleans.{false-true}
+use Rattle.answers.specs.Values.{isRefusal}
 use Rattle.sheet.proofs.Written.{laid-length}
 use Rattle.printout.specs.Printed.{printed, printAnswer, printInto}
 use Rattle.printout.proofs.Printed.{mostPrinted, printed-most}
@@ -59,7 +61,7 @@ unfolding printAnswer printInto
 print-refused t out = go (leb (length (printed t)) (length out))
   where
     go : (b : Bool) → isRefusal (cond b (Count (length (printed t))) (Refused noRoom)) ≡ true → cond b (putFirst (printed t) out) out ≡ out
-    go true e = none-refused e
+    go true e = false-true e
     go false e = refl
 
 -- two outcomes that the call's promise allows are equal

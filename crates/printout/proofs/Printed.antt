@@ -13,23 +13,24 @@ use Rattle.text.specs.declared.LineRead.the-variants.{Taken, Fault}
 use Rattle.text.specs.Quoted.{bytes}
 use Rattle.text.specs.Number.{elevenDigits, digitsOf}
 use Rattle.text.specs.Line.{numbersText, lineText}
-use Rattle.text.proofs.Number.{either, length-digits-ten}
-use Rattle.sheet.specs.declared.Answer.{Answer}
-use Rattle.sheet.specs.declared.Answer.the-variants.{Refused, Done, Count, Plate}
+use Rattle.text.proofs.Number.{length-digits-ten}
+use Rattle.ground.proofs.Booleans.{either}
+use Rattle.answers.specs.declared.Answer.{Answer}
+use Rattle.answers.specs.declared.Answer.the-variants.{Refused, Done, Count, Plate}
 use Rattle.sheet.specs.Reading.{readSheet}
 use Rattle.sheet.specs.Engines.{readEngines, powersOf, weightsOf}
 use Rattle.sheet.proofs.Words.{words-of}
 use Rattle.sheet.proofs.SheetTrip.{reads-written}
 use Rattle.sheet.proofs.Faults.{sheet-fault}
 use Rattle.sheet.proofs.EngineFaults.{engines-fault}
-use Rattle.plates.specs.Whole.{isBelow}
-use Rattle.plates.specs.PlateA.{markedA, noPower, plateA}
-use Rattle.plates.specs.PlateC.{markedC, rowsRight, noRow, liveLoad, untested, persons, plateC}
-use Rattle.plates.specs.Bounds.{Bounds}
-use Rattle.plates.proofs.Within.{within-bounds}
-use Rattle.plates.proofs.Loads.{marked-most, c-most}
-use Rattle.plates.proofs.Power.{power-most}
-use Rattle.plates.proofs.Persons.{persons-most}
+use Rattle.capacity.specs.Whole.{isBelow}
+use Rattle.capacity.specs.PlateA.{markedA, noPower, plateA}
+use Rattle.capacity.specs.PlateC.{markedC, rowsRight, noRow, liveLoad, untested, persons, plateC}
+use Rattle.capacity.specs.Bounds.{Bounds}
+use Rattle.capacity.proofs.Within.{within-bounds}
+use Rattle.capacity.proofs.Loads.{marked-most, c-most}
+use Rattle.capacity.proofs.Power.{power-most}
+use Rattle.capacity.proofs.Persons.{persons-most}
 use Rattle.printout.specs.Input.{mostInput, sheetPart, enginePart}
 use Rattle.printout.specs.Printed.{figures, inputText, plateText, platesText, rowsPrinted, printed}
 

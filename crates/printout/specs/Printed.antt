@@ -9,14 +9,15 @@ use lib.ListN.{length, drop, replicate}
 use Rattle.text.specs.declared.LineRead.the-variants.{Taken, Fault}
 use Rattle.text.specs.Quoted.{bytes}
 use Rattle.text.specs.Limit.{ranging}
-use Rattle.text.specs.Line.{Line, brokenLine, lineText}
-use Rattle.sheet.specs.declared.Answer.{Answer}
-use Rattle.sheet.specs.declared.Answer.the-variants.{Refused, Done, Count, Plate}
+use Rattle.text.specs.Line.{Line, lineText}
+use Rattle.answers.specs.Refusals.{brokenLine, noRoom}
+use Rattle.answers.specs.declared.Answer.{Answer}
+use Rattle.answers.specs.declared.Answer.the-variants.{Refused, Done, Count, Plate}
 use Rattle.sheet.specs.Reading.{readSheet}
 use Rattle.sheet.specs.Engines.{readEngines, powersOf, weightsOf}
-use Rattle.sheet.specs.Calls.{noRoom, putFirst}
-use Rattle.plates.specs.PlateA.{plateA}
-use Rattle.plates.specs.PlateC.{plateC}
+use Rattle.ground.specs.Lists.{putFirst}
+use Rattle.capacity.specs.PlateA.{plateA}
+use Rattle.capacity.specs.PlateC.{plateC}
 use Rattle.printout.specs.Input.{mostInput, sheetPart, enginePart}
 
 -- a line of so many figures after its tag; a figure is any number of 32 bits

@@ -9,7 +9,7 @@ use lib.Seq.{sets, length-sets, drop-drop}
 use Rattle.text.specs.declared.LineRead.{LineRead}
 use Rattle.text.specs.declared.LineRead.the-variants.{Taken, Fault}
 use Rattle.text.specs.Line.{Reading, Reads, nothing, refused, after, readLine}
-use Rattle.text.proofs.Stores.{rest-part, sets-snoc}
+use Rattle.ground.proofs.Stores.{rest-part, sets-snoc}
 use Rattle.text.proofs.Reading.{after-nothing, after-after}
 use Rattle.text.proofs.Line.{extent, line-extent}
 use Rattle.sheet.specs.declared.RowsRead.the-variants.{Rows, NoRows}

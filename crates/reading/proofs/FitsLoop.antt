@@ -12,7 +12,7 @@ use Rattle.text.specs.declared.LineRead.{LineRead}
 use Rattle.text.specs.declared.LineRead.the-variants.{Taken, Fault}
 use Rattle.text.specs.Field.{begins}
 use Rattle.text.specs.Line.{Reading, Reads, refused, after, readLine}
-use Rattle.text.proofs.Stores.{rest-part, sets-snoc, zeros-stored}
+use Rattle.ground.proofs.Stores.{rest-part, sets-snoc, zeros-stored}
 use Rattle.text.proofs.Reading.{after-nothing, after-after}
 use Rattle.text.proofs.Line.{extent, line-extent}
 use Rattle.sheet.specs.Lines.{fittings, fitLine}

@@ -10,12 +10,13 @@ use lib.Seq.{sets, length-sets, drop-drop, take-suc}
 use Rattle.text.specs.declared.LineRead.{LineRead}
 use Rattle.text.specs.declared.LineRead.the-variants.{Taken, Fault}
 use Rattle.text.specs.Line.{Line, Reading, Reads, nothing, shiftBy, after, followed, readLine}
-use Rattle.text.proofs.Stores.{putBack, rest-part, part-sets, sets-append}
+use Rattle.ground.proofs.Stores.{putBack, rest-part, part-sets, sets-append}
 use Rattle.text.proofs.Reading.{after-nothing, after-after}
 use Rattle.text.proofs.Line.{line-extent}
 use Rattle.text.proofs.Followed.{followed-taken, followed-fault}
 use Rattle.sheet.specs.Lines.{lines, endLine}
-use Rattle.sheet.specs.Sheet.{textWords, limitsOn}
+use Rattle.sheet.specs.Sheet.{limitsOn}
+use Rattle.sheet.specs.Places.{textWords}
 use Rattle.sheet.specs.Reading.{readLines}
 use Rattle.sheet.proofs.Lines.{lines-count}
 use Rattle.reading.specs.Steps.{reached, ReadsOn}

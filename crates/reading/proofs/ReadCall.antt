@@ -7,14 +7,14 @@ use lib.ListN.{length, take, drop, replicate, length-drop}
 use Rattle.text.specs.declared.LineRead.{LineRead}
 use Rattle.text.specs.declared.LineRead.the-variants.{Taken, Fault}
 use Rattle.text.specs.Line.{Reads, shiftBy}
-use Rattle.text.proofs.Stores.{putBack, rest-part}
+use Rattle.ground.proofs.Stores.{putBack, rest-part}
 use Rattle.text.proofs.Line.{extent}
 use Rattle.text.proofs.Followed.{reads-last, reads-fault, reads-more}
-use Rattle.sheet.specs.declared.Answer.the-variants.{Refused, Done}
-use Rattle.sheet.specs.Settled.{Settled}
+use Rattle.answers.specs.declared.Answer.the-variants.{Refused, Done}
+use Rattle.answers.specs.Settled.{Settled}
 use Rattle.sheet.specs.Calls.{readAnswer, readInto}
 use Rattle.sheet.specs.Lines.{lines, fittings, mostBytes}
-use Rattle.sheet.specs.Sheet.{textWords}
+use Rattle.sheet.specs.Places.{textWords}
 use Rattle.sheet.specs.Reading.{readLines, readFits, readEnd, readRest, readSheet}
 use Rattle.sheet.proofs.Lines.{lines-extent}
 use Rattle.sheet.proofs.Fits.{fits-extent}

@@ -7,7 +7,7 @@ use lib.Seq.{sets}
 use Rattle.text.specs.declared.LineRead.{LineRead}
 use Rattle.text.specs.declared.LineRead.the-variants.{Taken, Fault}
 use Rattle.text.specs.Line.{Line, Reading, followed, readLine}
-use Rattle.sheet.specs.Sheet.{textWords}
+use Rattle.sheet.specs.Places.{textWords}
 
 -- the place in the text that was reached
 abbrev pub reached : LineRead → ℕ

@@ -3,14 +3,16 @@ ghost use mathlib.Core.Path.{_≡_};
 ghost use Prim.Native.Nat.{_-_, _≤_};
 ghost use lib.ListN.{length, take, drop, replicate};
 ghost use Rattle.text.specs.Line.{Reads, lineOf};
-ghost use Rattle.sheet.specs.Settled.{Settled};
+ghost use Rattle.answers.specs.Settled.{Settled};
 ghost use Rattle.sheet.specs.Lines.{lines, fittings, mostRows};
-ghost use Rattle.sheet.specs.Sheet.{textWords, limitRows};
+ghost use Rattle.sheet.specs.Sheet.{limitRows};
+ghost use Rattle.sheet.specs.Places.{textWords};
 ghost use Rattle.sheet.specs.Reading.{readLines, readFits, readEnd, readRest, readSheet};
 ghost use Rattle.sheet.specs.Engines.{readRows, readEngines, Rowed};
-ghost use Rattle.sheet.specs.Calls.{readAnswer, readInto, putFirst, enginesAnswer, columnsInto};
+ghost use Rattle.sheet.specs.Calls.{readAnswer, readInto, enginesAnswer, columnsInto};
+ghost use Rattle.ground.specs.Lists.{putFirst};
 ghost use Rattle.reading.specs.Steps.{reached, ReadsOn};
-use sheet::Answer;
+use answers::Answer;
 use sheet::ENGINE_POWER_HIGH;
 use sheet::ENGINE_WEIGHT_HIGH;
 use sheet::FITTING_HIGH;
@@ -19,7 +21,7 @@ use sheet::FITTINGS;
 use sheet::LIMITS;
 use sheet::LINE_WORDS;
 use sheet::MOST_ROWS;
-use sheet::NO_ROOM;
+use answers::NO_ROOM;
 use sheet::RowsRead;
 use sheet::TEXT_WORDS;
 use text::Limit;
@@ -110,10 +112,10 @@ fn read_end(text: &[u8]) -> LineRead
 {
     let same = spelling::agreement(b"END\n", text);
     if same < 4 {
-        return LineRead::Fault(text::BROKEN_LINE, same);
+        return LineRead::Fault(answers::BROKEN_LINE, same);
     }
     if text.len() > 4 {
-        return LineRead::Fault(text::BROKEN_LINE, 4);
+        return LineRead::Fault(answers::BROKEN_LINE, 4);
     }
     LineRead::Taken(4)
 }
@@ -138,7 +140,7 @@ pub fn read_words(text: &[u8], words: &mut [u32]) -> LineRead
     ensures { λ r. ⌜ Reads (readSheet (now (text .entry))) (now (words .entry)) r (now (words .exit)) ⌝ }
 {
     if text.len() > MOST_BYTES {
-        return LineRead::Fault(text::BROKEN_LINE, 0);
+        return LineRead::Fault(answers::BROKEN_LINE, 0);
     }
     match read_lines(&LIMITS, text, words) {
         LineRead::Fault(refusal, place) => LineRead::Fault(refusal, place),
@@ -195,7 +197,7 @@ fn read_rows(text: &[u8], powers: &mut [u32], weights: &mut [u32]) -> RowsRead
             }
         }
     }
-    RowsRead::NoRows(text::BROKEN_LINE, at)
+    RowsRead::NoRows(answers::BROKEN_LINE, at)
 }
 
 // Reads engine rows from a text of at most 4,096 bytes into room for as many as there may be.
@@ -204,21 +206,9 @@ pub fn read_columns(text: &[u8], powers: &mut [u32], weights: &mut [u32]) -> Row
     ensures { λ r. ⌜ Rowed (readEngines (now (text .entry))) (now (powers .entry)) (now (weights .entry)) r (now (powers .exit)) (now (weights .exit)) ⌝ }
 {
     if text.len() > MOST_BYTES {
-        return RowsRead::NoRows(text::BROKEN_LINE, 0);
+        return RowsRead::NoRows(answers::BROKEN_LINE, 0);
     }
     read_rows(text, powers, weights)
-}
-
-// Lays numbers at the start of out, which has room for them.
-pub fn copy_numbers(numbers: &[u32], out: &mut [u32])
-    requires { ⌜ length (now numbers) ≤ length (now out) ⌝ }
-    ensures { λ r. ⌜ now (out .exit) ≡ putFirst (now (numbers .entry)) (now (out .entry)) ⌝ }
-{
-    let mut i = 0;
-    while i < numbers.len() {
-        out[i] = numbers[i];
-        i += 1;
-    }
 }
 
 // Reads engine rows from a text of at most 4,096 bytes into two lent slices and answers how many there are. A refusal, 2 or 3, or 16 where
@@ -237,8 +227,8 @@ pub fn read_engines(text: &[u8], powers: &mut [u32], weights: &mut [u32]) -> Ans
             if weights.len() < rows {
                 return Answer::Refused(NO_ROOM);
             }
-            copy_numbers(&read_powers[..rows], powers);
-            copy_numbers(&read_weights[..rows], weights);
+            ground::copy_numbers(&read_powers[..rows], powers);
+            ground::copy_numbers(&read_weights[..rows], weights);
             Answer::Count(rows as u32)
         }
     }

@@ -9,11 +9,13 @@ use lib.Dec.{eqb}
 use lib.ListN.{length}
 use Rattle.text.specs.declared.LineRead.{LineRead}
 use Rattle.text.specs.declared.LineRead.the-variants.{Taken, Fault}
-use Rattle.sheet.specs.declared.Answer.{Answer}
-use Rattle.sheet.specs.declared.Answer.the-variants.{Refused, Done, Count}
+use Rattle.answers.specs.declared.Answer.{Answer}
+use Rattle.answers.specs.declared.Answer.the-variants.{Refused, Done, Count}
 use Rattle.sheet.specs.Reading.{readSheet}
 use Rattle.sheet.specs.Calls.{writeAnswer}
-use Rattle.sheet.proofs.Refused.{isRefusal, none-refused, write-refused}
+use Rattle.sheet.proofs.Refused.{write-refused}
+use Rattle.ground.proofs.Booleans.{false-true}
+use Rattle.answers.specs.Values.{isRefusal}
 use Rattle.memory.specs.Layout.{registerWords, hullCount, edit, draftHull}
 use Rattle.memory.specs.Updates.{freshWords, entered, opened, fitted, replaced, dropped, saved}
 use Rattle.memory.proofs.Sound.{sound}
@@ -43,32 +45,32 @@ kept-text t a x m f = go (readSheet t .ended)
     go (Fault number at) e = refl
 
 pub fresh-refused : (m : List ℕ) → isRefusal (freshAnswer m) ≡ true → freshMemory m ≡ m
-fresh-refused m e = kept-refused (freshRefusal m) Done freshWords m none-refused e
+fresh-refused m e = kept-refused (freshRefusal m) Done freshWords m false-true e
 
 pub new-refused : (m t : List ℕ) → isRefusal (newAnswer m t) ≡ true → newMemory m t ≡ m
 new-refused m t e = kept-refused (roomRefusal m) (onText t (Count (hullCount m)) Refused) _ m (kept-text t (Count (hullCount m)) _ m refl) e
 
 pub open-refused : (m : List ℕ) (d h : ℕ) → isRefusal (openAnswer m d h) ≡ true → openMemory m d h ≡ m
-open-refused m d h e = kept-refused (openRefusal m d h) (Count (edit m h)) _ m none-refused e
+open-refused m d h e = kept-refused (openRefusal m d h) (Count (edit m h)) _ m false-true e
 
 pub put-refused : (m : List ℕ) (d line w : ℕ) → isRefusal (putAnswer m d line w) ≡ true → putMemory m d line w ≡ m
-put-refused m d line w e = kept-refused (putRefusal m d line w) Done _ m none-refused e
+put-refused m d line w e = kept-refused (putRefusal m d line w) Done _ m false-true e
 
 pub take-refused : (m : List ℕ) (d line : ℕ) → isRefusal (takeAnswer m d line) ≡ true → takeMemory m d line ≡ m
-take-refused m d line e = kept-refused (takeRefusal m d line) Done _ m none-refused e
+take-refused m d line e = kept-refused (takeRefusal m d line) Done _ m false-true e
 
 pub replace-refused : (m : List ℕ) (d : ℕ) (t : List ℕ) → isRefusal (replaceAnswer m d t) ≡ true → replaceMemory m d t ≡ m
 replace-refused m d t e = kept-refused (deskRefusal m d) (onText t Done Refused) _ m (kept-text t Done _ m refl) e
 
 pub save-refused : (m : List ℕ) (d : ℕ) → isRefusal (saveAnswer m d) ≡ true → saveMemory m d ≡ m
-save-refused m d e = kept-refused (saveRefusal m d) (Count (edit m (draftHull m d) + 1)) _ m none-refused e
+save-refused m d e = kept-refused (saveRefusal m d) (Count (edit m (draftHull m d) + 1)) _ m false-true e
 
 -- the lent output of a hull that is written
 pub written-refused : (m : List ℕ) (h : ℕ) (out : List ℕ) → isRefusal (hullWritten m h (length out)) ≡ true → hullWrittenInto m h out ≡ out
 written-refused m h out e = kept-refused (hullRefusal m h) (writeAnswer _ (length out)) _ out (write-refused _ out) e
 
 pub drop-refused : (m : List ℕ) (d : ℕ) → isRefusal (dropAnswer m d) ≡ true → dropMemory m d ≡ m
-drop-refused m d e = kept-refused (deskRefusal m d) Done _ m none-refused e
+drop-refused m d e = kept-refused (deskRefusal m d) Done _ m false-true e
 
 -- fresh start is refused for a wrong size, and for nothing else
 pub fresh-wrong-size : (m : List ℕ) → (length m ≡ registerWords → ⊥) → freshAnswer m ≡ Refused 1

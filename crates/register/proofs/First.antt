@@ -8,13 +8,13 @@ use native.Mathlib.Omega.{arith}
 use borrow.Author.Tests.{ltb-true, ne-eqb}
 use lib.Dec.{eqb, leb, ltb}
 use lib.ListN.{length}
-use Rattle.text.specs.Line.{outsideLimits}
-use Rattle.sheet.specs.declared.Answer.{Answer}
-use Rattle.sheet.specs.declared.Answer.the-variants.{Refused, Done, Count, Plate}
+use Rattle.answers.specs.Refusals.{outsideLimits, noRoom}
+use Rattle.answers.specs.declared.Answer.{Answer}
+use Rattle.answers.specs.declared.Answer.the-variants.{Refused, Done, Count, Plate}
 use Rattle.sheet.specs.Sheet.{sheetOk, sheetText}
-use Rattle.sheet.specs.Calls.{noRoom, writeAnswer}
+use Rattle.sheet.specs.Calls.{writeAnswer}
 use Rattle.sheet.proofs.Words.{numbered}
-use Rattle.plates.specs.Kinds.{PlateKind}
+use Rattle.capacity.specs.Kinds.{PlateKind}
 use Rattle.memory.specs.Layout.{hullCount, hullSheet}
 use Rattle.memory.specs.Formed.{formed}
 use Rattle.memory.proofs.Sound.{sound}

@@ -9,16 +9,17 @@ use lib.Dec.{eqb, leb, ltb}
 use lib.ListN.{getD, length}
 use Rattle.text.specs.declared.LineRead.{LineRead}
 use Rattle.text.specs.declared.LineRead.the-variants.{Taken, Fault}
-use Rattle.text.proofs.Number.{either}
-use Rattle.sheet.specs.declared.Answer.{Answer}
-use Rattle.sheet.specs.declared.Answer.the-variants.{Refused, Done, Count}
+use Rattle.ground.proofs.Booleans.{either}
+use Rattle.answers.specs.declared.Answer.{Answer}
+use Rattle.answers.specs.declared.Answer.the-variants.{Refused, Done, Count}
 use Rattle.sheet.specs.Lines.{fittings, fittingHigh}
 use Rattle.sheet.specs.Reading.{readSheet}
 use Rattle.sheet.specs.Calls.{writeAnswer}
 use Rattle.sheet.proofs.Faults.{sheet-fault}
-use Rattle.sheet.proofs.Listed.{OfList, text-listed, write-listed}
-use Rattle.plates.specs.Kinds.{PlateKind, plateOf}
-use Rattle.plates.proofs.Answers.{plate-listed}
+use Rattle.sheet.proofs.Listed.{write-listed}
+use Rattle.answers.proofs.Outcomes.{OfList, text-listed}
+use Rattle.capacity.specs.Kinds.{PlateKind, plateOf}
+use Rattle.capacity.proofs.Answers.{plate-listed}
 use Rattle.memory.specs.Layout.{mostHulls, desks, registerWords, hullCount, edit, hullSheet, held, draftHull, opening, draftSheet, fittingAt}
 use Rattle.memory.specs.Formed.{mostEdits, formed}
 use Rattle.register.specs.Refusals.{hullRefusal, deskRefusal, orNext, orRefused, onText}

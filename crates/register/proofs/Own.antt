@@ -7,7 +7,7 @@ use native.Mathlib.Omega.{arith}
 use borrow.Author.Tests.{ltb-true, eqb-true, eqb-false, leb-true, lt-ltb, le-ltb, le-leb, lt-leb, eq-eqb, ne-eqb}
 use lib.Dec.{eqb, leb, ltb}
 use lib.ListN.{getD}
-use Rattle.text.proofs.Number.{both-hold}
+use Rattle.ground.proofs.Booleans.{both-hold}
 use Rattle.sheet.specs.Lines.{fittings, fittingHigh}
 use Rattle.memory.specs.Layout.{desks, hullCount, edit, draftHull, opening, fittingAt}
 use Rattle.memory.specs.Formed.{mostEdits, formed}

@@ -4,10 +4,10 @@ use mathlib.Core.Bool.{_&&_, cond}
 use mathlib.Core.List.{List}
 use lib.Dec.{eqb, leb, ltb}
 use lib.ListN.{getD}
-use Rattle.sheet.specs.declared.Answer.{Answer}
-use Rattle.sheet.specs.declared.Answer.the-variants.{Refused, Done, Count}
+use Rattle.answers.specs.declared.Answer.{Answer}
+use Rattle.answers.specs.declared.Answer.the-variants.{Refused, Done, Count}
 use Rattle.sheet.specs.Lines.{fittings, fittingHigh}
-use Rattle.plates.specs.Kinds.{PlateKind, plateOf}
+use Rattle.capacity.specs.Kinds.{PlateKind, plateOf}
 use Rattle.memory.specs.Layout.{desks, hullCount, edit, draftHull, opening, draftSheet, fittingAt}
 use Rattle.memory.specs.Formed.{mostEdits, formed}
 use Rattle.memory.specs.Updates.{opened, fitted, replaced, dropped, saved}

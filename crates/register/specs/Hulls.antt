@@ -4,10 +4,10 @@ use mathlib.Core.Bool.{cond}
 use mathlib.Core.List.{List, _∷_}
 use lib.Dec.{eqb, ltb}
 use lib.ListN.{length}
-use Rattle.sheet.specs.declared.Answer.{Answer}
-use Rattle.sheet.specs.declared.Answer.the-variants.{Refused, Done, Count}
+use Rattle.answers.specs.declared.Answer.{Answer}
+use Rattle.answers.specs.declared.Answer.the-variants.{Refused, Done, Count}
 use Rattle.sheet.specs.Calls.{writeAnswer, writeInto}
-use Rattle.plates.specs.Kinds.{PlateKind, plateOf}
+use Rattle.capacity.specs.Kinds.{PlateKind, plateOf}
 use Rattle.memory.specs.Layout.{mostHulls, registerWords, hullCount, hullSheet}
 use Rattle.memory.specs.Formed.{formed}
 use Rattle.memory.specs.Updates.{freshWords, entered}

@@ -7,8 +7,8 @@ use mathlib.Core.List.{List}
 use lib.Dec.{eqb, ltb}
 use lib.ListN.{drop}
 use Rattle.text.specs.declared.LineRead.the-variants.{Taken, Fault}
-use Rattle.sheet.specs.declared.Answer.{Answer}
-use Rattle.sheet.specs.declared.Answer.the-variants.{Refused}
+use Rattle.answers.specs.declared.Answer.{Answer}
+use Rattle.answers.specs.declared.Answer.the-variants.{Refused}
 use Rattle.sheet.specs.Reading.{readSheet}
 use Rattle.memory.specs.Layout.{desks, hullCount, held}
 use Rattle.memory.specs.Formed.{formed}

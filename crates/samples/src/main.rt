@@ -5,7 +5,7 @@ ghost use lib.ListN.{length};
 ghost use Rattle.io.specs.Counts.{Counts};
 use libc::STDOUT_FILENO;
 use printing::MOST_PRINTED;
-use sheet::Answer;
+use answers::Answer;
 
 // Lays piece in page from a place on, if there is room for it, and answers the place after it.
 fn add(piece: &[u8], page: &mut [u8], at: usize) -> usize

@@ -9,8 +9,8 @@ use Rattle.text.specs.Field.{fieldOf, agreed}
 use Rattle.text.specs.Number.{restOf, numberOf, digitsIn, digitsOf}
 use Rattle.text.specs.Limit.{allHold}
 use Rattle.text.specs.Line.{readEntry, readNumbers, readLine, numbersText}
-use Rattle.sheet.specs.declared.Answer.{Answer}
-use Rattle.sheet.specs.declared.Answer.the-variants.{Refused, Done, Count}
+use Rattle.answers.specs.declared.Answer.{Answer}
+use Rattle.answers.specs.declared.Answer.the-variants.{Refused, Done, Count}
 use Rattle.sheet.specs.Sheet.{limitsOn, sheetLimits, fitText, fitsText, linesText, sheetText}
 use Rattle.sheet.specs.Engines.{readRows, readEngines}
 use Rattle.sheet.specs.Calls.{readAnswer, writeAnswer, enginesAnswer}

@@ -9,16 +9,12 @@ use lib.ListN.{length, take, drop}
 use lib.Seq.{take-append-seam}
 use Rattle.text.specs.declared.LineRead.{LineRead}
 use Rattle.text.specs.declared.LineRead.the-variants.{Taken, Fault}
-use Rattle.sheet.specs.declared.Answer.the-variants.{Done, Count}
-use Rattle.sheet.specs.Settled.{Settled}
+use Rattle.answers.specs.declared.Answer.the-variants.{Done, Count}
+use Rattle.answers.specs.Settled.{Settled}
 use Rattle.sheet.specs.Sheet.{sheetOk, sheetText}
 use Rattle.sheet.specs.Reading.{readSheet}
 use Rattle.sheet.specs.Calls.{readAnswer, readInto, writeAnswer, writeInto}
 use Rattle.sheet.proofs.SheetTrip as trip
-
--- two outcomes that a promise allows are equal
-pub one-outcome : {A B : Type 0} {answer r q : A} {buffers x y : B} → Settled answer buffers r x → Settled answer buffers q y → (r ≡ q) × (x ≡ y)
-one-outcome p q = (p .answered ∙ sym (q .answered), p .kept ∙ sym (q .kept))
 
 -- a sheet was written: the call answered how many bytes its text has, and those bytes are the text
 pub record Wrote (s out : List ℕ) : Type 0 where

@@ -8,7 +8,7 @@ use lib.ListN.{length, drop, getD}
 use Rattle.text.specs.declared.LineRead.{LineRead}
 use Rattle.text.specs.declared.LineRead.the-variants.{Taken, Fault}
 use Rattle.text.specs.Line.{Reading, readLine}
-use Rattle.text.proofs.Number.{either}
+use Rattle.ground.proofs.Booleans.{either}
 use Rattle.sheet.specs.Lines.{engineLine, mostRows, mostBytes}
 use Rattle.sheet.specs.Engines.{orStop, onRow, readRows, readEngines}
 use Rattle.sheet.proofs.Faults.{Textual, shifted, line-textual, two-or-three}

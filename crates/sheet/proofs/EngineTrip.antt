@@ -12,7 +12,7 @@ use Rattle.text.specs.declared.LineRead.the-variants.{Taken, Fault}
 use Rattle.text.specs.Number.{digitsIn, digitsOf}
 use Rattle.text.specs.Limit.{allHold}
 use Rattle.text.specs.Line.{Reading, readLine, numbersText, lineText}
-use Rattle.text.proofs.Number.{both-hold}
+use Rattle.ground.proofs.Booleans.{both-hold}
 use Rattle.text.proofs.Led.{Led}
 use Rattle.text.proofs.EntryTrip.{narrow}
 use Rattle.text.proofs.LineTrip.{got, line-forth, line-back}

@@ -11,15 +11,16 @@ use lib.Seq.{length-sets, length-take-le, take-at}
 use Rattle.text.specs.declared.LineRead.{LineRead}
 use Rattle.text.specs.declared.LineRead.the-variants.{Taken, Fault}
 use Rattle.text.specs.Line.{Reading, refused}
-use Rattle.text.proofs.Stores.{sets-start}
+use Rattle.ground.proofs.Stores.{sets-start}
 use Rattle.sheet.specs.declared.RowsRead.{RowsRead}
 use Rattle.sheet.specs.declared.RowsRead.the-variants.{Rows, NoRows}
 use Rattle.sheet.specs.Lines.{mostRows, mostBytes}
 use Rattle.sheet.specs.Engines.{readRows, readEngines, powersOf, weightsOf, rowsEnded, Rowed}
-use Rattle.sheet.specs.declared.Answer.{Answer}
-use Rattle.sheet.specs.declared.Answer.the-variants.{Refused, Count}
-use Rattle.sheet.specs.Settled.{Settled}
-use Rattle.sheet.specs.Calls.{putFirst, rowsFit, enginesAnswer, columnsInto}
+use Rattle.answers.specs.declared.Answer.{Answer}
+use Rattle.answers.specs.declared.Answer.the-variants.{Refused, Count}
+use Rattle.answers.specs.Settled.{Settled}
+use Rattle.sheet.specs.Calls.{rowsFit, enginesAnswer, columnsInto}
+use Rattle.ground.specs.Lists.{putFirst}
 use Rattle.sheet.proofs.Engines.{Counted, columns-even, rows-counted}
 
 -- ---- by the text's length

@@ -18,7 +18,7 @@ use Rattle.text.specs.Field.{fieldOf, begins, agreed}
 use Rattle.text.specs.Number.{numberOf}
 use Rattle.text.specs.Limit.{Limit, orNone, within}
 use Rattle.text.specs.Line.{Line, Reading, shiftBy, followed, onEntry, judged, ender, readEntry, readNumbers, readLine}
-use Rattle.text.proofs.Number.{either}
+use Rattle.ground.proofs.Booleans.{either}
 use Rattle.text.proofs.Line.{line-tagged, line-untagged}
 use Rattle.sheet.specs.Lines.{lines, fittings, fitLine, endLine, mostBytes}
 use Rattle.sheet.specs.Reading.{fitByte, onFit, readLines, readFits, readStop, readEnd, readRest, readSheet}

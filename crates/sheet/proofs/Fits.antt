@@ -12,7 +12,7 @@ use Rattle.text.specs.declared.LineRead.the-variants.{Taken, Fault}
 use Rattle.text.specs.Field.{begins}
 use Rattle.text.specs.Limit.{ranging, holds, allHold}
 use Rattle.text.specs.Line.{Reading, refused, after, readLine}
-use Rattle.text.proofs.Number.{both-hold}
+use Rattle.ground.proofs.Booleans.{both-hold}
 use Rattle.text.proofs.Line.{extent, line-extent, extent-shift}
 use Rattle.text.proofs.Followed.{shift-taken}
 use Rattle.text.proofs.LineTrip.{line-back}

@@ -13,7 +13,7 @@ use Rattle.text.specs.declared.LineRead.the-variants.{Taken, Fault}
 use Rattle.text.specs.Field.{begins, agreed}
 use Rattle.text.specs.Limit.{Limit, ranging, holds, allHold}
 use Rattle.text.specs.Line.{Reading, readNumbers, readLine, numbersText, lineText}
-use Rattle.text.proofs.Number.{both-hold}
+use Rattle.ground.proofs.Booleans.{both-hold}
 use Rattle.text.proofs.Field.{agreed-whole}
 use Rattle.text.proofs.Line.{line-untagged}
 use Rattle.text.proofs.Followed.{followed-parts}

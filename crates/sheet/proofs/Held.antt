@@ -8,7 +8,7 @@ use lib.Dec.{eqb}
 use lib.ListN.{length, take, drop}
 use Rattle.text.specs.Limit.{Limit, capped, holds, allHold}
 use Rattle.text.specs.Line.{Line}
-use Rattle.text.proofs.Number.{both-hold}
+use Rattle.ground.proofs.Booleans.{both-hold, not-false}
 use Rattle.sheet.specs.Sheet.{limitsOn}
 
 -- ---- limits that do not look back
@@ -23,10 +23,6 @@ linesOpen (l ∷ ls) = opens (l .limits) && linesOpen ls
 
 holds-free : (l : Limit) (a b n : ℕ) → eqb (l .rule) capped ≡ false → holds l a n ≡ holds l b n
 holds-free l a b n e = rw e
-
-not-false : (b : Bool) → not b ≡ true → b ≡ false
-not-false false e = refl
-not-false true e = absurd (true≢false (sym e))
 
 pub hold-free : (ls : List Limit) (a b : ℕ) (ns : List ℕ) → opens ls ≡ true → allHold ls a ns ≡ allHold ls b ns
 unfolding opens allHold

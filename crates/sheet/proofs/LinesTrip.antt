@@ -9,7 +9,7 @@ use lib.Seq.{take-add, drop-append-seam, drop-at, take-at}
 use Rattle.text.specs.declared.LineRead.the-variants.{Taken}
 use Rattle.text.specs.Limit.{Limit, allHold}
 use Rattle.text.specs.Line.{Line, Reading, followed, readLine, lineText}
-use Rattle.text.proofs.Number.{both-hold}
+use Rattle.ground.proofs.Booleans.{both-hold}
 use Rattle.text.proofs.Limit.{hold-length}
 use Rattle.text.proofs.Followed.{followed-parts}
 use Rattle.text.proofs.Writing.{numbers-take}

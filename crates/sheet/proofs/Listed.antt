@@ -6,31 +6,19 @@ use mathlib.Core.List.{List}
 use Prim.Native.Nat.{ℕ}
 use lib.Dec.{leb}
 use lib.ListN.{length}
+use Rattle.answers.proofs.Outcomes.{OfList, text-listed}
 use Rattle.text.specs.declared.LineRead.{LineRead}
 use Rattle.text.specs.declared.LineRead.the-variants.{Taken, Fault}
-use Rattle.text.proofs.Number.{either}
-use Rattle.sheet.specs.declared.Answer.{Answer}
-use Rattle.sheet.specs.declared.Answer.the-variants.{Refused, Done, Count, Plate}
+use Rattle.ground.proofs.Booleans.{either}
+use Rattle.answers.specs.declared.Answer.{Answer}
+use Rattle.answers.specs.declared.Answer.the-variants.{Refused, Done, Count, Plate}
 use Rattle.sheet.specs.Sheet.{sheetOk, sheetText}
 use Rattle.sheet.specs.Reading.{readSheet}
 use Rattle.sheet.specs.Engines.{powersOf, readEngines}
-use Rattle.sheet.specs.Calls.{noRoom, readAnswer, writeAnswer, rowsFit, enginesAnswer}
+use Rattle.sheet.specs.Calls.{readAnswer, writeAnswer, rowsFit, enginesAnswer}
+use Rattle.answers.specs.Refusals.{noRoom}
 use Rattle.sheet.proofs.Faults.{sheet-fault}
 use Rattle.sheet.proofs.EngineFaults.{engines-fault}
-
--- whether an answer, if it is a refusal, is by a number of the list
-abbrev pub isListed : Answer → Bool
-isListed (Refused number) = leb 1 number && leb number 17
-isListed Done = true
-isListed (Count n) = true
-isListed (Plate a b) = true
-
-abbrev pub OfList : Answer → Type 0
-OfList a = isListed a ≡ true
-
-pub text-listed : {number : ℕ} → (number ≡ 2) ⊎ (number ≡ 3) → OfList (Refused number)
-text-listed (inl e) = rw e refl
-text-listed (inr e) = rw e refl
 
 pub read-listed : (t : List ℕ) → OfList (readAnswer (readSheet t .ended))
 read-listed t = go (readSheet t .ended) refl

@@ -11,7 +11,8 @@ use Rattle.text.specs.Quoted.{dash}
 use Rattle.text.specs.Number.{digitsIn, digitsOf}
 use Rattle.text.specs.Limit.{Limit, rangingOrNone, isNone, holds, allHold}
 use Rattle.text.specs.Line.{Line, ender, entryText, numbersText, lineText}
-use Rattle.text.proofs.Number.{both-hold, length-digits-mono}
+use Rattle.text.proofs.Number.{length-digits-mono}
+use Rattle.ground.proofs.Booleans.{both-hold}
 use Rattle.text.proofs.Limit.{within-high}
 use Rattle.text.proofs.Writing.{numbers-take}
 use Rattle.text.proofs.EntryTrip.{holds-within}

@@ -5,38 +5,31 @@ use mathlib.Core.List.{List}
 use Prim.Native.Nat.{ℕ}
 use lib.Dec.{leb}
 use lib.ListN.{length}
+use Rattle.ground.proofs.Booleans.{false-true}
+use Rattle.answers.specs.Values.{isRefusal}
 use Rattle.text.specs.declared.LineRead.{LineRead}
 use Rattle.text.specs.declared.LineRead.the-variants.{Taken, Fault}
-use Rattle.text.specs.Line.{outsideLimits}
-use Rattle.sheet.specs.declared.Answer.{Answer}
-use Rattle.sheet.specs.declared.Answer.the-variants.{Refused, Done, Count, Plate}
+use Rattle.answers.specs.Refusals.{outsideLimits, noRoom}
+use Rattle.answers.specs.declared.Answer.{Answer}
+use Rattle.answers.specs.declared.Answer.the-variants.{Refused, Done, Count, Plate}
 use Rattle.sheet.specs.Sheet.{sheetOk, sheetText}
 use Rattle.sheet.specs.Reading.{readSheet}
 use Rattle.sheet.specs.Engines.{readEngines, powersOf, weightsOf}
-use Rattle.sheet.specs.Calls.{noRoom, putFirst, readAnswer, readInto, writeAnswer, writeInto, rowsFit, enginesAnswer, columnsInto}
-
--- an answer that is a refusal
-abbrev pub isRefusal : Answer → Bool
-isRefusal (Refused n) = true
-isRefusal Done = false
-isRefusal (Count n) = false
-isRefusal (Plate a b) = false
-
-pub none-refused : {A : Type 0} → false ≡ true → A
-none-refused e = absurd (true≢false (sym e))
+use Rattle.sheet.specs.Calls.{readAnswer, readInto, writeAnswer, writeInto, rowsFit, enginesAnswer, columnsInto}
+use Rattle.ground.specs.Lists.{putFirst}
 
 pub read-refused : (t before : List ℕ) → isRefusal (readAnswer (readSheet t .ended)) ≡ true → readInto (readSheet t) before ≡ before
 read-refused t before = go (readSheet t .ended)
   where
     go : (r : LineRead) → isRefusal (readAnswer r) ≡ true → elim r [ Taken k ↦ readSheet t .numbers | Fault number at ↦ before ] ≡ before
-    go (Taken k) e = none-refused e
+    go (Taken k) e = false-true e
     go (Fault number at) e = refl
 
 pub write-refused : (s out : List ℕ) → isRefusal (writeAnswer s (length out)) ≡ true → writeInto s out ≡ out
 write-refused s out = go (sheetOk s) (leb (length (sheetText s)) (length out))
   where
     go : (a b : Bool) → isRefusal (cond a (cond b (Count (length (sheetText s))) (Refused noRoom)) (Refused outsideLimits)) ≡ true → cond (a && b) (putFirst (sheetText s) out) out ≡ out
-    go true true e = none-refused e
+    go true true e = false-true e
     go true false e = refl
     go false b e = refl
 
@@ -49,7 +42,7 @@ engines-refused t powers weights = go (readEngines t .ended) (rowsFit rows (leng
 
     go : (r : LineRead) (b : Bool) → isRefusal (elim r [ Taken k ↦ cond b (Count (length (powersOf rows))) (Refused noRoom) | Fault number at ↦ Refused number ]) ≡ true
         → _≡_ {A = List ℕ × List ℕ} (elim r [ Taken k ↦ cond b (putFirst (powersOf rows) powers, putFirst (weightsOf rows) weights) (powers, weights) | Fault number at ↦ (powers, weights) ]) (powers, weights)
-    go (Taken k) true e = none-refused e
+    go (Taken k) true e = false-true e
     go (Taken k) false e = refl
     go (Fault number at) b e = refl
 

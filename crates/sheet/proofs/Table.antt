@@ -4,7 +4,8 @@ use mathlib.Core.List.{List}
 use Prim.Native.Nat.{ℕ}
 use lib.ListN.{length}
 use Rattle.text.specs.Limit.{limitsOf}
-use Rattle.sheet.specs.Sheet.{textWords, limitRows, sheetLimits, limitsOn}
+use Rattle.sheet.specs.Sheet.{limitRows, sheetLimits, limitsOn}
+use Rattle.sheet.specs.Places.{textWords}
 
 table-limits : limitsOf limitRows ≡ sheetLimits
 unfolding limitRows sheetLimits limitsOn

@@ -11,12 +11,13 @@ use lib.Seq.{drop-at}
 use Rattle.text.specs.declared.LineRead.the-variants.{Taken, Fault}
 use Rattle.text.specs.Field.{agreed}
 use Rattle.text.specs.Line.{Reading, Reads, nothing, refused, followed, readNumbers, readLine}
-use Rattle.text.proofs.Stores.{rest-part, sets-zeros, sets-whole}
+use Rattle.ground.proofs.Stores.{rest-part, sets-zeros, sets-whole}
 use Rattle.text.proofs.Field.{agreed-fits}
 use Rattle.text.proofs.Line.{extent, extent-shift, line-tagged, line-untagged}
 use Rattle.text.proofs.Followed.{followed-extent, followed-parts}
 use Rattle.sheet.specs.Lines.{lines, endLine, fittings, mostBytes}
-use Rattle.sheet.specs.Sheet.{textWords, limitsOn}
+use Rattle.sheet.specs.Sheet.{limitsOn}
+use Rattle.sheet.specs.Places.{textWords}
 use Rattle.sheet.specs.Reading.{readLines, readFits, readStop, readEnd, readRest, readSheet}
 use Rattle.sheet.proofs.Lines.{lines-count}
 use Rattle.sheet.proofs.Fits.{fits-extent, fits-count}

@@ -7,7 +7,7 @@ use native.Mathlib.Omega.{arith}
 use borrow.Author.Tests.{le-leb}
 use lib.ListN.{drop}
 use Rattle.text.specs.Limit.{holds, ranging, allHold}
-use Rattle.text.proofs.Number.{both-hold}
+use Rattle.ground.proofs.Booleans.{both-true, both-hold}
 use Rattle.sheet.specs.Sheet.{limitsOn, sheetLimits, sheetOk, wordsOk}
 use Rattle.sheet.proofs.Held.{opens, hold-free}
 
@@ -25,8 +25,5 @@ pub numbered : (n : ℕ) (s : List ℕ) → n ≤ 15 → wordsOk s ≡ true → 
 unfolding sheetLimits limitsOn allHold
 numbered n s l h = both-true (within-hold n l) (hold-free (drop 1 sheetLimits) n 0 s opens-words ∙ h)
   where
-    both-true : {a b : Bool} → a ≡ true → b ≡ true → (a && b) ≡ true
-    both-true e f = rw (e, f) refl
-
     within-hold : (n : ℕ) → n ≤ 15 → holds (ranging 0 15) 0 n ≡ true
     within-hold n l = rw (le-leb 0 n (omega arith), le-leb n 15 l) refl

@@ -9,10 +9,11 @@ use lib.ListN.{length, take, drop, getD, replicate, length-append, length-drop, 
 use lib.Seq.{length-sets, drop-drop, take-append-seam, drop-append-seam}
 use Rattle.text.specs.Limit.{Limit, rangingOrNone, limitOf, limitsOf}
 use Rattle.text.specs.Line.{Line, lineOf, Laid, lineText}
-use Rattle.text.proofs.Stores.{putBack, rest-part, drop-more}
+use Rattle.ground.proofs.Stores.{putBack, rest-part, drop-more}
 use Rattle.text.proofs.Laid.{laid-none, laid-more, laid-part}
 use Rattle.sheet.specs.Lines.{lines, fittings, fittingHigh, fitLine}
-use Rattle.sheet.specs.Sheet.{textWords, limitsOn, sheetLimits, limitRows, linesText, fitText, fitsText}
+use Rattle.sheet.specs.Sheet.{limitsOn, sheetLimits, limitRows, linesText, fitText, fitsText}
+use Rattle.sheet.specs.Places.{textWords}
 use Rattle.sheet.proofs.Table.{rows-limits, rows-long}
 
 -- what is laid keeps the length

@@ -5,21 +5,15 @@ use mathlib.Core.Bool.{Bool, _&&_, cond}
 use mathlib.Core.List.{List, _++_}
 use lib.Dec.{leb}
 use lib.ListN.{length, drop}
+use Rattle.ground.specs.Lists.{putFirst}
 use Rattle.text.specs.declared.LineRead.{LineRead}
 use Rattle.text.specs.declared.LineRead.the-variants.{Taken, Fault}
-use Rattle.text.specs.Line.{Reading, outsideLimits}
-use Rattle.sheet.specs.declared.Answer.{Answer}
-use Rattle.sheet.specs.declared.Answer.the-variants.{Refused, Done, Count}
+use Rattle.text.specs.Line.{Reading}
+use Rattle.answers.specs.Refusals.{outsideLimits, noRoom}
+use Rattle.answers.specs.declared.Answer.{Answer}
+use Rattle.answers.specs.declared.Answer.the-variants.{Refused, Done, Count}
 use Rattle.sheet.specs.Sheet.{sheetOk, sheetText}
 use Rattle.sheet.specs.Engines.{powersOf, weightsOf}
-
--- the lent output is too short
-abbrev pub noRoom : ℕ
-noRoom = 16
-
--- a list that starts with xs, and goes on as it was
-abbrev pub putFirst : List ℕ → List ℕ → List ℕ
-putFirst xs before = xs ++ drop (length xs) before
 
 -- ---- read a sheet from a text
 

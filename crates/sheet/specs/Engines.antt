@@ -10,7 +10,8 @@ use Rattle.sheet.specs.declared.RowsRead.the-variants.{Rows, NoRows}
 use lib.Seq.{sets}
 use mathlib.Core.Path.{_≡_}
 use Rattle.text.specs.Limit.{allHold}
-use Rattle.text.specs.Line.{Reading, nothing, refused, brokenLine, after, readLine, lineText}
+use Rattle.text.specs.Line.{Reading, nothing, refused, after, readLine, lineText}
+use Rattle.answers.specs.Refusals.{brokenLine}
 use Rattle.sheet.specs.Lines.{engineLine, mostRows, mostBytes}
 
 -- after a row the text stops, or there is another

@@ -7,7 +7,8 @@ use lib.Dec.{ltb}
 use lib.ListN.{length, drop, getD, replicate}
 use Rattle.text.specs.declared.LineRead.the-variants.{Taken, Fault}
 use Rattle.text.specs.Field.{begins}
-use Rattle.text.specs.Line.{Line, Reading, nothing, refused, brokenLine, after, followed, readLine}
+use Rattle.text.specs.Line.{Line, Reading, nothing, refused, after, followed, readLine}
+use Rattle.answers.specs.Refusals.{brokenLine}
 use Rattle.sheet.specs.Lines.{lines, fittings, fitLine, endLine, mostBytes}
 
 unfoldable pub readLines : List Line → List ℕ → Reading

@@ -9,18 +9,6 @@ use Rattle.text.specs.Limit.{Limit, rangingOrNone, allHold}
 use Rattle.text.specs.Line.{Line, lineText}
 use Rattle.sheet.specs.Lines.{lines, fittings, fittingHigh, fitLine, endLine}
 
--- the words that the register holds of a hull
-abbrev pub sheetWords : ℕ
-sheetWords = 68
-
--- those and the HULL number before them
-abbrev pub textWords : ℕ
-textWords = 1 + sheetWords
-
--- the word that holds the weight on fitting line 1..24: the fittings are the last words
-abbrev pub fittingWord : ℕ → ℕ
-fittingWord line = 43 + line
-
 -- the limits of the numbers on ls, one line after the other
 unfoldable pub limitsOn : List Line → List Limit
 limitsOn [] = []

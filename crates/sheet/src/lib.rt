@@ -1,21 +1,77 @@
 // What a sheet and engine rows are, and their one text: definitions in specs/, laws in proofs/, and the types and numbers that the code names. The code is the
-// crates checking, reading and writing.
+// crates measuring, reading and writing.
 use text::CAPPED;
 use text::Limit;
 use text::OR_NONE;
 use text::PLAIN;
 
-// The words that the register holds of a hull; in a text the HULL number stands before them.
-pub const SHEET_WORDS: usize = 68;
+// ---- where each number stands among the words of a sheet, in the order of its text: each place follows from the one before
 
-pub const TEXT_WORDS: usize = 1 + SHEET_WORDS;
+// FORM
+pub const LENGTH: usize = 0;
+
+pub const REFERENCE: usize = LENGTH + 1;
+
+pub const TRANSOM_WIDTH: usize = REFERENCE + 1;
+
+pub const TRANSOM_HEIGHT: usize = TRANSOM_WIDTH + 1;
+
+pub const FLAT_BOTTOM: usize = TRANSOM_HEIGHT + 1;
+
+pub const REMOTE: usize = FLAT_BOTTOM + 1;
+
+// STN: four stations of seven readings each
+pub const READINGS: usize = 7;
+
+pub const STATION_Q: usize = REMOTE + 1;
+
+pub const STATION_R: usize = STATION_Q + READINGS;
+
+pub const STATION_S: usize = STATION_R + READINGS;
+
+pub const STATION_T: usize = STATION_S + READINGS;
+
+// VOL
+pub const AFT: usize = STATION_T + READINGS;
+
+pub const WELL: usize = AFT + 1;
+
+pub const FLOODING: usize = WELL + 1;
+
+// MASS
+pub const BARE: usize = FLOODING + 1;
+
+pub const FUEL: usize = BARE + 1;
+
+pub const MACHINERY: usize = FUEL + 1;
+
+// PWR
+pub const OUTBOARD: usize = MACHINERY + 1;
+
+pub const DECLARED: usize = OUTBOARD + 1;
+
+// SEAT
+pub const POSITIONS: usize = DECLARED + 1;
+
+pub const TESTED: usize = POSITIONS + 1;
+
+// FIT: a word for each fitting line
+pub const FITTED: usize = TESTED + 1;
 
 pub const FITTINGS: usize = 24;
 
-pub const LINE_WORDS: usize = TEXT_WORDS - FITTINGS;
+// The words that the register holds of a hull; in a text the HULL number stands before them, and every word one place further on.
+pub const SHEET_WORDS: usize = FITTED + FITTINGS;
 
-// Where the fittings start among the words that the register holds.
-pub const FITTED: usize = SHEET_WORDS - FITTINGS;
+pub const HULL_NUMBER: usize = 0;
+
+pub const IN_TEXT: usize = HULL_NUMBER + 1;
+
+pub const TEXT_WORDS: usize = IN_TEXT + SHEET_WORDS;
+
+pub const LINE_WORDS: usize = IN_TEXT + FITTED;
+
+// ---- limits
 
 // The greatest line number and weight of a fitting, and the greatest power and weight of an engine.
 pub const FITTING_LINES: u32 = 24;
@@ -27,8 +83,6 @@ pub const ENGINE_POWER_HIGH: u32 = 200_000;
 pub const ENGINE_WEIGHT_HIGH: u32 = 1_000_000;
 
 pub const MOST_ROWS: usize = 40;
-
-pub const NO_ROOM: u32 = 16;
 
 // The limits of a sheet's numbers, line by line in the order of the text.
 pub const LIMITS: [Limit; TEXT_WORDS] = [
@@ -113,14 +167,6 @@ pub const LIMITS: [Limit; TEXT_WORDS] = [
     [1, FITTING_HIGH, OR_NONE],
     [1, FITTING_HIGH, OR_NONE],
 ];
-
-// What a call answers: a refusal by its number alone, or that it was done, or a count (of hulls, edits, bytes, rows or pounds), or a plate's load and its other figure.
-pub enum Answer {
-    Refused(u32),
-    Done,
-    Count(u32),
-    Plate(u32, u32),
-}
 
 // How many engine rows a text has, or its refusal and the place.
 pub enum RowsRead {

@@ -8,8 +8,8 @@ use borrow.Author.Tests.{eqb-true, leb-true, leb-false, le-leb, lt-leb, lt-ltb, 
 use lib.Dec.{eqb, leb, leb·zero}
 use lib.ListN.{length, drop, getD, replicate, drop-of-length-le}
 use Rattle.text.specs.Limit.{Limit, plain, orNone, limit, holds, allHold, fromZero}
-use Rattle.text.proofs.Number.{both-hold}
-use Rattle.text.proofs.Stores.{drop-more}
+use Rattle.ground.proofs.Booleans.{both-hold}
+use Rattle.ground.proofs.Stores.{drop-more}
 
 -- ---- the greatest, found number by number
 

@@ -16,7 +16,7 @@ use Rattle.text.specs.Number.{isDigit, nineDigits, restOf, zeroAlone, nu
 use Rattle.text.specs.Limit.{Limit, orNone, within}
 use Rattle.text.specs.Line.{readEntry, judged}
 use Rattle.text.proofs.Field.{begins-some, field-most}
-use Rattle.text.proofs.Number.{both-hold}
+use Rattle.ground.proofs.Booleans.{both-hold}
 
 pub dash-some : (rule : ℕ) (t : List ℕ) → (eqb rule orNone && begins dash t) ≡ true → 0 < length t
 dash-some rule t d = begins-some dash t (both-hold (eqb rule orNone) (begins dash t) d .1)

@@ -17,7 +17,8 @@ use Rattle.text.specs.Number.{elevenDigits, numberOf, digitsOf}
 use Rattle.text.specs.Limit.{Limit, orNone, capped, isNone, within, holds}
 use Rattle.text.specs.Line.{ender, judged, readDash, readEntry, entryText}
 use Rattle.text.proofs.Field.{begins-cons, field-split, field-stop, field-more}
-use Rattle.text.proofs.Number.{both-hold, digits-small, digits-more}
+use Rattle.text.proofs.Number.{digits-small, digits-more}
+use Rattle.ground.proofs.Booleans.{both-hold}
 use Rattle.text.proofs.NumberTrip.{read-writes, written-reads}
 use Rattle.text.proofs.Limit.{within-high}
 use Rattle.text.proofs.Entry.{dash-ended, taken}

@@ -7,7 +7,7 @@ use lib.ListN.{length, take, drop, length-drop}
 use Rattle.text.specs.declared.LineRead.{LineRead}
 use Rattle.text.specs.declared.LineRead.the-variants.{Taken, Fault}
 use Rattle.text.specs.Line.{Reading, Reads, shiftBy, after, followed}
-use Rattle.text.proofs.Stores.{putBack, part-append}
+use Rattle.ground.proofs.Stores.{putBack, part-append}
 use Rattle.text.proofs.Line.{extent, extent-shift}
 
 -- ---- one reading followed by another

@@ -8,7 +8,7 @@ use lib.ListN.{length, take, drop, set, length-append}
 use lib.Seq.{sets}
 use Rattle.text.specs.Number.{digitsOf}
 use Rattle.text.specs.Line.{Laid}
-use Rattle.text.proofs.Stores.{putBack, sets-append, sets-min, rest-part, part-sets}
+use Rattle.ground.proofs.Stores.{putBack, sets-append, sets-min, rest-part, part-sets}
 use Rattle.text.proofs.Number.{digits-small, digits-more}
 
 pub laid-none : (o : List ℕ) (at : ℕ) → Laid [] o at at o

@@ -1,5 +1,4 @@
 -- The laws of the text layer, a file for each concept of specs/.
-pub mod Stores
 pub mod Field
 pub mod Number
 pub mod Digits

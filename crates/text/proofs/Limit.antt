@@ -7,10 +7,10 @@ use native.Mathlib.Numerals.{add-one}
 use lib.ListN.{length, drop, getD, length-map, drop-of-length-le}
 use lib.Seq.{drop-cons}
 use Rattle.text.specs.Limit.{Limit, plain, orNone, capped, byRule, within, holds, allHold, limitOf, limitsOf}
-use Rattle.text.proofs.Number.{both-hold}
+use Rattle.ground.proofs.Booleans.{both-hold}
 use borrow.Author.Tests.{leb-true, le-leb, lt-leb, eq-eqb, ne-eqb}
 use lib.Dec.{leb, ltb}
-use Rattle.text.proofs.Stores.{drop-more}
+use Rattle.ground.proofs.Stores.{drop-more}
 
 -- ---- the table
 

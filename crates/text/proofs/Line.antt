@@ -15,7 +15,7 @@ use Rattle.text.specs.Limit.{Limit, limitsOf}
 use Rattle.text.specs.Field.{agreed}
 use Rattle.text.specs.Line.{Line, lineOf, Reading, Reads, shiftBy, after, refused, ender, onEntry, readEntry, readNumbers, readLine}
 use Rattle.text.proofs.Field.{agreed-fits}
-use Rattle.text.proofs.Stores.{rest-part}
+use Rattle.ground.proofs.Stores.{rest-part}
 use Rattle.text.proofs.Entry.{reach, entry-reach}
 
 -- ---- a whole line

@@ -16,7 +16,7 @@ use Rattle.text.specs.Number.{elevenDigits}
 use Rattle.text.specs.Limit.{Limit, holds, allHold}
 use Rattle.text.specs.Line.{Line, Reading, after, ender, onEntry, readEntry, readNumbers, readLine, entryText, numbersText, lineText}
 use Rattle.text.proofs.Field.{agreed-whole, agreed-self}
-use Rattle.text.proofs.Number.{both-hold}
+use Rattle.ground.proofs.Booleans.{both-hold}
 use Rattle.text.proofs.Line.{line-tagged, line-untagged}
 use Rattle.text.proofs.Followed.{shift-taken}
 use Rattle.text.proofs.Led.{Led, led-more, led-none}

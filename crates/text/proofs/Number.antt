@@ -10,6 +10,7 @@ use borrow.Author.Tests.{lt-ltb, le-ltb, ltb-true, ltb-false, le-leb, leb-true, 
 use lib.Dec.{leb, ltb}
 use lib.ListN.{length, drop, getD, length-append, drop-of-length-le}
 use lib.Seq.{drop-cons}
+use Rattle.ground.proofs.Booleans.{both-hold}
 use Rattle.text.specs.declared.NumberRead.the-variants.{Value, Malformed}
 use Rattle.text.specs.Number.{isDigit, nineDigits, elevenDigits, restOf, zeroAlone, numberOf, digitsIn, digitsOf}
 
@@ -17,16 +18,6 @@ use Rattle.text.specs.Number.{isDigit, nineDigits, elevenDigits, restOf,
 
 pub digit-is : (b : ℕ) → 48 ≤ b → b ≤ 57 → isDigit b ≡ true
 digit-is b h l = rw (le-leb 48 b h, le-leb b 57 l)
-
--- both halves of a conjunction that holds
-pub both-hold : (s t : Bool) → (s && t) ≡ true → (s ≡ true) × (t ≡ true)
-both-hold true t e = (refl, e)
-both-hold false t e = absurd (true≢false (sym e))
-
--- what holds of both holds of either
-pub either : {A : Type 0} (P : A → Type 0) (u : Bool) {a b : A} → P a → P b → P (cond u a b)
-either P true h k = h
-either P false h k = k
 
 pub digit-low : (b : ℕ) → isDigit b ≡ true → 48 ≤ b
 digit-low b e = leb-true 48 b (both-hold _ _ e .0)

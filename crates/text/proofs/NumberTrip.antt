@@ -11,7 +11,8 @@ use lib.ListN.{length}
 use Rattle.text.specs.declared.NumberRead.{NumberRead}
 use Rattle.text.specs.declared.NumberRead.the-variants.{Value, Malformed}
 use Rattle.text.specs.Number.{isDigit, nineDigits, elevenDigits, restOf, zeroAlone, numberOf, digitsOf}
-use Rattle.text.proofs.Number.{both-hold, digit-high, digit-is, digit-low, digits-more, digits-push, digits-small, length-digits-more, number-more, rest-step}
+use Rattle.text.proofs.Number.{digit-high, digit-is, digit-low, digits-more, digits-push, digits-small, length-digits-more, number-more, rest-step}
+use Rattle.ground.proofs.Booleans.{both-hold}
 
 -- ---- what is read is what would be written
 

@@ -15,7 +15,7 @@ use Rattle.text.specs.declared.LineRead.the-variants.{Taken, Fault}
 use Rattle.text.specs.Quoted.{tab, feed}
 use Rattle.text.specs.Limit.{Limit, limitsOf}
 use Rattle.text.specs.Line.{Reading, Reads, shiftBy, after, nothing, refused, ender, onEntry, readEntry, readNumbers}
-use Rattle.text.proofs.Stores.{sets-snoc}
+use Rattle.ground.proofs.Stores.{sets-snoc}
 use Rattle.text.proofs.Limit.{limitAt, limits-more, limits-end, length-limits}
 use Rattle.text.proofs.Entry.{reach, entry-reach}
 

@@ -10,7 +10,7 @@ use Rattle.text.specs.Quoted.{tab, feed, dash}
 use Rattle.text.specs.Number.{elevenDigits, digitsOf}
 use Rattle.text.specs.Limit.{Limit, isNone, limitsOf}
 use Rattle.text.specs.Line.{Laid, ender, entryText, numbersText}
-use Rattle.text.proofs.Stores.{drop-more}
+use Rattle.ground.proofs.Stores.{drop-more}
 use Rattle.text.proofs.Number.{length-digits-ten}
 use Rattle.text.proofs.Limit.{limitAt, limits-more, limits-end}
 use Rattle.text.proofs.Reading.{ender-after}

@@ -9,6 +9,7 @@ use mathlib.Core.List.{List, [], _∷_, _++_}
 use lib.Dec.{eqb}
 use lib.ListN.{length, drop}
 use lib.Seq.{sets}
+use Rattle.answers.specs.Refusals.{brokenLine, outsideLimits}
 use Rattle.text.specs.declared.NumberRead.{NumberRead}
 use Rattle.text.specs.declared.NumberRead.the-variants.{Value, Malformed}
 use Rattle.text.specs.declared.EntryRead.{EntryRead}
@@ -19,13 +20,6 @@ use Rattle.text.specs.Quoted.{tab, feed, dash}
 use Rattle.text.specs.Field.{fieldOf, begins, agreed}
 use Rattle.text.specs.Number.{numberOf, digitsOf}
 use Rattle.text.specs.Limit.{Limit, orNone, isNone, within, limitsOf}
-
--- the two refusals that a text can give
-abbrev pub brokenLine : ℕ
-brokenLine = 2
-
-abbrev pub outsideLimits : ℕ
-outsideLimits = 3
 
 -- a line's form
 pub record Line : Type 0 where

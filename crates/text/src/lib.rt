@@ -10,11 +10,6 @@ pub const OR_NONE: u32 = 1;
 
 pub const CAPPED: u32 = 2;
 
-// The refusals of a text.
-pub const BROKEN_LINE: u32 = 2;
-
-pub const OUTSIDE_LIMITS: u32 = 3;
-
 // What the bytes of a field read as: a number, or the place of the first byte at fault.
 pub enum NumberRead {
     Value(u64),

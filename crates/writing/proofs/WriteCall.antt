@@ -9,12 +9,13 @@ use lib.Dec.{leb}
 use lib.ListN.{length, take, drop, length-append, length-drop}
 use lib.Seq.{sets, take-at}
 use Rattle.text.specs.Line.{Laid, numbersText, lineText}
-use Rattle.text.proofs.Stores.{putBack, rest-part, sets-start}
+use Rattle.ground.proofs.Stores.{putBack, rest-part, sets-start}
 use Rattle.text.proofs.Laid.{laid-start, laid-more, laid-part}
-use Rattle.sheet.specs.declared.Answer.the-variants.{Refused, Count}
-use Rattle.sheet.specs.Settled.{Settled}
+use Rattle.answers.specs.declared.Answer.the-variants.{Refused, Count}
+use Rattle.answers.specs.Settled.{Settled}
 use Rattle.sheet.specs.Lines.{lines, fittings, endLine}
-use Rattle.sheet.specs.Sheet.{textWords, limitsOn, sheetOk, linesText, fitsText, sheetText}
+use Rattle.sheet.specs.Sheet.{limitsOn, sheetOk, linesText, fitsText, sheetText}
+use Rattle.sheet.specs.Places.{textWords}
 use Rattle.sheet.specs.Calls.{writeAnswer, writeInto}
 use Rattle.sheet.proofs.Written.{laid-length, laid-rest}
 

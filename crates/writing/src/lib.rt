@@ -3,16 +3,17 @@ ghost use mathlib.Core.Path.{_≡_};
 ghost use Prim.Native.Nat.{_+_, _-_, _≤_};
 ghost use lib.ListN.{length, take, drop};
 ghost use Rattle.text.specs.Line.{Laid, lineOf, lineText};
-ghost use Rattle.sheet.specs.Settled.{Settled};
+ghost use Rattle.answers.specs.Settled.{Settled};
 ghost use Rattle.sheet.specs.Lines.{lines, fittings};
-ghost use Rattle.sheet.specs.Sheet.{textWords, limitRows, linesText, fitText, fitsText, sheetText};
+ghost use Rattle.sheet.specs.Sheet.{limitRows, linesText, fitText, fitsText, sheetText};
+ghost use Rattle.sheet.specs.Places.{textWords};
 ghost use Rattle.sheet.specs.Calls.{writeAnswer, writeInto};
-use sheet::Answer;
+use answers::Answer;
 use sheet::FITTING_HIGH;
 use sheet::FITTING_LINES;
 use sheet::LIMITS;
 use sheet::LINE_WORDS;
-use sheet::NO_ROOM;
+use answers::NO_ROOM;
 use sheet::TEXT_WORDS;
 use text::Limit;
 use text::PLAIN;
@@ -101,7 +102,7 @@ fn write_words(limits: &[Limit], sheet: &[u32], out: &mut [u8]) -> usize
 pub fn write_sheet(sheet: &[u32; TEXT_WORDS], out: &mut [u8]) -> Answer
     ensures { λ r. ⌜ Settled (writeAnswer (now (sheet .entry)) (length (now (out .entry)))) (writeInto (now (sheet .entry)) (now (out .entry))) r (now (out .exit)) ⌝ }
 {
-    if checking::sheet_ok(sheet) {
+    if measuring::sheet_ok(sheet) {
         let mut bytes = [0u8; MOST_TEXT];
         let len = write_words(&LIMITS, sheet, &mut bytes);
         if out.len() < len {
@@ -110,6 +111,6 @@ pub fn write_sheet(sheet: &[u32; TEXT_WORDS], out: &mut [u8]) -> Answer
         spelling::write_bytes(&bytes[..len], out);
         Answer::Count(len as u32)
     } else {
-        Answer::Refused(text::OUTSIDE_LIMITS)
+        Answer::Refused(answers::OUTSIDE_LIMITS)
     }
 }

@@ -3,7 +3,7 @@ use Rattle.register.proofs.Refusals.{room-goes}
 use Rattle.register.specs.Refusals.{sheetOf}
 use Rattle.memory.specs.Updates.{entered}
 use Rattle.memory.specs.Layout.{hullCount}
-use Rattle.sheet.specs.declared.Answer.the-variants.{Refused, Count}
+use Rattle.answers.specs.declared.Answer.the-variants.{Refused, Count}
 use Rattle.answering.proofs.Sheets.{read-ended, read-lent, read-long}
 use Rattle.answering.proofs.Settling.{refused, accepted, text-read, text-refused}
 use Rattle.memory.proofs.Sound.{sound}

@@ -1,6 +1,6 @@
 -- `open_hull` meets its contract. Assumes nothing.
 use Rattle.register.proofs.Own.{open-goes}
-use Rattle.sheet.specs.declared.Answer.the-variants.{Count}
+use Rattle.answers.specs.declared.Answer.the-variants.{Count}
 use Rattle.answering.proofs.Settling.{refused, accepted}
 use Rattle.memory.proofs.Sound.{sound}
 use mathlib.Core.Path.{sym, ap, _∙_}

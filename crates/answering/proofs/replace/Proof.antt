@@ -2,7 +2,7 @@
 use Rattle.register.proofs.Refusals.{desk-goes}
 use Rattle.register.specs.Refusals.{sheetOf}
 use Rattle.memory.specs.Updates.{replaced}
-use Rattle.sheet.specs.declared.Answer.the-variants.{Refused, Done}
+use Rattle.answers.specs.declared.Answer.the-variants.{Refused, Done}
 use Rattle.answering.proofs.Sheets.{read-ended, read-lent, read-long}
 use Rattle.answering.proofs.Settling.{refused, accepted, text-read, text-refused}
 use Rattle.memory.proofs.Sound.{sound}

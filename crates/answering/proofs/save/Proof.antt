@@ -1,7 +1,7 @@
 -- `save` meets its contract. Assumes nothing.
 use Rattle.register.proofs.Own.{save-goes}
 use Rattle.register.proofs.Refusals.{desk-goes}
-use Rattle.sheet.specs.declared.Answer.the-variants.{Count}
+use Rattle.answers.specs.declared.Answer.the-variants.{Count}
 use Rattle.answering.proofs.Settling.{refused, accepted}
 use Rattle.memory.proofs.Sound.{sound}
 use mathlib.Core.Path.{sym, ap, _∙_}

@@ -1,8 +1,8 @@
 -- `boat_of` meets its contract. Assumes nothing.
 use mathlib.Core.Path.{ap, _∙_}
-use Rattle.text.proofs.Stores.{rest-part}
-use Rattle.plates.specs.Weights.{addedUp}
-use Rattle.plates.proofs.Loads.{boat-is, boat-most}
+use Rattle.ground.proofs.Stores.{rest-part}
+use Rattle.capacity.specs.Weights.{addedUp}
+use Rattle.capacity.proofs.Loads.{boat-is, boat-most}
 use native.Mathlib.Omega.{arith}
 use borrow.Author.Needs.{needs}
 use Rattle.figuring.proofs.boat_of.Statement.{statement}

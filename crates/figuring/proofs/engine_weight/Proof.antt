@@ -1,5 +1,5 @@
 -- `engine_weight` meets its contract. Assumes nothing.
-use Rattle.plates.proofs.Engines.{weight-unwanted, weight-wanted, weight-past}
+use Rattle.capacity.proofs.Engines.{weight-unwanted, weight-wanted, weight-past}
 use mathlib.Core.Path.{refl, sym, _∙_}
 use borrow.Author.Needs.{needs}
 use Rattle.figuring.proofs.engine_weight.Statement.{statement}

@@ -2,8 +2,8 @@
 use mathlib.Core.Path.{_≡_}
 use Prim.Native.Nat.{_≤_, _+_, _-_, _*_}
 use lib.ListN.{length, drop}
-use Rattle.plates.specs.Weights.{addedUp}
-use Rattle.plates.proofs.Volume.{sum-more, sum-end}
+use Rattle.capacity.specs.Weights.{addedUp}
+use Rattle.capacity.proofs.Volume.{sum-more, sum-end}
 use native.Mathlib.Omega.{arith}
 use borrow.Author.Needs.{needs}
 use Rattle.figuring.proofs.fittings_weight.Statement.{statement}

@@ -1,10 +1,11 @@
 -- `formula_watts` meets its contract. Assumes nothing.
 use lib.Dec.{eqb}
-use Rattle.plates.specs.Words.{remote}
+use Rattle.capacity.specs.Words.{remote}
 use borrow.Author.Tests.{eq-eqb, ne-eqb}
 use mathlib.Core.Path.{_∙_}
 use mathlib.Core.Logic.{inl, inr}
-use Rattle.plates.proofs.Power.{first-fails, second-fails, by-remote, by-flat, by-chine}
+use Rattle.capacity.proofs.Power.{by-remote, by-flat, by-chine}
+use Rattle.ground.proofs.Booleans.{first-fails, second-fails}
 use borrow.Author.Needs.{needs}
 use Rattle.figuring.proofs.formula_watts.Statement.{statement}
 use Rattle.figuring.proofs.formula_watts.Tie as tie

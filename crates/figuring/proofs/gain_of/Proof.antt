@@ -1,6 +1,6 @@
 -- `gain_of` meets its contract. Assumes nothing.
 use mathlib.Core.Path.{_∙_}
-use Rattle.plates.proofs.Loads.{volume-is, volume-most}
+use Rattle.capacity.proofs.Loads.{volume-is, volume-most}
 use native.Mathlib.Omega.{arith}
 use borrow.Author.Needs.{needs}
 use Rattle.figuring.proofs.gain_of.Statement.{statement}

@@ -1,5 +1,5 @@
 -- `is_untested` meets its contract. Assumes nothing.
-use Rattle.plates.proofs.Persons.{tested-wanted, tested-unwanted}
+use Rattle.capacity.proofs.Persons.{tested-wanted, tested-unwanted}
 use mathlib.Core.Path.{refl}
 use native.Mathlib.Omega.{arith}
 use borrow.Author.Needs.{needs}

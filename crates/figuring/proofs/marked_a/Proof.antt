@@ -2,8 +2,8 @@
 use mathlib.Core.Path.{_∙_}
 use Prim.Native.Nat.{_+_, _*_, _≤_}
 use borrow.Author.Tests.{eq-eqb, ne-eqb}
-use Rattle.plates.specs.Bounds.{heaviest}
-use Rattle.plates.proofs.Loads.{volume-most, boat-most, marked-outboard, marked-inboard}
+use Rattle.capacity.specs.Bounds.{heaviest}
+use Rattle.capacity.proofs.Loads.{volume-most, boat-most, marked-outboard, marked-inboard}
 use native.Mathlib.Omega.{arith}
 use borrow.Author.Needs.{needs}
 use Rattle.figuring.proofs.marked_a.Statement.{statement}

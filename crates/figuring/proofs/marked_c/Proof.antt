@@ -1,10 +1,10 @@
 -- `marked_c` meets its contract. Assumes nothing.
 use mathlib.Core.Path.{_≡_, _∙_}
 use Prim.Native.Nat.{_+_, _≤_}
-use Rattle.plates.specs.Words.{fuel, machinery}
-use Rattle.plates.specs.Weights.{boatM}
-use Rattle.plates.specs.Bounds.{heaviest}
-use Rattle.plates.proofs.Loads.{volume-most, boat-most, loss-most, marked-high, marked-low}
+use Rattle.capacity.specs.Words.{fuel, machinery}
+use Rattle.capacity.specs.Weights.{boatM}
+use Rattle.capacity.specs.Bounds.{heaviest}
+use Rattle.capacity.proofs.Loads.{volume-most, boat-most, loss-most, marked-high, marked-low}
 use native.Mathlib.Omega.{arith}
 use borrow.Author.Needs.{needs}
 use Rattle.figuring.proofs.marked_c.Statement.{statement}

@@ -2,10 +2,10 @@
 use mathlib.Core.Path.{_≡_, _∙_}
 use Prim.Native.Nat.{_+_, _*_}
 use borrow.Author.Tests.{eq-eqb, ne-eqb}
-use Rattle.plates.specs.Words.{machinery}
-use Rattle.plates.specs.PlateU.{boatB}
-use Rattle.plates.proofs.Loads.{boat-most}
-use Rattle.plates.proofs.PoundsWorked.{figured, marked-fifth, marked-tenths, marked-greater}
+use Rattle.capacity.specs.Words.{machinery}
+use Rattle.capacity.specs.PlateU.{boatB}
+use Rattle.capacity.proofs.Loads.{boat-most}
+use Rattle.capacity.proofs.PoundsWorked.{figured, marked-fifth, marked-tenths, marked-greater}
 use native.Mathlib.Omega.{arith}
 use borrow.Author.Needs.{needs}
 use Rattle.figuring.proofs.marked_u.Statement.{statement}

@@ -3,8 +3,9 @@ use mathlib.Core.Path.{sym}
 use borrow.Author.Tests.{eq-eqb, ne-eqb}
 use native.Mathlib.Nat.{lt-of-le-of-lt}
 use lib.Dec.{lit<, eqb}
-use Rattle.plates.specs.Words.{outboard}
-use Rattle.plates.proofs.Power.{first-fails, second-fails, factor-is, factor-most, first-row}
+use Rattle.capacity.specs.Words.{outboard}
+use Rattle.capacity.proofs.Power.{factor-is, factor-most, first-row}
+use Rattle.ground.proofs.Booleans.{first-fails, second-fails}
 use borrow.Author.Needs.{needs}
 use Rattle.figuring.proofs.no_power.Statement.{statement}
 use Rattle.figuring.proofs.no_power.Tie as tie

@@ -1,5 +1,5 @@
 -- `no_row` meets its contract. Assumes nothing.
-use Rattle.plates.proofs.Engines.{row-unwanted, row-wanted}
+use Rattle.capacity.proofs.Engines.{row-unwanted, row-wanted}
 use mathlib.Core.Path.{refl, sym, _∙_}
 use borrow.Author.Needs.{needs}
 use Rattle.figuring.proofs.no_row.Statement.{statement}

@@ -1,5 +1,5 @@
 -- `persons_for` meets its contract. Assumes nothing.
-use Rattle.plates.proofs.Persons.{persons-untested, persons-tested}
+use Rattle.capacity.proofs.Persons.{persons-untested, persons-tested}
 use lib.IntN.{subℕ}
 use borrow.Author.Tests.{eq-eqb, ne-eqb}
 use Prim.Native.Nat.{ℕ, min}

@@ -3,9 +3,9 @@ use mathlib.Core.Path.{sym, ap, _∙_}
 use Prim.Native.Nat.{ℕ}
 use lib.Dec.{eqb}
 use borrow.Author.Tests.{eq-eqb, ne-eqb}
-use Rattle.plates.proofs.Loads.{marked-most}
-use Rattle.plates.proofs.Power.{power-most}
-use Rattle.plates.proofs.Answers.{a-unloaded, a-unpowered, a-marks}
+use Rattle.capacity.proofs.Loads.{marked-most}
+use Rattle.capacity.proofs.Power.{power-most}
+use Rattle.capacity.proofs.Answers.{a-unloaded, a-unpowered, a-marks}
 use native.Mathlib.Omega.{arith}
 use borrow.Author.Needs.{needs}
 use Rattle.figuring.proofs.plate_a.Statement.{statement}

@@ -1,9 +1,9 @@
 -- `plate_c` meets its contract. Assumes nothing.
-use Rattle.plates.proofs.Answers.{c-rows, c-unloaded, c-unreached, c-untested, c-empty, c-marks}
-use Rattle.plates.proofs.Persons.{live-is, persons-most}
-use Rattle.plates.proofs.Loads.{c-most}
-use Rattle.plates.specs.PlateC.{markedC, liveLoad, persons, untested}
-use Rattle.plates.specs.Whole.{orZero}
+use Rattle.capacity.proofs.Answers.{c-rows, c-unloaded, c-unreached, c-untested, c-empty, c-marks}
+use Rattle.capacity.proofs.Persons.{live-is, persons-most}
+use Rattle.capacity.proofs.Loads.{c-most}
+use Rattle.capacity.specs.PlateC.{markedC, liveLoad, persons, untested}
+use Rattle.capacity.specs.Whole.{orZero}
 use borrow.Author.Tests.{eqb-false, eq-eqb, ne-eqb}
 use lib.IntN.{ℤ, subℕ}
 use lib.Dec.{eqb}

@@ -3,7 +3,7 @@ use mathlib.Core.Path.{sym, ap, _∙_}
 use Prim.Native.Nat.{ℕ}
 use lib.Dec.{eqb}
 use borrow.Author.Tests.{eq-eqb, ne-eqb}
-use Rattle.plates.proofs.PoundsWorked.{pounds-most, u-unloaded, u-marks}
+use Rattle.capacity.proofs.PoundsWorked.{pounds-most, u-unloaded, u-marks}
 use native.Mathlib.Omega.{arith}
 use borrow.Author.Needs.{needs}
 use Rattle.figuring.proofs.plate_u.Statement.{statement}

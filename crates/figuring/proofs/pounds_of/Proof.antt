@@ -2,8 +2,8 @@
 use mathlib.Core.Path.{_∙_}
 use native.Mathlib.Nat.{lt-of-le-of-lt}
 use lib.Dec.{lit<}
-use Rattle.plates.specs.PlateU.{figure}
-use Rattle.plates.proofs.PoundsWorked.{pounds-are, gain-fine, loss-fine}
+use Rattle.capacity.specs.PlateU.{figure}
+use Rattle.capacity.proofs.PoundsWorked.{pounds-are, gain-fine, loss-fine}
 use borrow.Author.Needs.{needs}
 use Rattle.figuring.proofs.pounds_of.Statement.{statement}
 use Rattle.figuring.proofs.pounds_of.Tie as tie

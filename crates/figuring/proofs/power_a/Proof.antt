@@ -3,7 +3,7 @@ use lib.Dec.{lit<}
 use borrow.Author.Tests.{eq-eqb, ne-eqb}
 use mathlib.Core.Path.{refl, _∙_}
 use native.Mathlib.Nat.{lt-of-le-of-lt}
-use Rattle.plates.proofs.Power.{factor-is, factor-most, no-outboard, by-formula, by-row}
+use Rattle.capacity.proofs.Power.{factor-is, factor-most, no-outboard, by-formula, by-row}
 use borrow.Author.Needs.{needs}
 use Rattle.figuring.proofs.power_a.Statement.{statement}
 use Rattle.figuring.proofs.power_a.Tie as tie

@@ -1,5 +1,5 @@
 -- `readings_at` meets its contract. Assumes nothing.
-use Rattle.plates.proofs.Volume.{seven}
+use Rattle.capacity.proofs.Volume.{seven}
 use borrow.Author.Needs.{needs}
 use Rattle.figuring.proofs.readings_at.Statement.{statement}
 use Rattle.figuring.proofs.readings_at.Tie as tie

@@ -1,6 +1,6 @@
 -- `row_for` meets its contract. Assumes nothing.
-use Rattle.plates.proofs.Engines.{row-here, row-further, row-past}
-use Rattle.plates.specs.PlateC.{rowFor}
+use Rattle.capacity.proofs.Engines.{row-here, row-further, row-past}
+use Rattle.capacity.specs.PlateC.{rowFor}
 use lib.ListN.{length, drop}
 use Prim.Native.Nat.{_+_, _-_, _≤_}
 use mathlib.Core.Path.{_≡_}

@@ -5,8 +5,8 @@ use native.Mathlib.Numerals.{add-one}
 use native.Mathlib.Omega.{arith}
 use lib.ListN.{getD}
 use borrow.Author.Needs.{needs}
-use Rattle.plates.specs.PlateA.{tableWatts}
-use Rattle.plates.proofs.Power.{row-in}
+use Rattle.capacity.specs.PlateA.{tableWatts}
+use Rattle.capacity.proofs.Power.{row-in}
 use Rattle.figuring.proofs.row_watts.Statement.{statement}
 use Rattle.figuring.proofs.row_watts.Tie as tie
 

@@ -1,5 +1,5 @@
 -- `rows_right` meets its contract. Assumes nothing.
-use Rattle.plates.proofs.Engines.{rows-uneven, rows-none, rows-many, rows-judged}
+use Rattle.capacity.proofs.Engines.{rows-uneven, rows-none, rows-many, rows-judged}
 use mathlib.Core.Path.{_∙_}
 use Rattle.figuring.proofs.rows_right.Statement.{statement}
 use Rattle.figuring.proofs.rows_right.Tie as tie

@@ -1,13 +1,13 @@
 -- `rows_rise` meets its contract. Assumes nothing.
-use Rattle.plates.proofs.Engines.{rise-more, rise-fails, rise-done}
-use Rattle.plates.specs.PlateC.{rising}
+use Rattle.capacity.proofs.Engines.{rise-more, rise-fails, rise-done}
+use Rattle.capacity.specs.PlateC.{rising}
 use lib.ListN.{length, getD, drop}
 use Prim.Native.Nat.{_-_, _≤_}
 use mathlib.Core.Path.{_≡_, refl, sym, _∙_}
 use borrow.Author.Tests.{leb-true}
 use lib.Dec.{leb}
 use Rattle.sheet.specs.Lines.{enginePowerHigh}
-use Rattle.text.proofs.Number.{both-hold}
+use Rattle.ground.proofs.Booleans.{both-hold}
 use native.Mathlib.Omega.{arith}
 use Rattle.figuring.proofs.rows_rise.Statement.{statement}
 use Rattle.figuring.proofs.rows_rise.Tie as tie

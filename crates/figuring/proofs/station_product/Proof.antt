@@ -1,7 +1,7 @@
 -- `station_product` meets its contract. Assumes nothing.
 use native.Mathlib.Nat.{mul-le-mul, lt-of-le-of-lt}
 use lib.Dec.{lit<}
-use Rattle.plates.specs.Volume.{stationProduct}
+use Rattle.capacity.specs.Volume.{stationProduct}
 use native.Mathlib.Omega.{arith}
 use borrow.Author.Needs.{needs}
 use Rattle.figuring.proofs.station_product.Statement.{statement}

@@ -1,5 +1,5 @@
 -- `table_row` meets its contract. Assumes nothing.
-use Rattle.plates.proofs.Power.{row-stops, row-skips}
+use Rattle.capacity.proofs.Power.{row-stops, row-skips}
 use Rattle.figuring.proofs.table_row.Statement.{statement}
 use Rattle.figuring.proofs.table_row.Tie as tie
 

@@ -7,9 +7,9 @@ use native.Mathlib.Omega.{arith}
 use lib.Dec.{lit<}
 use lib.ListN.{getD}
 use borrow.Author.Needs.{needs}
-use Rattle.plates.specs.Volume.{stationProduct}
-use Rattle.plates.proofs.Volume.{product-most, shares-added, total-summed}
-use Rattle.plates.proofs.Loads.{stations-most}
+use Rattle.capacity.specs.Volume.{stationProduct}
+use Rattle.capacity.proofs.Volume.{product-most, shares-added, total-summed}
+use Rattle.capacity.proofs.Loads.{stations-most}
 use Rattle.figuring.proofs.volume_of.Statement.{statement}
 use Rattle.figuring.proofs.volume_of.Tie as tie
 

@@ -1,7 +1,8 @@
 -- `words_at_ok` meets its contract. Assumes nothing.
 use mathlib.Core.Path.{ap, _∙_}
 use lib.ListN.{length}
-use Rattle.sheet.specs.Sheet.{sheetWords, wordsOk}
+use Rattle.sheet.specs.Sheet.{wordsOk}
+use Rattle.sheet.specs.Places.{sheetWords}
 use Rattle.memory.proofs.Parts.{part-length}
 use borrow.Author.Needs.{needs}
 use Rattle.judging.proofs.words_at_ok.Statement.{statement}

@@ -1,7 +1,7 @@
 -- `copy_sheet` meets its contract. Assumes nothing.
 use Rattle.keeping.proofs.Writes.{copied-more, copied-whole}
 use Rattle.memory.specs.Layout.{part}
-use Rattle.sheet.specs.Sheet.{sheetWords}
+use Rattle.sheet.specs.Places.{sheetWords}
 use lib.Seq.{sets, length-sets}
 use lib.ListN.{length, take}
 use Prim.Native.Nat.{_-_, _≤_}

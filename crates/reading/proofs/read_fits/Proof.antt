@@ -3,7 +3,7 @@ use mathlib.Core.Path.{_≡_, sym, ap, _∙_}
 use Rattle.text.specs.Field.{begins}
 use Rattle.sheet.specs.Lines.{fittings}
 use Rattle.sheet.specs.Reading.{fitByte}
-use Rattle.text.proofs.Stores.{rest-part}
+use Rattle.ground.proofs.Stores.{rest-part}
 use Rattle.text.proofs.Line.{extent}
 use Rattle.reading.proofs.FitsLoop.{State, start, kept, length-zeros, full, stop, place-in, fault, line-low, line-high, step}
 use Prim.Native.Nat.{_-_, _≤_}

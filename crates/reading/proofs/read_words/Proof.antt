@@ -1,5 +1,6 @@
 -- `read_words` meets its contract. Assumes nothing.
-use Rattle.sheet.specs.Sheet.{limitRows, sheetLimits, limitsOn, textWords}
+use Rattle.sheet.specs.Sheet.{limitRows, sheetLimits, limitsOn}
+use Rattle.sheet.specs.Places.{textWords}
 use mathlib.Core.Path.{refl, ap, _∙_}
 use Rattle.reading.proofs.ReadCall.{reads-long, lines-in, reads-broken, reads-rest, rest-in}
 use Rattle.sheet.proofs.Whole.{rest-zeros}

@@ -6,7 +6,7 @@ use Prim.Native.Nat.{_≤_}
 use lib.ListN.{length, getD}
 use Rattle.text.specs.Field.{begins}
 use Rattle.text.specs.Limit.{limitOf}
-use Rattle.text.proofs.Stores.{rest-part}
+use Rattle.ground.proofs.Stores.{rest-part}
 use Rattle.text.proofs.Field.{field-most}
 use Rattle.text.proofs.Limit.{within-high}
 use Rattle.text.proofs.Entry.{dash-some, dash-ended, dash-unended, no-number, unended, outside, taken}

@@ -7,7 +7,7 @@ use lib.ListN.{length}
 use lib.Seq.{length-sets}
 use Rattle.text.specs.Quoted.{tab, feed}
 use Rattle.text.specs.Line.{readEntry}
-use Rattle.text.proofs.Stores.{rest-part}
+use Rattle.ground.proofs.Stores.{rest-part}
 use Rattle.text.proofs.Reading.{State, start, done, fault-in, step-in, fault, step}
 use native.Mathlib.Omega.{arith}
 use borrow.Author.Needs.{needs}

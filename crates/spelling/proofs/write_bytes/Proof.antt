@@ -1,5 +1,5 @@
 -- `write_bytes` meets its contract. Assumes nothing.
-use Rattle.text.proofs.Stores.{sets-take, sets-enough}
+use Rattle.ground.proofs.Stores.{sets-take, sets-enough}
 use lib.Seq.{sets, length-sets}
 use lib.ListN.{length, take}
 use Prim.Native.Nat.{_≤_, _-_}

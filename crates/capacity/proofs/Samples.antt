@@ -1,0 +1,128 @@
+-- The plates computed: the starred samples of 01, cases 1 to 7, as one statement over one list of them; one table of our own cases, the whole answer of each; the words'
+-- names; and each factor of the volume and row of the power table. Assumes nothing.
+use mathlib.Core.Path.{_≡_, refl}
+use mathlib.Core.Bool.{Bool, true, false, _&&_}
+use mathlib.Core.List.{List, [], _∷_, _++_, map}
+use Prim.Native.Nat.{ℕ, _+_, _*_}
+use lib.ListN.{getD, replicate}
+use Rattle.text.specs.Quoted.{bytes}
+use Rattle.text.specs.Field.{fieldOf, agreed}
+use Rattle.text.specs.Number.{restOf, numberOf}
+use Rattle.text.specs.Limit.{allHold}
+use Rattle.text.specs.Line.{readEntry, readNumbers, readLine}
+use Rattle.text.proofs.Examples.{upFrom}
+use Rattle.answers.specs.declared.Answer.the-variants.{Refused}
+use Rattle.sheet.specs.Sheet.{limitsOn, sheetLimits}
+use Rattle.sheet.specs.Reading.{readLines, readFits, readEnd, readRest, readSheet}
+use Rattle.capacity.specs.Words.{hullLength, reference, transomWidth, transomHeight, flatBottom, remote, station, aft, well, flooding, bare, fuel, machinery, outboard, declared, positions, tested, fittingsOf}
+use Rattle.capacity.specs.Volume.{stationProduct, summed, volumeN, netZ}
+use Rattle.capacity.specs.Weights.{addedUp, boatM}
+use Rattle.capacity.specs.PlateC.{exactX, markedC, rising, rowsRight, rowFor, noRow, engineWeight, liveLoad, persons, untested, plateC}
+use Rattle.capacity.specs.PlateA.{inboardX, loadX, markedA, rowWatts, beforeWatts, formulaWatts, powerA, plateA}
+use Rattle.capacity.specs.PlateU.{ruleU, markedU, plateU}
+use Rattle.capacity.specs.Bounds.{heaviest}
+use Rattle.capacity.specs.Samples.{words, seated, load, power, inboard, Case, marks, agrees, refuses, second-is, answer-c, holds-of, stands, cases}
+use Rattle.capacity.proofs.Boats.{Told, answered, all-within, massed, stationed, launch, transom, bare-boat, driven, seats}
+use Rattle.capacity.proofs.CasesA.{casesA}
+use Rattle.capacity.proofs.CasesC.{loadsC, rowsC, ordersC}
+use Rattle.capacity.proofs.CasesU.{casesU}
+
+-- ---- 01's
+
+all-stand : List Case → Bool
+all-stand [] = true
+all-stand (c ∷ cs) = stands c && all-stand cs
+
+starred : all-stand cases ≡ true
+unfolding all-stand stands cases holds-of answer-c marks agrees refuses second-is seated load power inboard words allHold sheetLimits limitsOn stationProduct volumeN netZ addedUp boatM exactX markedC rising rowsRight rowFor noRow engineWeight liveLoad persons untested plateC inboardX loadX markedA formulaWatts powerA plateA
+starred = refl
+
+-- a load is marked though the plate is refused for another reason, which is 13 or more
+refused-right : map (λ (m : ℕ). agrees (Refused m) 1) (12 ∷ 13 ∷ []) ≡ false ∷ true ∷ []
+unfolding agrees
+refused-right = refl
+
+-- the base hull's length, reference length, width, flat bottom and remote steering
+hull : List ℕ
+hull = 4500 ∷ 4000 ∷ 1200 ∷ 0 ∷ 1 ∷ []
+
+-- what each of them is a case of: declared power, bare boat, fitting; length, reference length, width, flat bottom, remote steering
+told : Case → List ℕ
+told c = declared (c .sheet) ∷ bare (c .sheet) ∷ getD (fittingsOf (c .sheet)) 0 0 ∷ hullLength (c .sheet) ∷ reference (c .sheet) ∷ transomWidth (c .sheet) ∷ flatBottom (c .sheet) ∷ remote (c .sheet) ∷ []
+
+cases-told :
+    map told cases
+    ≡ (20000 ∷ 200000 ∷ 0 ∷ hull) ∷ (20000 ∷ 200000 ∷ 0 ∷ hull)
+    ∷ (1500 ∷ 200000 ∷ 0 ∷ hull) ∷ (1501 ∷ 200000 ∷ 0 ∷ hull)
+    ∷ (20000 ∷ 200000 ∷ 3333 ∷ hull) ∷ (20000 ∷ 200000 ∷ 3334 ∷ hull) ∷ (20000 ∷ 200000 ∷ 3334 ∷ hull)
+    ∷ (20000 ∷ 1828333 ∷ 0 ∷ hull) ∷ (20000 ∷ 1828334 ∷ 0 ∷ hull) ∷ (20000 ∷ 1828334 ∷ 0 ∷ hull)
+    ∷ replicate 2 (20000 ∷ 200000 ∷ 0 ∷ 4500 ∷ 4000 ∷ 1200 ∷ 0 ∷ 0 ∷ [])
+    ++ ((20000 ∷ 200000 ∷ 0 ∷ 2250 ∷ 2250 ∷ 1000 ∷ 0 ∷ 0 ∷ []) ∷ (20000 ∷ 200000 ∷ 0 ∷ 2251 ∷ 2250 ∷ 1000 ∷ 0 ∷ 0 ∷ []) ∷ (20000 ∷ 200000 ∷ 0 ∷ 2250 ∷ 2250 ∷ 1000 ∷ 1 ∷ 0 ∷ [])
+    ∷ (20000 ∷ 200000 ∷ 0 ∷ 4100 ∷ 4000 ∷ 1250 ∷ 0 ∷ 1 ∷ [])
+    ∷ [])
+unfolding told cases hull seated load power inboard words
+cases-told = refl
+
+-- and the other boats are the base hull but for what they are about
+boats-right : (power 4000 4500 1200 0 1 ≡ load 20000 200000 0) × (inboard ≡ massed 0 20000 200000 20000 50000)
+unfolding seated load power inboard massed words
+boats-right = (refl, refl)
+
+-- the base hull is that of 01's printed sheet
+printed : List ℕ
+printed =
+    bytes "HULL\t0\nFORM\t4500\t4000\t1200\t500\t0\t1\nSTN\tQ\t1000\t500\t500\t500\t500\t500\t500\nSTN\tR\t1000\t500\t500\t500\t500\t500\t500\nSTN\tS\t1000\t500\t500\t500\t500\t500\t500\nSTN\tT\t1000\t500\t500\t500\t500\t500\t500\n"
+    ++ bytes "VOL\t0\t0\t0\nMASS\t200000\t0\t0\nPWR\t1\t20000\nSEAT\t5\t3\nFIT\t1\t3334\nEND\n"
+
+base-right : readSheet printed .numbers ≡ 0 ∷ seated 3 20000 200000 3334
+unfolding printed seated words readSheet readLines readLine agreed readNumbers readEntry fieldOf numberOf restOf readRest readFits readEnd
+base-right = refl
+
+-- ---- ours
+
+table : List Told
+table = casesA ++ (loadsC ++ (rowsC ++ (ordersC ++ casesU)))
+
+-- every plate of the table answers as it must, and every sheet is within the limits
+plates-right : (map answered table ≡ map (λ (t : Told). t .must) table) × (all-within table ≡ true)
+unfolding table casesA loadsC rowsC ordersC casesU all-within massed stationed launch transom bare-boat driven seats upFrom seated load power inboard words allHold sheetLimits limitsOn stationProduct volumeN netZ addedUp boatM exactX markedC rising rowsRight rowFor noRow engineWeight liveLoad persons untested plateC inboardX loadX markedA formulaWatts powerA plateA ruleU markedU plateU
+plates-right = (refl, refl)
+
+-- ---- the words
+
+-- by name, in the order of the text
+named : List ℕ → List ℕ
+named s =
+    hullLength s ∷ reference s ∷ transomWidth s ∷ transomHeight s ∷ flatBottom s ∷ remote s
+    ∷ (station s 0 ++ (station s 1 ++ (station s 2 ++ (station s 3
+    ++ (aft s ∷ well s ∷ flooding s ∷ bare s ∷ fuel s ∷ machinery s ∷ outboard s ∷ declared s ∷ positions s ∷ tested s ∷ fittingsOf s)))))
+
+-- each at its place, and 0 where the list has none
+names-right : (named (upFrom 68 0) ≡ upFrom 68 0) × (named [] ≡ replicate 16 0)
+unfolding named upFrom
+names-right = (refl, refl)
+
+-- ---- each depth and each station by its own factor, and N of the largest hull that a sheet can have
+
+shares-right : (map stationProduct ((1 ∷ 1 ∷ 10 ∷ 100 ∷ 1000 ∷ 10000 ∷ 100000 ∷ []) ∷ (1 ∷ []) ∷ []) ≡ 224241 ∷ 0 ∷ []) × (summed 1 1 10 100 1000 ≡ 1424) × (stationProduct (4000 ∷ replicate 6 2500) ≡ 150000000) × (summed 6000 150000000 150000000 150000000 150000000 ≡ 9900000000000)
+unfolding stationProduct
+shares-right = (refl, refl, refl, refl)
+
+-- ---- the heaviest boat that a sheet can have, an inboard of plate A
+
+heavy : List ℕ
+heavy = replicate 37 0 ++ (2000000 ∷ 500000 ∷ 500000 ∷ 0 ∷ 0 ∷ 1 ∷ 0 ∷ replicate 24 500000)
+
+heaviest-right : boatM heavy + 5 * (fuel heavy + machinery heavy) ≡ heaviest
+unfolding heavy boatM addedUp
+heaviest-right = refl
+
+-- ---- the ends of the table's rows, and one above each; above the last there is no row
+
+ends : List ℕ
+ends = 2250000 ∷ 2250001 ∷ 3300000 ∷ 3300001 ∷ 3600000 ∷ 3600001 ∷ 3900000 ∷ 3900001 ∷ 4200000 ∷ 4200001 ∷ 5000000 ∷ 5000001 ∷ []
+
+rows-right : (map rowWatts ends ≡ 1500 ∷ 3000 ∷ 3000 ∷ 4000 ∷ 4000 ∷ 5250 ∷ 5250 ∷ 7500 ∷ 7500 ∷ 12000 ∷ 12000 ∷ 0 ∷ [])
+    × (map beforeWatts ends ≡ 0 ∷ 1500 ∷ 1500 ∷ 3000 ∷ 3000 ∷ 4000 ∷ 4000 ∷ 5250 ∷ 5250 ∷ 7500 ∷ 7500 ∷ 12000 ∷ [])
+unfolding ends rowFor
+rows-right = (refl, refl)

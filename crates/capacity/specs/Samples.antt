@@ -1,0 +1,124 @@
+-- 01, Sample sheets: the base hull, what a case changes of it and what it says. Starred cases 1 to 7, which are of a sheet. Assumes nothing: these are definitions.
+use mathlib.Core.Bool.{Bool, false, _&&_}
+use mathlib.Core.List.{List, [], _∷_, _++_}
+use Prim.Native.Nat.{ℕ}
+use lib.Dec.{eqb, leb}
+use lib.IntN.{ℤ, pos, negsuc}
+use lib.ListN.{replicate}
+use Rattle.answers.specs.declared.Answer.{Answer}
+use Rattle.answers.specs.declared.Answer.the-variants.{Refused, Done, Count, Plate}
+use Rattle.sheet.specs.Sheet.{wordsOk}
+use Rattle.capacity.specs.PlateC.{markedC, plateC}
+use Rattle.capacity.specs.PlateA.{markedA, plateA}
+
+-- ---- the base hull, and what a case changes of it
+
+pub record Hull : Type 0 where
+  pub long : ℕ
+  pub wide : ℕ
+  pub flat : ℕ
+  pub remote : ℕ
+  pub bare : ℕ
+  pub fuel : ℕ
+  pub machinery : ℕ
+  pub outboard : ℕ
+  pub declared : ℕ
+  pub tested : ℕ
+  pub fitting : ℕ
+
+-- every B is 1000 and every depth 500
+abbrev pub baseStation : List ℕ
+baseStation = 1000 ∷ replicate 6 500
+
+-- by the readings of station T, and by its reference length
+abbrev pub wordsTo : List ℕ → ℕ → Hull → List ℕ
+wordsTo t reference h =
+    h .long ∷ reference ∷ h .wide ∷ 500 ∷ h .flat ∷ h .remote
+    ∷ (baseStation ++ (baseStation ++ (baseStation ++ (t ++ (0 ∷ 0 ∷ 0 ∷ h .bare ∷ h .fuel ∷ h .machinery ∷ h .outboard ∷ h .declared ∷ 5 ∷ h .tested ∷ h .fitting ∷ replicate 23 0)))))
+
+-- reference length 4000, or the length where that is less
+unfoldable pub words : ℕ → Hull → List ℕ
+words = wordsTo baseStation
+
+unfoldable pub seated : ℕ → ℕ → ℕ → ℕ → List ℕ
+seated tested declared bare fitting =
+    words 4000 (record { long = 4500; wide = 1200; flat = 0; remote = 1; bare = bare; fuel = 0; machinery = 0; outboard = 1; declared = declared; tested = tested; fitting = fitting })
+
+unfoldable pub load : ℕ → ℕ → ℕ → List ℕ
+load = seated 0
+
+unfoldable pub power : ℕ → ℕ → ℕ → ℕ → ℕ → List ℕ
+power reference long wide flat remote =
+    words reference (record { long = long; wide = wide; flat = flat; remote = remote; bare = 200000; fuel = 0; machinery = 0; outboard = 1; declared = 20000; tested = 0; fitting = 0 })
+
+unfoldable pub inboard : List ℕ
+inboard = words 4000 (record { long = 4500; wide = 1200; flat = 0; remote = 0; bare = 200000; fuel = 20000; machinery = 50000; outboard = 0; declared = 20000; tested = 0; fitting = 0 })
+
+-- ---- what a case says of its sheet
+
+pub data Said : Type 0 where
+  loadC loadA powerA-is refusedC refusedA : ℕ → Said
+
+pub record Case : Type 0 where
+  pub sheet : List ℕ
+  pub said : Said
+
+unfoldable pub marks : ℤ → ℕ → Bool
+marks (pos m) n = eqb m n
+marks (negsuc m) n = false
+
+-- the marked load is that of the plate's answer, where the plate is not refused for another reason
+unfoldable pub agrees : Answer → ℕ → Bool
+agrees (Refused m) n = leb 13 m
+agrees Done n = false
+agrees (Count m) n = false
+agrees (Plate a b) n = eqb a n
+
+unfoldable pub refuses : Answer → ℕ → Bool
+refuses (Refused m) n = eqb m n
+refuses Done n = false
+refuses (Count m) n = false
+refuses (Plate a b) n = false
+
+unfoldable pub second-is : Answer → ℕ → Bool
+second-is (Refused m) n = false
+second-is Done n = false
+second-is (Count m) n = false
+second-is (Plate a b) n = eqb b n
+
+-- with rows that reach every declared power
+unfoldable pub answer-c : List ℕ → Answer
+answer-c s = plateC s (200000 ∷ []) (60000 ∷ [])
+
+unfoldable pub holds-of : List ℕ → Said → Bool
+holds-of s (loadC n) = marks (markedC s) n && agrees (answer-c s) n
+holds-of s (loadA n) = marks (markedA s) n && agrees (plateA s) n
+holds-of s (powerA-is n) = second-is (plateA s) n
+holds-of s (refusedC n) = refuses (answer-c s) n
+holds-of s (refusedA n) = refuses (plateA s) n
+
+-- a case stands: its sheet is within the limits, and what it says holds
+unfoldable pub stands : Case → Bool
+stands c = wordsOk (c .sheet) && holds-of (c .sheet) (c .said)
+
+abbrev pub case : List ℕ → Said → Case
+case s x = record { sheet = s; said = x }
+
+-- the starred cases but for 9, which is of a register
+unfoldable pub cases : List Case
+cases =
+    -- 1
+    case (load 20000 200000 0) (loadC 326) ∷ case (load 20000 200000 0) (loadA 327)
+    -- 2
+    ∷ case (load 1500 200000 0) (loadC 490) ∷ case (load 1501 200000 0) (loadC 326)
+    -- 3
+    ∷ case (load 20000 200000 3333) (loadC 326) ∷ case (load 20000 200000 3334) (loadC 325) ∷ case (load 20000 200000 3334) (loadA 326)
+    -- 4
+    ∷ case (load 20000 1828333 0) (loadC 1) ∷ case (load 20000 1828334 0) (refusedC 12) ∷ case (load 20000 1828334 0) (loadA 1)
+    -- 5
+    ∷ case inboard (loadA 257) ∷ case inboard (loadC 312)
+    -- 6
+    ∷ case (power 2250 2250 1000 0 0) (powerA-is 1500) ∷ case (power 2250 2251 1000 0 0) (powerA-is 3000) ∷ case (power 2250 2250 1000 1 0) (refusedA 13)
+    -- 7
+    ∷ case (power 4000 4100 1250 0 1) (powerA-is 15000)
+    ∷ []

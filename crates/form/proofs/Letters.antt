@@ -1,0 +1,90 @@
+-- The kind of a row, by its letter; and what raising a line leaves as it was.
+use mathlib.Core.Path.{_≡_, refl, sym, ap, _∙_}
+use mathlib.Core.Bool.{Bool, true, false, true≢false, _&&_}
+use mathlib.Core.List.{List, [], _∷_, _++_}
+use mathlib.Core.Option.{Option, none, some, Option·none-ne-some, Option·some-injective}
+use Prim.Native.Nat.{ℕ}
+use borrow.Author.Tests.{eq-eqb, eqb-true}
+use lib.Dec.{eqb, ltb}
+use lib.ListN.{length, getD}
+use Rattle.text.specs.Limit.{Limit}
+use Rattle.text.specs.Line.{Line, numbersText, lineText}
+use Rattle.ground.proofs.Booleans.{both-hold}
+use Rattle.text.proofs.EntryTrip.{narrow}
+use Rattle.form.specs.Parts.{letterOf, kindOf, risen, raised}
+use Rattle.form.specs.Reading.{kindAt}
+
+pub kind-letter : (ls : List Line) (b : ℕ) (l : Line) → kindOf ls b ≡ some l → b ≡ letterOf l
+unfolding kindOf
+kind-letter [] b l e = absurd (Option·none-ne-some l e)
+kind-letter (m ∷ ls) b l e = go (eqb b (letterOf m)) refl (kind-letter ls b l)
+  where
+    go : (u : Bool) → eqb b (letterOf m) ≡ u → (kindOf ls b ≡ some l → b ≡ letterOf l) → b ≡ letterOf l
+    go true d ih = eqb-true b (letterOf m) d ∙ ap letterOf (Option·some-injective m l (rw (d, kindOf) at e))
+    go false d ih = ih (rw (d, kindOf) at e)
+
+-- ---- lines that can be told and read back: a tag, and numbers of at most ten digits
+
+unfoldable pub lineMade : Line → Bool
+lineMade l = ltb 0 (length (l .tag)) && narrow (l .limits)
+
+abbrev pub absent : Option Line → Bool
+absent none = true
+absent (some l) = false
+
+-- and no two with one letter
+unfoldable pub kindsMade : List Line → Bool
+kindsMade [] = true
+kindsMade (l ∷ ls) = (lineMade l && absent (kindOf ls (letterOf l))) && kindsMade ls
+
+pub kind-made : (ls : List Line) (b : ℕ) (l : Line) → kindsMade ls ≡ true → kindOf ls b ≡ some l → lineMade l ≡ true
+unfolding kindOf kindsMade
+kind-made [] b l h e = absurd (Option·none-ne-some l e)
+kind-made (m ∷ ls) b l h e = let p = both-hold (lineMade m && absent (kindOf ls (letterOf m))) (kindsMade ls) h in go (eqb b (letterOf m)) refl (both-hold (lineMade m) (absent (kindOf ls (letterOf m))) (p .0) .0) (kind-made ls b l (p .1))
+  where
+    go : (u : Bool) → eqb b (letterOf m) ≡ u → lineMade m ≡ true → (kindOf ls b ≡ some l → lineMade l ≡ true) → lineMade l ≡ true
+    go true d h ih = rw (Option·some-injective m l (rw (d, kindOf) at e)) at h
+    go false d h ih = ih (rw (d, kindOf) at e)
+
+-- every kind is told by its letter
+pub kind-told : (ms : List Line) (l : Line) (ls : List Line) → kindsMade (ms ++ (l ∷ ls)) ≡ true → kindOf (ms ++ (l ∷ ls)) (letterOf l) ≡ some l
+unfolding kindOf kindsMade
+kind-told [] l ls h = rw (eq-eqb (letterOf l) (letterOf l) refl, kindOf)
+kind-told (m ∷ ms) l ls h =
+    let p = both-hold (lineMade m && absent (kindOf (ms ++ (l ∷ ls)) (letterOf m))) (kindsMade (ms ++ (l ∷ ls))) h in
+    go (eqb (letterOf l) (letterOf m)) refl (both-hold (lineMade m) (absent (kindOf (ms ++ (l ∷ ls)) (letterOf m))) (p .0) .1) (kind-told ms l ls (p .1))
+  where
+    go : (u : Bool) → eqb (letterOf l) (letterOf m) ≡ u → absent (kindOf (ms ++ (l ∷ ls)) (letterOf m)) ≡ true → kindOf (ms ++ (l ∷ ls)) (letterOf l) ≡ some l → kindOf (m ∷ (ms ++ (l ∷ ls))) (letterOf l) ≡ some l
+    go true d a ih = absurd (true≢false (sym (rw (← eqb-true (letterOf l) (letterOf m) d, ih) at a)))
+    go false d a ih = rw (d, kindOf) ih
+
+tag-at : (kinds : List Line) (tag x rest : List ℕ) → ltb 0 (length tag) ≡ true → kindAt kinds ((tag ++ x) ++ rest) ≡ kindOf kinds (getD tag 0 0)
+tag-at kinds [] x rest h = absurd (true≢false (sym h))
+tag-at kinds (b ∷ tag) x rest h = refl
+
+-- a line's text begins as the line's kind
+pub line-at : (kinds : List Line) (l : Line) (ns rest : List ℕ) → lineMade l ≡ true → kindAt kinds (lineText l ns ++ rest) ≡ kindOf kinds (letterOf l)
+unfolding lineMade
+line-at kinds l ns rest h = tag-at kinds (l .tag) (numbersText (l .limits) ns) rest (both-hold (ltb 0 (length (l .tag))) (narrow (l .limits)) h .0)
+
+-- ---- a raised line
+
+risen-text : (up : Bool) (next : ℕ) (ls : List Limit) (ns : List ℕ) → numbersText (risen up next ls) ns ≡ numbersText ls ns
+unfolding numbersText
+risen-text false next ls ns = refl
+risen-text true next [] ns = refl
+risen-text true next (l ∷ ls) [] = refl
+risen-text true next (l ∷ ls) (n ∷ ns) = refl
+
+pub raised-text : (up : Bool) (next : ℕ) (l : Line) (ns : List ℕ) → lineText (raised up next l) ns ≡ lineText l ns
+raised-text up next l ns = ap (λ (x : List ℕ). l .tag ++ x) (risen-text up next (l .limits) ns)
+
+risen-narrow : (up : Bool) (next : ℕ) (ls : List Limit) → narrow (risen up next ls) ≡ narrow ls
+unfolding narrow
+risen-narrow false next ls = refl
+risen-narrow true next [] = refl
+risen-narrow true next (l ∷ ls) = refl
+
+pub raised-narrow : (up : Bool) (next : ℕ) (l : Line) → lineMade l ≡ true → narrow (raised up next l .limits) ≡ true
+unfolding lineMade
+raised-narrow up next l h = risen-narrow up next (l .limits) ∙ both-hold (ltb 0 (length (l .tag))) (narrow (l .limits)) h .1

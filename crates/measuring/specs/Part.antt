@@ -1,0 +1,32 @@
+-- A part of a sheet's words, without its HULL number: those from one place up to another. Assumes nothing: these are definitions.
+use Prim.Native.Nat.{ℕ, _+_, _*_, _-_, _≤_, _<_}
+use mathlib.Core.Path.{_≡_}
+use mathlib.Core.Bool.{Bool, true}
+use mathlib.Core.List.{List, []}
+use lib.ListN.{getD, take, drop, replicate}
+use Rattle.text.specs.Limit.{allHold, limitOf, limitsOf, fromZero}
+use Rattle.sheet.specs.Sheet.{limitRows}
+use Rattle.sheet.specs.Places.{sheetWords}
+
+-- the rows of the table for the words
+abbrev pub wordRows : List (List ℕ)
+wordRows = drop 1 limitRows
+
+-- where the stations Q to T stand, seven words each, after the six of FORM; the line VOL follows as a fifth would
+abbrev pub stationAt : ℕ → ℕ
+stationAt k = 6 + 7 * k
+
+-- whether the words from a place up to an end are within their limits, with no word before them
+unfoldable pub partOk : List ℕ → ℕ → ℕ → Bool
+partOk ws at end = allHold (limitsOf (take (end - at) (drop at wordRows))) 0 (take (end - at) (drop at ws))
+
+-- places that the words have
+pub record WordPart (at end : ℕ) : Type 0 where
+  pub order : at < end
+  pub most : end ≤ sheetWords
+
+-- places whose rows are alike, with a range that goes down to 0
+pub record AlikePart (at end : ℕ) : Type 0 where
+  pub places : WordPart at end
+  pub alike : take (end - at) (drop at wordRows) ≡ replicate (end - at) (getD wordRows at [])
+  pub low : fromZero (limitOf (getD wordRows at [])) ≡ true

@@ -1,0 +1,108 @@
+// Whether the numbers of a sheet are within their limits: the quick check that the register and the writer make. Words of alike limits are judged together, by the greatest of them.
+ghost use mathlib.Core.Path.{_≡_};
+ghost use Prim.Native.Nat.{_+_, _<_};
+ghost use lib.ListN.{length};
+ghost use Rattle.sheet.specs.Sheet.{wordsOk, sheetOk};
+ghost use Rattle.sheet.specs.Places.{sheetWords, textWords};
+ghost use Rattle.measuring.specs.Part.{wordRows, stationAt, partOk, WordPart, AlikePart};
+use sheet::FITTED;
+use sheet::LIMITS;
+use sheet::SHEET_WORDS;
+use text::Limit;
+
+// Where lines start among the words, after FORM: the four stations, VOL, MASS.
+const STATION_Q: usize = 6;
+
+const STATION_WORDS: usize = 7;
+
+const STATIONS: usize = 4;
+
+const VOL: usize = STATION_Q + STATIONS * STATION_WORDS;
+
+const MASS: usize = VOL + 3;
+
+// Whether the words from a place up to an end are within their limits.
+fn part_ok(limits: &[Limit], words: &[u32], at: usize, end: usize) -> bool
+    requires { ⌜ (now limits ≡ wordRows) × (length (now words) ≡ sheetWords) × WordPart at end ⌝ }
+    ensures { λ r. ⌜ r ≡ partOk (now (words .entry)) at end ⌝ }
+{
+    spelling::all_hold(&limits[at..end], &words[at..end])
+}
+
+// The same of places whose limits are alike.
+fn run_ok(limits: &[Limit], words: &[u32], at: usize, end: usize) -> bool
+    requires { ⌜ (now limits ≡ wordRows) × (length (now words) ≡ sheetWords) × AlikePart at end ⌝ }
+    ensures { λ r. ⌜ r ≡ partOk (now (words .entry)) at end ⌝ }
+{
+    spelling::alike_hold(limits[at], &words[at..end])
+}
+
+// The same of a station, Q to T by its number: one word B, and six of alike limits.
+fn station_ok(limits: &[Limit], words: &[u32], station: usize) -> bool
+    requires { ⌜ (now limits ≡ wordRows) × (length (now words) ≡ sheetWords) × (station < 4) ⌝ }
+    ensures { λ r. ⌜ r ≡ partOk (now (words .entry)) (stationAt station) (stationAt station + 7) ⌝ }
+{
+    let at = STATION_Q + STATION_WORDS * station;
+    if run_ok(limits, words, at, at + 1) {
+        run_ok(limits, words, at + 1, at + STATION_WORDS)
+    } else {
+        false
+    }
+}
+
+// The same from the line VOL to the end: MASS, PWR and SEAT have limits of many kinds.
+fn from_vol(limits: &[Limit], words: &[u32]) -> bool
+    requires { ⌜ (now limits ≡ wordRows) × (length (now words) ≡ sheetWords) ⌝ }
+    ensures { λ r. ⌜ r ≡ partOk (now (words .entry)) (stationAt 4) sheetWords ⌝ }
+{
+    if run_ok(limits, words, VOL, MASS) {
+        if part_ok(limits, words, MASS, FITTED) {
+            return run_ok(limits, words, FITTED, SHEET_WORDS);
+        }
+    }
+    false
+}
+
+// The same from the first station to the end.
+fn from_stations(limits: &[Limit], words: &[u32]) -> bool
+    requires { ⌜ (now limits ≡ wordRows) × (length (now words) ≡ sheetWords) ⌝ }
+    ensures { λ r. ⌜ r ≡ partOk (now (words .entry)) (stationAt 0) sheetWords ⌝ }
+{
+    let mut station = 0;
+    while station < STATIONS {
+        if station_ok(limits, words, station) {
+            station += 1;
+        } else {
+            return false;
+        }
+    }
+    from_vol(limits, words)
+}
+
+// Whether the words of a sheet, without its HULL number, are within their limits.
+pub fn words_ok(words: &[u32]) -> bool
+    requires { ⌜ length (now words) ≡ sheetWords ⌝ }
+    ensures { λ r. ⌜ r ≡ wordsOk (now (words .entry)) ⌝ }
+{
+    // Lent on as a part of itself, it goes in registers and takes no stack (DECISIONS).
+    let words = &words[..];
+    let limits = LIMITS;
+    if part_ok(&limits[1..], words, 0, STATION_Q) {
+        from_stations(&limits[1..], words)
+    } else {
+        false
+    }
+}
+
+// Whether a sheet's numbers, its HULL number first, are within their limits.
+pub fn sheet_ok(sheet: &[u32]) -> bool
+    requires { ⌜ length (now sheet) ≡ textWords ⌝ }
+    ensures { λ r. ⌜ r ≡ sheetOk (now (sheet .entry)) ⌝ }
+{
+    let limits = LIMITS;
+    if spelling::all_hold(&limits[..1], &sheet[..1]) {
+        words_ok(&sheet[1..])
+    } else {
+        false
+    }
+}

@@ -1,2 +1,0 @@
--- The C face: an answer as C reads it.
-pub mod Face

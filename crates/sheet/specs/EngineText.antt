@@ -1,0 +1,42 @@
+-- 01, The sheet, on engine rows, as a form of text: ENG lines, one at least and forty at most, whose powers rise.
+use Prim.Native.Nat.{ℕ}
+use mathlib.Core.List.{List, [], _∷_, map}
+use lib.ListN.{getD}
+use Rattle.form.specs.Parts.{Part, Form, Row, Rows, lineRow, risingLines, letterOf}
+use Rattle.form.specs.Outcome.{Found, mapped}
+use Rattle.form.specs.Reading.{readForm}
+use Rattle.form.specs.Writing.{formText}
+use Rattle.sheet.specs.Lines.{engineLine, mostRows, mostBytes}
+
+abbrev pub enginePart : Part
+enginePart = risingLines 1 mostRows (engineLine 1)
+
+unfoldable pub engineForm : Form
+engineForm = record { parts = enginePart ∷ []; room = mostBytes }
+
+-- the rows of the one part
+abbrev pub onlyRows : List Rows → Rows
+onlyRows [] = []
+onlyRows (rs ∷ v) = rs
+
+-- ---- the rows' two columns
+
+abbrev pub powersOf : Rows → List ℕ
+powersOf rs = map (λ (r : Row). getD (r .numbers) 0 0) rs
+
+abbrev pub weightsOf : Rows → List ℕ
+weightsOf rs = map (λ (r : Row). getD (r .numbers) 1 0) rs
+
+-- the rows of two columns, as far as there are both
+unfoldable pub engineRows : List ℕ → List ℕ → Rows
+engineRows [] ws = []
+engineRows (p ∷ ps) [] = []
+engineRows (p ∷ ps) (w ∷ ws) = lineRow (letterOf (engineLine 1)) (p ∷ w ∷ []) ∷ engineRows ps ws
+
+-- ---- reading and writing
+
+unfoldable pub readEngines : List ℕ → Found Rows
+readEngines t = mapped onlyRows (readForm engineForm t)
+
+unfoldable pub enginesText : List ℕ → List ℕ → List ℕ
+enginesText ps ws = formText engineForm (engineRows ps ws ∷ [])

@@ -1,0 +1,74 @@
+-- 01, The sheet, as a form of text: ten lines, up to 24 FIT lines whose line numbers rise, END. What a sheet's text says as the sheet's numbers, and the one text of a sheet.
+use Prim.Native.Nat.{ℕ, suc, _-_}
+use mathlib.Core.Bool.{true, false}
+use mathlib.Core.List.{List, [], _∷_, _++_}
+use lib.Dec.{eqb}
+use lib.ListN.{length, take, drop, getD, replicate}
+use Rattle.text.specs.Line.{Line}
+use Rattle.form.specs.Parts.{Part, Form, Rows, lineRow, oneLine, risingLines, letterOf, numbersOf}
+use Rattle.form.specs.Outcome.{Found, mapped}
+use Rattle.form.specs.Reading.{readForm}
+use Rattle.form.specs.Writing.{formText}
+use Rattle.sheet.specs.Lines.{lines, fittings, fitLine, endLine, mostBytes}
+
+-- ---- the form
+
+abbrev pub fitPart : Part
+fitPart = risingLines 0 fittings (fitLine 1)
+
+-- a part for each of the lines, one line each, and then ps
+abbrev pub eachOnce : List Line → List Part → List Part
+eachOnce [] ps = ps
+eachOnce (l ∷ ls) ps = oneLine l ∷ eachOnce ls ps
+
+unfoldable pub sheetForm : Form
+sheetForm = record { parts = eachOnce lines (fitPart ∷ oneLine endLine ∷ []); room = mostBytes }
+
+-- ---- FIT rows and the weight on each fitting line, 0 for an empty one
+
+-- the weights from line number next on
+unfoldable pub weightsFrom : ℕ → Rows → List ℕ
+weightsFrom next [] = replicate (suc fittings - next) 0
+weightsFrom next (r ∷ rs) =
+    replicate (getD (r .numbers) 0 0 - next) 0
+    ++ (getD (r .numbers) 1 0 ∷ weightsFrom (suc (getD (r .numbers) 0 0)) rs)
+
+-- the rows of the weights on the lines from n on
+unfoldable pub fitRows : ℕ → List ℕ → Rows
+fitRows n [] = []
+fitRows n (w ∷ ws) =
+    elim (eqb w 0) [
+      | true ↦ fitRows (suc n) ws
+      | false ↦ lineRow (letterOf (fitLine 1)) (n ∷ w ∷ []) ∷ fitRows (suc n) ws
+    ]
+
+-- ---- a sheet's rows and its numbers
+
+unfoldable pub fitsOf : List Rows → List ℕ
+fitsOf [] = []
+fitsOf (rs ∷ v) = weightsFrom 1 rs
+
+unfoldable pub numbersOn : List Line → List Rows → List ℕ
+numbersOn [] v = fitsOf v
+numbersOn (l ∷ ls) [] = []
+numbersOn (l ∷ ls) (rs ∷ v) = numbersOf rs ++ numbersOn ls v
+
+abbrev pub sheetOf : List Rows → List ℕ
+sheetOf v = numbersOn lines v
+
+unfoldable pub rowsOn : List Line → List ℕ → List Rows
+rowsOn [] s = fitRows 1 s ∷ (lineRow (letterOf endLine) [] ∷ []) ∷ []
+rowsOn (l ∷ ls) s =
+    (lineRow (letterOf l) (take (length (l .limits)) s) ∷ [])
+    ∷ rowsOn ls (drop (length (l .limits)) s)
+
+abbrev pub rowsOf : List ℕ → List Rows
+rowsOf s = rowsOn lines s
+
+-- ---- reading and writing
+
+unfoldable pub readSheet : List ℕ → Found (List ℕ)
+readSheet t = mapped sheetOf (readForm sheetForm t)
+
+unfoldable pub sheetText : List ℕ → List ℕ
+sheetText s = formText sheetForm (rowsOf s)
