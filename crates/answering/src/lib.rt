@@ -9,16 +9,16 @@ ghost use Rattle.capacity.specs.Kinds.{kindA, kindC, kindU};
 ghost use Rattle.register.specs.Refusals.{hullRefusal, deskRefusal};
 ghost use Rattle.register.specs.Hulls.{freshAnswer, freshMemory, roomRefusal, newAnswer, newMemory, hullPlate, hullWritten, hullWrittenInto};
 ghost use Rattle.register.specs.Drafts.{openRefusal, openAnswer, openMemory, putRefusal, putAnswer, putMemory, takeRefusal, takeAnswer, takeMemory, replaceAnswer, replaceMemory, trial, saveRefusal, saveAnswer, saveMemory, dropAnswer, dropMemory};
+use answers::Answer;
+use answers::OUTSIDE_LIMITS;
 use memory::DESKS;
 use memory::MOST_EDITS;
 use memory::MOST_HULLS;
 use memory::REGISTER_WORDS;
-use answers::Answer;
 use sheet::FITTING_HIGH;
 use sheet::FITTING_LINES;
 use sheet::TEXT_WORDS;
 use text::LineRead;
-use answers::OUTSIDE_LIMITS;
 
 // The refusals that are the register's own.
 const BAD_MEMORY: u32 = 1;

@@ -1,2 +1,2 @@
 -- What holds of every answer and every promise.
-pub mod Outcomes -- one outcome; refusals of the list
+pub mod Outcomes  -- one outcome; refusals of the list

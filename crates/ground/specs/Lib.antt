@@ -1,2 +1,2 @@
 -- Words that definitions of every room share.
-pub mod Lists -- a list laid at the start of another
+pub mod Lists  -- a list laid at the start of another

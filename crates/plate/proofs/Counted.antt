@@ -14,7 +14,7 @@ use Rattle.io.proofs.Counting.{counts}
 use Rattle.answers.specs.Settled.{Settled}
 use Rattle.answers.specs.declared.Answer.{Answer}
 use Rattle.answers.specs.declared.Answer.the-variants.{Refused, Done, Count, Plate}
-use Rattle.sheet.proofs.Answer as answer
+use Rattle.answers.proofs.Answer as answer
 use Rattle.printout.specs.Printed.{printed, printAnswer, printInto}
 use Rattle.printout.proofs.Printed.{mostPrinted, printed-most}
 use Rattle.printout.proofs.PrintCall.{room-enough}

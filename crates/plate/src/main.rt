@@ -6,10 +6,10 @@ ghost use lib.ListN.{length, take};
 ghost use Rattle.io.specs.Counts.{Counts};
 ghost use Rattle.printout.specs.Printed.{printed};
 ghost use Rattle.plate.specs.Input.{bytesOf};
+use answers::Answer;
 use libc::STDIN_FILENO;
 use libc::STDOUT_FILENO;
 use printing::MOST_PRINTED;
-use answers::Answer;
 
 // One byte more than may be judged, so that an input that is too long is seen to be so.
 const ROOM: usize = 8193;

@@ -13,6 +13,7 @@ ghost use Rattle.sheet.specs.Calls.{readAnswer, readInto, enginesAnswer, column
 ghost use Rattle.ground.specs.Lists.{putFirst};
 ghost use Rattle.reading.specs.Steps.{reached, ReadsOn};
 use answers::Answer;
+use answers::NO_ROOM;
 use sheet::ENGINE_POWER_HIGH;
 use sheet::ENGINE_WEIGHT_HIGH;
 use sheet::FITTING_HIGH;
@@ -21,7 +22,6 @@ use sheet::FITTINGS;
 use sheet::LIMITS;
 use sheet::LINE_WORDS;
 use sheet::MOST_ROWS;
-use answers::NO_ROOM;
 use sheet::RowsRead;
 use sheet::TEXT_WORDS;
 use text::Limit;

@@ -3,9 +3,9 @@
 ghost use Prim.Native.Nat.{_≤_};
 ghost use lib.ListN.{length};
 ghost use Rattle.io.specs.Counts.{Counts};
+use answers::Answer;
 use libc::STDOUT_FILENO;
 use printing::MOST_PRINTED;
-use answers::Answer;
 
 // Lays piece in page from a place on, if there is room for it, and answers the place after it.
 fn add(piece: &[u8], page: &mut [u8], at: usize) -> usize

@@ -12,13 +12,13 @@ ghost use Rattle.text.specs.Number.{isDigit, numberOf, digitsOf};
 ghost use Rattle.text.specs.Limit.{orNone, limitOf, isNone, within, holds, allHold, limitsOf, fromZero};
 ghost use Rattle.text.specs.Line.{lineOf, readEntry, readNumbers, readLine, entryText, numbersText, lineText, Reads, Laid};
 use answers::BROKEN_LINE;
+use answers::OUTSIDE_LIMITS;
 use text::CAPPED;
 use text::EntryRead;
 use text::Limit;
 use text::LineRead;
 use text::NumberRead;
 use text::OR_NONE;
-use answers::OUTSIDE_LIMITS;
 use text::PLAIN;
 
 // The most digits that a number has.

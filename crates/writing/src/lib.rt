@@ -9,11 +9,11 @@ ghost use Rattle.sheet.specs.Sheet.{limitRows, linesText, fitText, fitsText, sh
 ghost use Rattle.sheet.specs.Places.{textWords};
 ghost use Rattle.sheet.specs.Calls.{writeAnswer, writeInto};
 use answers::Answer;
+use answers::NO_ROOM;
 use sheet::FITTING_HIGH;
 use sheet::FITTING_LINES;
 use sheet::LIMITS;
 use sheet::LINE_WORDS;
-use answers::NO_ROOM;
 use sheet::TEXT_WORDS;
 use text::Limit;
 use text::PLAIN;
