@@ -1,0 +1,24 @@
+-- `alike_hold` meets its contract. Assumes nothing.
+use mathlib.Core.Path.{sym, ap, _∙_}
+use lib.Dec.{leb}
+use Prim.Native.Nat.{ℕ}
+use Rattle.text.specs.Limit.{limitOf}
+use Rattle.text.proofs.Alike.{alike-holds}
+use borrow.Author.Needs.{needs}
+use Rattle.spelling.proofs.limits.alike_hold.Statement.{statement}
+use Rattle.spelling.proofs.limits.alike_hold.Tie as tie
+
+greatest-requires : tie.Need-greatest-requires
+greatest-requires c κs = search needs
+
+array-read-result : tie.Need-array-read-result
+array-read-result c = search needs
+
+returns : tie.Need-returns
+returns c =
+    let start = c .before .before in
+    let l = limitOf (start .args .t1) in
+    ap (λ (n : ℕ). leb n (l .high)) (c .greatest .ensures) ∙ sym (alike-holds l 0 (start .args .numbers .now) (start .pre))
+
+pub alike-hold-spec : {M : Type 1} → statement M
+alike-hold-spec = tie.close (tie.spec greatest-requires array-read-result returns)
