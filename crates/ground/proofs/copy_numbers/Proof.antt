@@ -15,38 +15,17 @@ Inv-loop numbers out₀ i₀ out i = (i ≤ length numbers) × (out ≡ sets out
 abbrev μ-loop : tie.MeasureT-loop
 μ-loop numbers out₀ i₀ out i = length numbers - i
 
-loop-holds : tie.Need-loop-holds Inv-loop μ-loop
-loop-holds c = (omega arith, refl)
-
-mul-out : tie.Need-mul-out Inv-loop μ-loop
-mul-out c = search needs
-
-shared-slice-read-out : tie.Need-shared-slice-read-out Inv-loop μ-loop
-shared-slice-read-out c = search needs
-
-mul-out-2 : tie.Need-mul-out-2 Inv-loop μ-loop
-mul-out-2 c = search needs
-
 slice-write-out : tie.Need-slice-write-out Inv-loop μ-loop
 slice-write-out c =
     let start = c .before .before .before in
     let at-loop = c .before .before in
     let e = ap length (at-loop .loop .inv .1) ∙ length-sets (start .args .out .now) 0 (take (at-loop .loop .i) (start .args .numbers .now)) in omega arith
 
-add-i : tie.Need-add-i Inv-loop μ-loop
-add-i c = search needs
-
-loop-less : tie.Need-loop-less Inv-loop μ-loop
-loop-less c = search needs
-
 loop-again : tie.Need-loop-again Inv-loop μ-loop
 loop-again c =
     let start = c .before .before .before in
     let at-loop = c .before .before in
     (omega arith, rw (at-loop .loop .inv .1) (sets-take (start .args .out .now) (start .args .numbers .now) (at-loop .loop .i) (c .before .loop-test .taken)))
-
-same-length : tie.Need-same-length Inv-loop μ-loop
-same-length c = ap length (c .before .loop .inv .1) ∙ simp length-sets
 
 returns : tie.Need-returns Inv-loop μ-loop
 returns c =
@@ -57,16 +36,6 @@ returns c =
 pub copy-numbers-spec : {M : Type 1} → statement M
 copy-numbers-spec =
     tie.close
-    (tie.spec
-    Inv-loop
-    μ-loop
-    loop-holds
-    mul-out
-    shared-slice-read-out
-    mul-out-2
-    slice-write-out
-    add-i
-    loop-less
-    loop-again
-    same-length
-    returns)
+    (tie.spec Inv-loop μ-loop (λ c. (omega arith, refl)) (λ c. search needs) (λ c. search needs) (λ c. search needs)
+    slice-write-out (λ c. search needs) (λ c. search needs) loop-again
+    (λ c. ap length (c .before .loop .inv .1) ∙ simp length-sets) returns)

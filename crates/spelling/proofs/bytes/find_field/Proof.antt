@@ -16,12 +16,6 @@ Inv-loop text i₀ i = (i ≤ length text) × Walked text i
 abbrev μ-loop : tie.MeasureT-loop
 μ-loop text i₀ i = length text - i
 
-loop-holds : tie.Need-loop-holds Inv-loop μ-loop
-loop-holds c = (omega arith, refl)
-
-shared-slice-read-if1 : tie.Need-shared-slice-read-if1 Inv-loop μ-loop
-shared-slice-read-if1 c = search needs
-
 slice-aggregate-result : tie.Need-slice-aggregate-result Inv-loop μ-loop
 slice-aggregate-result c =
     let h = c .before .before .before .before in sym (length-take-le (h .loop .i) (h .before .args .text .now) (h .loop .inv .0))
@@ -31,9 +25,6 @@ returns c =
     let at-loop-test = c .before .before .before in
     let h = c .before .before .before .before in
     walked-stop (h .before .args .text .now) (h .loop .i) (at-loop-test .loop-test .taken) (h .loop .inv .1) (simp (eq-eqb _ _ (c .before .if1 .taken)))
-
-shared-slice-read-if2 : tie.Need-shared-slice-read-if2 Inv-loop μ-loop
-shared-slice-read-if2 c = search needs
 
 slice-aggregate-result-2 : tie.Need-slice-aggregate-result-2 Inv-loop μ-loop
 slice-aggregate-result-2 c =
@@ -45,12 +36,6 @@ returns-2 c =
     let at-if1 = c .before .before .before in
     let h = c .before .before .before .before .before .before in
     walked-stop (h .before .args .text .now) (h .loop .i) (at-loop-test .loop-test .taken) (h .loop .inv .1) (simp (ne-eqb _ _ (at-if1 .if1 .left), eq-eqb _ _ (c .before .if2 .taken)))
-
-add-i : tie.Need-add-i Inv-loop μ-loop
-add-i c = search needs
-
-loop-less : tie.Need-loop-less Inv-loop μ-loop
-loop-less c = search needs
 
 loop-again : tie.Need-loop-again Inv-loop μ-loop
 loop-again c =
@@ -66,17 +51,6 @@ returns-3 c =
 pub find-field-spec : {M : Type 1} → statement M
 find-field-spec =
     tie.close
-    (tie.spec
-    Inv-loop
-    μ-loop
-    loop-holds
-    shared-slice-read-if1
-    slice-aggregate-result
-    returns
-    shared-slice-read-if2
-    slice-aggregate-result-2
-    returns-2
-    add-i
-    loop-less
-    loop-again
+    (tie.spec Inv-loop μ-loop (λ c. (omega arith, refl)) (λ c. search needs) slice-aggregate-result returns
+    (λ c. search needs) slice-aggregate-result-2 returns-2 (λ c. search needs) (λ c. search needs) loop-again
     returns-3)

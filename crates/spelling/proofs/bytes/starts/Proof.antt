@@ -6,9 +6,6 @@ use borrow.Author.Needs.{needs}
 use Rattle.spelling.proofs.bytes.starts.Statement.{statement}
 use Rattle.spelling.proofs.bytes.starts.Tie as tie
 
-shared-slice-read-result : tie.Need-shared-slice-read-result
-shared-slice-read-result c = search needs
-
 returns : tie.Need-returns
 returns c =
     let start = c .before in
@@ -20,4 +17,6 @@ returns-2 c =
     sym (begins-head (start .args .b) (start .args .text .now) (omega arith))
 
 pub starts-spec : {M : Type 1} → statement M
-starts-spec = tie.close (tie.spec shared-slice-read-result returns returns-2)
+starts-spec =
+    tie.close
+    (tie.spec (λ c. search needs) returns returns-2)

@@ -14,12 +14,6 @@ Inv-loop bytes out₀ end i₀ out i = (i ≤ end) × (out ≡ sets out₀ 0 (ta
 abbrev μ-loop : tie.MeasureT-loop
 μ-loop bytes out₀ end i₀ out i = end - i
 
-shorter-requires : tie.Need-shorter-requires Inv-loop μ-loop
-shorter-requires c κs = tt
-
-loop-holds : tie.Need-loop-holds Inv-loop μ-loop
-loop-holds c = (omega arith, refl)
-
 shared-slice-read-out : tie.Need-shared-slice-read-out Inv-loop μ-loop
 shared-slice-read-out c =
     let at-shorter = c .before .before .before in
@@ -30,12 +24,6 @@ slice-write-out c =
     let at-shorter = c .before .before .before in
     let start = c .before .before .before .before .before .before in
     omega (arith, at-shorter .shorter .ensures, c .before .loop-test .taken, ap length (c .before .before .loop .inv .1), length-sets (start .args .out .now) 0 (take (c .before .before .loop .i) (start .args .bytes .now)))
-
-add-i : tie.Need-add-i Inv-loop μ-loop
-add-i c = omega arith
-
-loop-less : tie.Need-loop-less Inv-loop μ-loop
-loop-less c = omega arith
 
 loop-again : tie.Need-loop-again Inv-loop μ-loop
 loop-again c =
@@ -56,15 +44,5 @@ returns c =
 pub write-bytes-spec : {M : Type 1} → statement M
 write-bytes-spec =
     tie.close
-    (tie.spec
-    Inv-loop
-    μ-loop
-    shorter-requires
-    loop-holds
-    shared-slice-read-out
-    slice-write-out
-    add-i
-    loop-less
-    loop-again
-    same-length
-    returns)
+    (tie.spec Inv-loop μ-loop (λ c κs. tt) (λ c. (omega arith, refl)) shared-slice-read-out slice-write-out
+    (λ c. omega arith) (λ c. omega arith) loop-again same-length returns)

@@ -8,12 +8,6 @@ use borrow.Author.Needs.{needs}
 use Rattle.spelling.proofs.limits.alike_hold.Statement.{statement}
 use Rattle.spelling.proofs.limits.alike_hold.Tie as tie
 
-greatest-requires : tie.Need-greatest-requires
-greatest-requires c κs = search needs
-
-array-read-result : tie.Need-array-read-result
-array-read-result c = search needs
-
 returns : tie.Need-returns
 returns c =
     let start = c .before .before in
@@ -21,4 +15,6 @@ returns c =
     ap (λ (n : ℕ). leb n (l .high)) (c .greatest .ensures) ∙ sym (alike-holds l 0 (start .args .numbers .now) (start .pre))
 
 pub alike-hold-spec : {M : Type 1} → statement M
-alike-hold-spec = tie.close (tie.spec greatest-requires array-read-result returns)
+alike-hold-spec =
+    tie.close
+    (tie.spec (λ c κs. search needs) (λ c. search needs) returns)

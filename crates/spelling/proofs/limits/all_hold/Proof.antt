@@ -20,30 +20,6 @@ returns c =
     let a = c .before .before .args in
     sym (hold-uneven (limitsOf (a .table .now)) 0 (a .numbers .now) (λ (e : length (limitsOf (a .table .now)) ≡ length (a .numbers .now)). c .if1 .taken (sym (length-limits (a .table .now)) ∙ e)))
 
-loop-holds : tie.Need-loop-holds Inv-loop μ-loop
-loop-holds c = (omega arith, refl)
-
-mul-n : tie.Need-mul-n Inv-loop μ-loop
-mul-n c = search needs
-
-shared-slice-read-n : tie.Need-shared-slice-read-n Inv-loop μ-loop
-shared-slice-read-n c = search needs
-
-mul-may-stand : tie.Need-mul-may-stand Inv-loop μ-loop
-mul-may-stand c = search needs
-
-shared-slice-copy-out-may-stand : tie.Need-shared-slice-copy-out-may-stand Inv-loop μ-loop
-shared-slice-copy-out-may-stand c = search needs
-
-may-stand-requires : tie.Need-may-stand-requires Inv-loop μ-loop
-may-stand-requires c κs = search needs
-
-add-k : tie.Need-add-k Inv-loop μ-loop
-add-k c = search needs
-
-loop-less : tie.Need-loop-less Inv-loop μ-loop
-loop-less c = search needs
-
 loop-again : tie.Need-loop-again Inv-loop μ-loop
 loop-again c =
     let start = c .before .before .before .before .before .before .before .before in
@@ -70,18 +46,6 @@ returns-3 c =
 pub all-hold-spec : {M : Type 1} → statement M
 all-hold-spec =
     tie.close
-    (tie.spec
-    Inv-loop
-    μ-loop
-    returns
-    loop-holds
-    mul-n
-    shared-slice-read-n
-    mul-may-stand
-    shared-slice-copy-out-may-stand
-    may-stand-requires
-    add-k
-    loop-less
-    loop-again
-    returns-2
-    returns-3)
+    (tie.spec Inv-loop μ-loop returns (λ c. (omega arith, refl)) (λ c. search needs) (λ c. search needs)
+    (λ c. search needs) (λ c. search needs) (λ c κs. search needs) (λ c. search needs) (λ c. search needs) loop-again
+    returns-2 returns-3)

@@ -6,25 +6,10 @@ use borrow.Author.Needs.{needs}
 use Rattle.spelling.proofs.limits.is_within.Statement.{statement}
 use Rattle.spelling.proofs.limits.is_within.Tie as tie
 
-array-read-low : tie.Need-array-read-low
-array-read-low c = search needs
-
-array-read-high : tie.Need-array-read-high
-array-read-high c = search needs
-
-array-read-rule : tie.Need-array-read-rule
-array-read-rule c = search needs
-
-cast-if1 : tie.Need-cast-if1
-cast-if1 c = search needs
-
 returns : tie.Need-returns
 returns c =
     let start = c .before in
     sym (within-below (limitOf (start .args .t1)) (start .args .last) (start .args .n) (c .if1 .taken))
-
-cast-if2 : tie.Need-cast-if2
-cast-if2 c = search needs
 
 returns-2 : tie.Need-returns-2
 returns-2 c =
@@ -59,15 +44,5 @@ returns-6 c =
 pub is-within-spec : {M : Type 1} → statement M
 is-within-spec =
     tie.close
-    (tie.spec
-    array-read-low
-    array-read-high
-    array-read-rule
-    cast-if1
-    returns
-    cast-if2
-    returns-2
-    returns-3
-    returns-4
-    returns-5
-    returns-6)
+    (tie.spec (λ c. search needs) (λ c. search needs) (λ c. search needs) (λ c. search needs) returns
+    (λ c. search needs) returns-2 returns-3 returns-4 returns-5 returns-6)

@@ -15,9 +15,6 @@ use borrow.Author.Needs.{needs}
 use Rattle.spelling.proofs.lines.read_entry.Statement.{statement}
 use Rattle.spelling.proofs.lines.read_entry.Tie as tie
 
-is-dash-requires : tie.Need-is-dash-requires
-is-dash-requires c κs = search needs
-
 sub-starts : tie.Need-sub-starts
 sub-starts c =
     let start = c .before .before .before in
@@ -27,12 +24,6 @@ part-starts-start : tie.Need-part-starts-start
 part-starts-start c =
     let start = c .before .before .before in
     omega (arith, dash-some (limitOf (start .args .l) .rule) (start .args .text .now) (sym (c .before .is-dash .ensures) ∙ c .if1 .taken))
-
-part-starts-end : tie.Need-part-starts-end
-part-starts-end c = search needs
-
-starts-requires : tie.Need-starts-requires
-starts-requires c κs = search needs
 
 returns : tie.Need-returns
 returns c =
@@ -48,18 +39,6 @@ returns-2 c =
     let at-if1 = c .before .before .before in
     sym (dash-unended (limitOf (start .args .l)) (start .args .last) (start .args .ender) (start .args .text .now) (sym (at-is-dash .is-dash .ensures) ∙ at-if1 .if1 .taken) (sym (ap (begins (start .args .ender)) (rest-part (start .args .text .now) 1)) ∙ sym (c .before .starts .ensures) ∙ c .if2 .left))
 
-find-field-requires : tie.Need-find-field-requires
-find-field-requires c κs = search needs
-
-read-number-requires : tie.Need-read-number-requires
-read-number-requires c κs = search needs
-
-enum-known-at : tie.Need-enum-known-at
-enum-known-at c = search needs
-
-enum-known-n : tie.Need-enum-known-n
-enum-known-n c = search needs
-
 sub-starts-2 : tie.Need-sub-starts-2
 sub-starts-2 c =
     let start = c .before .before .before .before .before .before .before .before in
@@ -72,15 +51,6 @@ part-starts-start-2 c =
     let at-find-field = c .before .before .before .before in
     omega (arith, field-most (start .args .text .now), ap length (at-find-field .find-field .ensures))
 
-part-starts-end-2 : tie.Need-part-starts-end-2
-part-starts-end-2 c = search needs
-
-starts-requires-2 : tie.Need-starts-requires-2
-starts-requires-2 c κs = search needs
-
-is-within-requires : tie.Need-is-within-requires
-is-within-requires c κs = search needs
-
 cast-t25 : tie.Need-cast-t25
 cast-t25 c =
     let start = c .before .before .before .before .before .before .before .before .before .before .before .before .before in
@@ -89,9 +59,6 @@ cast-t25 c =
     let h : at-n .n .given .0 .0 ≤ getD (a .l) 1 0 = within-high (limitOf (a .l)) (a .last) (at-n .n .given .0 .0) (sym (c .before .is-within .ensures) ∙ c .if4 .taken) in
     let k : Fits w32 (getD (a .l) 1 0) = search needs in
     omega arith
-
-add-t26 : tie.Need-add-t26
-add-t26 c = search needs
 
 returns-3 : tie.Need-returns-3
 returns-3 c =
@@ -137,26 +104,7 @@ returns-6 c =
 pub read-entry-spec : {M : Type 1} → statement M
 read-entry-spec =
     tie.close
-    (tie.spec
-    is-dash-requires
-    sub-starts
-    part-starts-start
-    part-starts-end
-    starts-requires
-    returns
-    returns-2
-    find-field-requires
-    read-number-requires
-    enum-known-at
-    enum-known-n
-    sub-starts-2
-    part-starts-start-2
-    part-starts-end-2
-    starts-requires-2
-    is-within-requires
-    cast-t25
-    add-t26
-    returns-3
-    returns-4
-    returns-5
-    returns-6)
+    (tie.spec (λ c κs. search needs) sub-starts part-starts-start (λ c. search needs) (λ c κs. search needs) returns
+    returns-2 (λ c κs. search needs) (λ c κs. search needs) (λ c. search needs) (λ c. search needs) sub-starts-2
+    part-starts-start-2 (λ c. search needs) (λ c κs. search needs) (λ c κs. search needs) cast-t25 (λ c. search needs)
+    returns-3 returns-4 returns-5 returns-6)

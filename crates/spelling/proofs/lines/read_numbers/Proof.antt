@@ -20,39 +20,6 @@ Inv-loop table text out₀ count k₀ last₀ at₀ out k last at = State table 
 abbrev μ-loop : tie.MeasureT-loop
 μ-loop table text out₀ count k₀ last₀ at₀ out k last at = count - k
 
-loop-holds : tie.Need-loop-holds Inv-loop μ-loop
-loop-holds c = (start _ _ _, refl)
-
-sub-ender-before : tie.Need-sub-ender-before Inv-loop μ-loop
-sub-ender-before c = search needs
-
-sub-ender-before-2 : tie.Need-sub-ender-before-2 Inv-loop μ-loop
-sub-ender-before-2 c = search needs
-
-ender-before-requires : tie.Need-ender-before-requires Inv-loop μ-loop
-ender-before-requires c κs = search needs
-
-mul-read-entry : tie.Need-mul-read-entry Inv-loop μ-loop
-mul-read-entry c = search needs
-
-shared-slice-copy-out-read-entry : tie.Need-shared-slice-copy-out-read-entry Inv-loop μ-loop
-shared-slice-copy-out-read-entry c = search needs
-
-sub-read-entry : tie.Need-sub-read-entry Inv-loop μ-loop
-sub-read-entry c = search needs
-
-part-read-entry-start : tie.Need-part-read-entry-start Inv-loop μ-loop
-part-read-entry-start c = search needs
-
-part-read-entry-end : tie.Need-part-read-entry-end Inv-loop μ-loop
-part-read-entry-end c = search needs
-
-read-entry-requires : tie.Need-read-entry-requires Inv-loop μ-loop
-read-entry-requires c κs = search needs
-
-enum-known-refusal : tie.Need-enum-known-refusal Inv-loop μ-loop
-enum-known-refusal c = search needs
-
 add-t22 : tie.Need-add-t22 Inv-loop μ-loop
 add-t22 c =
     let start = c .before .before .before .before .before .before .before .before .before .before .before in
@@ -77,12 +44,6 @@ returns c =
     let at-read-entry = c .before .before .before in
     fault (at-loop .loop .inv .0) (omega (arith, at-loop .loop .inv .1, at-loop-test .loop-test .taken)) (at-ender-before .ender-before .result) (at-ender-before .ender-before .ensures ∙ ap (λ (n : ℕ). cond (eqb (n - at-loop .loop .k - 1) 0) feed tab) (at-loop .loop .inv .1)) (sym (ap (readEntry _ _ _) (rest-part (start .args .text .now) (at-loop .loop .at))) ∙ sym (at-read-entry .read-entry .ensures) ∙ c .before .refusal .given .1)
 
-enum-known-n : tie.Need-enum-known-n Inv-loop μ-loop
-enum-known-n c = search needs
-
-store-number-requires : tie.Need-store-number-requires Inv-loop μ-loop
-store-number-requires c κs = search needs
-
 add-at : tie.Need-add-at Inv-loop μ-loop
 add-at c =
     let start = c .before .before .before .before .before .before .before .before .before .before .before .before .before .before .before in
@@ -93,12 +54,6 @@ add-at c =
     let at-n = c .before .before .before .before .before in
     let h = step-in (at-loop .loop .inv .0) (omega (arith, at-loop .loop .inv .1, at-loop-test .loop-test .taken)) (at-ender-before .ender-before .result) (at-ender-before .ender-before .ensures ∙ ap (λ (n : ℕ). cond (eqb (n - at-loop .loop .k - 1) 0) feed tab) (at-loop .loop .inv .1)) (sym (ap (readEntry _ _ _) (rest-part (start .args .text .now) (at-loop .loop .at))) ∙ sym (at-read-entry .read-entry .ensures) ∙ at-n .n .given .1) in
     omega arith
-
-add-k : tie.Need-add-k Inv-loop μ-loop
-add-k c = search needs
-
-loop-less : tie.Need-loop-less Inv-loop μ-loop
-loop-less c = search needs
 
 loop-again : tie.Need-loop-again Inv-loop μ-loop
 loop-again c =
@@ -121,28 +76,7 @@ returns-2 c =
 pub read-numbers-spec : {M : Type 1} → statement M
 read-numbers-spec =
     tie.close
-    (tie.spec
-    Inv-loop
-    μ-loop
-    loop-holds
-    sub-ender-before
-    sub-ender-before-2
-    ender-before-requires
-    mul-read-entry
-    shared-slice-copy-out-read-entry
-    sub-read-entry
-    part-read-entry-start
-    part-read-entry-end
-    read-entry-requires
-    enum-known-refusal
-    add-t22
-    same-length
-    returns
-    enum-known-n
-    store-number-requires
-    add-at
-    add-k
-    loop-less
-    loop-again
-    same-length-2
-    returns-2)
+    (tie.spec Inv-loop μ-loop (λ c. (start _ _ _, refl)) (λ c. search needs) (λ c. search needs)
+    (λ c κs. search needs) (λ c. search needs) (λ c. search needs) (λ c. search needs) (λ c. search needs)
+    (λ c. search needs) (λ c κs. search needs) (λ c. search needs) add-t22 same-length returns (λ c. search needs)
+    (λ c κs. search needs) add-at (λ c. search needs) (λ c. search needs) loop-again same-length-2 returns-2)

@@ -4,15 +4,6 @@ use borrow.Author.Needs.{needs}
 use Rattle.spelling.proofs.lines.write_line.Statement.{statement}
 use Rattle.spelling.proofs.lines.write_line.Tie as tie
 
-write-bytes-requires : tie.Need-write-bytes-requires
-write-bytes-requires c κs = search needs
-
-write-numbers-requires : tie.Need-write-numbers-requires
-write-numbers-requires c κs = search needs
-
-same-length : tie.Need-same-length
-same-length c = search needs
-
 returns : tie.Need-returns
 returns c =
     let start = c .before .before .before .before .before .before .before .before .before .before .before in
@@ -21,4 +12,5 @@ returns c =
 
 pub write-line-spec : {M : Type 1} → statement M
 write-line-spec =
-    tie.close (tie.spec write-bytes-requires write-numbers-requires same-length returns)
+    tie.close
+    (tie.spec (λ c κs. search needs) (λ c κs. search needs) (λ c. search needs) returns)

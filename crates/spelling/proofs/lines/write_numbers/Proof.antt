@@ -18,9 +18,6 @@ Inv-loop table numbers out₀ start count k₀ at₀ out k at = State table numb
 abbrev μ-loop : tie.MeasureT-loop
 μ-loop table numbers out₀ start count k₀ at₀ out k at = count - k
 
-loop-holds : tie.Need-loop-holds Inv-loop μ-loop
-loop-holds c = (begin _ _ _ _, refl)
-
 same-length : tie.Need-same-length Inv-loop μ-loop
 same-length c = ap length (c .before .before .loop .inv .0 .laid .laid) ∙ simp length-sets
 
@@ -30,35 +27,11 @@ returns c =
     let at-loop = c .before .before in
     done (at-loop .loop .inv .0) (numbers-out (start .args .table .now) (start .args .numbers .now) (at-loop .loop .k) (c .if1 .taken))
 
-mul-write-entry : tie.Need-mul-write-entry Inv-loop μ-loop
-mul-write-entry c = search needs
-
-shared-slice-copy-out-write-entry : tie.Need-shared-slice-copy-out-write-entry Inv-loop μ-loop
-shared-slice-copy-out-write-entry c = search needs
-
-mul-write-entry-2 : tie.Need-mul-write-entry-2 Inv-loop μ-loop
-mul-write-entry-2 c = search needs
-
-shared-slice-read-write-entry : tie.Need-shared-slice-read-write-entry Inv-loop μ-loop
-shared-slice-read-write-entry c = search needs
-
 write-entry-requires : tie.Need-write-entry-requires Inv-loop μ-loop
 write-entry-requires c κs =
     let start = c .before .before .before .before .before .before .before .before in
     let at-loop = c .before .before .before .before .before in
     omega (arith, start .pre, start .good, at-loop .loop .inv .0 .most, at-loop .loop .inv .1)
-
-sub-ender-before : tie.Need-sub-ender-before Inv-loop μ-loop
-sub-ender-before c = search needs
-
-sub-ender-before-2 : tie.Need-sub-ender-before-2 Inv-loop μ-loop
-sub-ender-before-2 c = search needs
-
-ender-before-requires : tie.Need-ender-before-requires Inv-loop μ-loop
-ender-before-requires c κs = search needs
-
-store-requires : tie.Need-store-requires Inv-loop μ-loop
-store-requires c κs = search needs
 
 add-at : tie.Need-add-at Inv-loop μ-loop
 add-at c =
@@ -71,12 +44,6 @@ add-at c =
     let at-ender-before = c .before .before .before in
     let s = step (at-loop .loop .inv .0) (omega (arith, at-loop .loop .inv .1, at-loop-test .loop-test .taken)) (at-if1 .if1 .left) (omega (arith, at-shared-slice-known2 .shared-slice-known2 .given (at-loop .loop .k))) (at-ender-before .ender-before .ensures ∙ ap (λ (n : ℕ). cond (eqb (n - at-loop .loop .k - 1) 0) feed tab) (at-loop .loop .inv .1)) (at-write-entry .write-entry .ensures) in
     omega (arith, s .most, s .k-in, start .pre, start .good)
-
-add-k : tie.Need-add-k Inv-loop μ-loop
-add-k c = search needs
-
-loop-less : tie.Need-loop-less Inv-loop μ-loop
-loop-less c = search needs
 
 loop-again : tie.Need-loop-again Inv-loop μ-loop
 loop-again c =
@@ -100,24 +67,7 @@ returns-2 c =
 pub write-numbers-spec : {M : Type 1} → statement M
 write-numbers-spec =
     tie.close
-    (tie.spec
-    Inv-loop
-    μ-loop
-    loop-holds
-    same-length
-    returns
-    mul-write-entry
-    shared-slice-copy-out-write-entry
-    mul-write-entry-2
-    shared-slice-read-write-entry
-    write-entry-requires
-    sub-ender-before
-    sub-ender-before-2
-    ender-before-requires
-    store-requires
-    add-at
-    add-k
-    loop-less
-    loop-again
-    same-length-2
-    returns-2)
+    (tie.spec Inv-loop μ-loop (λ c. (begin _ _ _ _, refl)) same-length returns (λ c. search needs) (λ c. search needs)
+    (λ c. search needs) (λ c. search needs) write-entry-requires (λ c. search needs) (λ c. search needs)
+    (λ c κs. search needs) (λ c κs. search needs) add-at (λ c. search needs) (λ c. search needs) loop-again
+    same-length-2 returns-2)

@@ -19,9 +19,6 @@ abbrev μ-loop : tie.MeasureT-loop
 returns : tie.Need-returns Inv-loop μ-loop
 returns c = sym (number-empty (c .before .before .args .f .now) (c .if1 .taken))
 
-shared-slice-read-if2 : tie.Need-shared-slice-read-if2 Inv-loop μ-loop
-shared-slice-read-if2 c = omega arith
-
 returns-2 : tie.Need-returns-2 Inv-loop μ-loop
 returns-2 c =
     let start = c .before .before .before .before .before in
@@ -36,21 +33,12 @@ returns-3 c =
     let h : 0 < length f = omega arith in
     sym (number-zero f h (c .before .if2 .taken) ∙ zero-led f h (c .if3 .left))
 
-shorter-requires : tie.Need-shorter-requires Inv-loop μ-loop
-shorter-requires c κs = search needs
-
 loop-holds : tie.Need-loop-holds Inv-loop μ-loop
 loop-holds c =
     let start = c .before .before .before .before .before in
     let f : List ℕ = start .args .f .now in
     let h : 0 < length f = omega arith in
     (omega arith, digits-none f h (c .before .if2 .left))
-
-shared-slice-read-b : tie.Need-shared-slice-read-b Inv-loop μ-loop
-shared-slice-read-b c = omega arith
-
-is-digit-requires : tie.Need-is-digit-requires Inv-loop μ-loop
-is-digit-requires c κs = search needs
 
 mul-n : tie.Need-mul-n Inv-loop μ-loop
 mul-n c =
@@ -59,9 +47,6 @@ mul-n c =
     let at-loop = c .before .before .before .before in
     let at = at-loop .loop in
     omega (arith, digits-nine (start .args .f .now) (at .n) (at .i) (at .inv .1) (omega (arith, at-shorter .shorter .ensures)))
-
-digit-requires : tie.Need-digit-requires Inv-loop μ-loop
-digit-requires c κs = search needs
 
 add-n : tie.Need-add-n Inv-loop μ-loop
 add-n c =
@@ -72,12 +57,6 @@ add-n c =
     let at = at-loop .loop in
     let e = sym (c .before .before .is-digit .ensures) ∙ c .before .if4 .taken in
     omega (arith, digits-nine f (at .n) (at .i) (at .inv .1) (omega (arith, at-shorter .shorter .ensures)), digit-high (getD f (at .i) 0) e, c .digit .ensures)
-
-add-i : tie.Need-add-i Inv-loop μ-loop
-add-i c = omega arith
-
-loop-less : tie.Need-loop-less Inv-loop μ-loop
-loop-less c = omega arith
 
 loop-again : tie.Need-loop-again Inv-loop μ-loop
 loop-again c =
@@ -113,23 +92,6 @@ returns-6 c =
 pub read-number-spec : {M : Type 1} → statement M
 read-number-spec =
     tie.close
-    (tie.spec
-    Inv-loop
-    μ-loop
-    returns
-    shared-slice-read-if2
-    returns-2
-    returns-3
-    shorter-requires
-    loop-holds
-    shared-slice-read-b
-    is-digit-requires
-    mul-n
-    digit-requires
-    add-n
-    add-i
-    loop-less
-    loop-again
-    returns-4
-    returns-5
-    returns-6)
+    (tie.spec Inv-loop μ-loop returns (λ c. omega arith) returns-2 returns-3 (λ c κs. search needs) loop-holds
+    (λ c. omega arith) (λ c κs. search needs) mul-n (λ c κs. search needs) add-n (λ c. omega arith) (λ c. omega arith)
+    loop-again returns-4 returns-5 returns-6)
