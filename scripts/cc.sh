@@ -1,5 +1,5 @@
 # Sourced after kit.sh by the scripts that build C: a compiler for x86-64, which the library is for, and an emulator where the processor is another.
-# Sets cc, cxx, static and emulator; installs what is missing where it may.
+# Sets cc, cxx, static, emulator and warnings; installs what is missing where it may.
 
 # Installs packages where a command is missing.
 ensure() { # COMMAND PACKAGE...
@@ -31,3 +31,13 @@ x86_64)
     ensure $emulator qemu-user
     ;;
 esac
+
+warnings='-Wall -Wextra -Wpedantic -Werror'
+
+# A C program, of C99 and without a warning.
+compile() { # OUT WORDS
+    out=$1
+    shift
+    # shellcheck disable=SC2086
+    $cc -std=c99 -O2 $warnings $static "$@" -o "$out"
+}

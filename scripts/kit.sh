@@ -1,4 +1,5 @@
 # Sourced by the other scripts: goes to the repository's top and sees that the Rattle kit is there.
+called_from=$PWD
 cd "$(dirname "$0")/.." || exit 1
 command -v rt >/dev/null 2>&1 || PATH=$PATH:/opt/rattle/bin
 command -v rt >/dev/null 2>&1 || {
@@ -6,15 +7,38 @@ command -v rt >/dev/null 2>&1 || {
     exit 2
 }
 
-# Proves and builds a program where that is still to be done, and prints nothing unless it fails.
-build() { # NAME
-    built=$(mktemp)
-    if ! rt check "$1" >"$built" 2>&1; then
-        cat "$built" >&2
-        rm -f "$built"
+# Runs a command whose words are of interest only where it fails.
+quietly() { # COMMAND...
+    heard=$(mktemp)
+    if ! "$@" >"$heard" 2>&1; then
+        cat "$heard" >&2
+        rm -f "$heard"
         return 1
     fi
-    rm -f "$built"
+    rm -f "$heard"
+}
+
+# Proves and builds a program where that is still to be done.
+build() { # NAME
+    quietly rt check "$1"
+}
+
+# A path as it was said where the script was called.
+absolute() { # PATH
+    case $1 in /* | '') printf '%s' "$1" ;; *) printf '%s' "$called_from/$1" ;; esac
+}
+
+# Sets archive to the one that ARCHIVE names, or to the library's own, proved and built where that is still to be done; prints nothing unless it fails.
+find_archive() {
+    archive=$(absolute "${ARCHIVE:-}")
+    if [ -z "$archive" ]; then
+        archive=$PWD/target/staticlib/libface.a
+        quietly rt staticlib face || return 1
+    fi
+    [ -f "$archive" ] || {
+        echo "${0##*/}: there is no $archive" >&2
+        return 1
+    }
 }
 
 # Runs a built program as rt does: by the kit's own loader and C library, and by its emulator on a processor that is not x86-64. With a COMMAND runs that
