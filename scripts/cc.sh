@@ -1,5 +1,5 @@
-# Sourced after kit.sh by the scripts that build C: a compiler for x86-64, which the library is for, and an emulator where the processor is another.
-# Sets cc, cxx, static, emulator and warnings; installs what is missing where it may.
+# Sourced after kit.sh by the scripts that build C: a compiler for x86-64, which the library is for, and an emulator
+# where the processor is another. Sets cc, cxx, static, emulator and warnings; installs what is missing where it may.
 
 # Installs packages where a command is missing.
 ensure() { # COMMAND PACKAGE...

@@ -28,7 +28,8 @@ absolute() { # PATH
     case $1 in /* | '') printf '%s' "$1" ;; *) printf '%s' "$called_from/$1" ;; esac
 }
 
-# Sets archive to the one that ARCHIVE names, or to the library's own, proved and built where that is still to be done; prints nothing unless it fails.
+# Sets archive to the one that ARCHIVE names, or to the library's own, proved and built where that is still to be done;
+# prints nothing unless it fails.
 find_archive() {
     archive=$(absolute "${ARCHIVE:-}")
     if [ -z "$archive" ]; then
@@ -41,8 +42,8 @@ find_archive() {
     }
 }
 
-# Runs a built program as rt does: by the kit's own loader and C library, and by its emulator on a processor that is not x86-64. With a COMMAND runs that
-# instead, and gives it the words that run the program.
+# Runs a built program as rt does: by the kit's own loader and C library, and by its emulator on a processor that is not
+# x86-64. With a COMMAND runs that instead, and gives it the words that run the program.
 program() { # NAME [COMMAND...]
     binary=target/bin/$1
     shift

@@ -1,6 +1,7 @@
 /*
- * Linked with examples/office.c by scripts/test-office, with the linker's --wrap for each call below: the calls to the system that touch files are
- * counted, and at the one numbered AT the run has the trouble that TROUBLE names.
+ * trouble.c: linked with examples/office.c by scripts/test-office, with the linker's --wrap for each call below. The
+ * calls to the system that touch files are counted, and at the one numbered AT the run has the trouble that TROUBLE
+ * names.
  */
 #define _POSIX_C_SOURCE 200809L
 #include <errno.h>
