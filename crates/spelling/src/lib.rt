@@ -1,4 +1,5 @@
-// Bytes to numbers and back: the field finder, the number reader and writer, and one reader and one writer for every line.
+// Bytes to numbers and back: the field finder, the number reader and writer, and one reader and one writer for every
+// line.
 mod bytes;
 mod limits;
 mod lines;

@@ -91,7 +91,8 @@ fn greatest(numbers: &[u32]) -> u32
     top
 }
 
-// Whether each of the numbers may stand by one limit, whose range goes down to 0, or to 1 with 0 for none: the greatest of them tells, so that the loop has no branch.
+// Whether each of the numbers may stand by one limit, whose range goes down to 0, or to 1 with 0 for none: the greatest
+// of them tells, so that the loop has no branch.
 pub fn alike_hold(l: Limit, numbers: &[u32]) -> bool
     requires { ⌜ fromZero (limitOf l) ≡ true ⌝ }
     ensures { λ r. ⌜ r ≡ allHold (replicate (length (now (numbers .entry))) (limitOf l)) 0 (now (numbers .entry)) ⌝ }

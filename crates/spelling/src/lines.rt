@@ -7,7 +7,8 @@ ghost use lib.ListN.{set};
 ghost use Rattle.text.specs.Field.{begins};
 ghost use Rattle.text.specs.Quoted.{tab, feed, dash};
 ghost use Rattle.text.specs.Limit.{orNone, limitOf, limitsOf};
-ghost use Rattle.text.specs.Line.{lineOf, readEntry, readNumbers, readLine, entryText, numbersText, lineText, Reads, Laid};
+ghost use Rattle.text.specs.Line.{lineOf, readEntry, readNumbers, readLine, entryText, numbersText, lineText, Reads};
+ghost use Rattle.text.specs.Line.{Laid};
 use crate::bytes::agreement;
 use crate::bytes::find_field;
 use crate::bytes::shorter;
@@ -85,7 +86,8 @@ fn store_number(out: &mut [u32], at: usize, n: u32)
 
 // Reads a number for each limit of the table from the start of text, stored in out as far as out goes.
 fn read_numbers(table: &[Limit], text: &[u8], out: &mut [u32]) -> LineRead
-    ensures { λ r. ⌜ Reads (readNumbers (limitsOf (now (table .entry))) 0 (now (text .entry))) (now (out .entry)) r (now (out .exit)) ⌝ }
+    ensures { λ r. ⌜ Reads (readNumbers (limitsOf (now (table .entry))) 0 (now (text .entry))) (now (out .entry)) r
+        (now (out .exit)) ⌝ }
 {
     let count = table.len();
     let mut k = 0;
@@ -108,9 +110,11 @@ fn read_numbers(table: &[Limit], text: &[u8], out: &mut [u32]) -> LineRead
     LineRead::Taken(at)
 }
 
-// Reads one line by its form from the start of text: the tag's bytes, then a number for each limit of the table, stored in out.
+// Reads one line by its form from the start of text: the tag's bytes, then a number for each limit of the table, stored
+// in out.
 pub fn read_line(tag: &[u8], table: &[Limit], text: &[u8], out: &mut [u32]) -> LineRead
-    ensures { λ r. ⌜ Reads (readLine (lineOf (now (tag .entry)) (now (table .entry))) (now (text .entry))) (now (out .entry)) r (now (out .exit)) ⌝ }
+    ensures { λ r. ⌜ Reads (readLine (lineOf (now (tag .entry)) (now (table .entry))) (now (text .entry)))
+        (now (out .entry)) r (now (out .exit)) ⌝ }
 {
     let size = tag.len();
     let same = agreement(tag, text);
@@ -136,10 +140,12 @@ fn write_entry(l: Limit, n: u32, out: &mut [u8], at: usize) -> usize
     at + write_number(&mut out[from..], n as u64)
 }
 
-// Writes numbers by the limits of the table, as far as there are both, from a place on, and answers the place after them.
+// Writes numbers by the limits of the table, as far as there are both, from a place on, and answers the place after
+// them.
 fn write_numbers(table: &[Limit], numbers: &[u32], out: &mut [u8], start: usize) -> usize
     requires { ⌜ start < 2 ^ 63 ⌝ }
-    ensures { λ r. ⌜ Laid (numbersText (limitsOf (now (table .entry))) (now (numbers .entry))) (now (out .entry)) start r (now (out .exit)) ⌝ }
+    ensures { λ r. ⌜ Laid (numbersText (limitsOf (now (table .entry))) (now (numbers .entry))) (now (out .entry)) start r
+        (now (out .exit)) ⌝ }
 {
     let count = table.len();
     let mut k = 0;
@@ -158,7 +164,8 @@ fn write_numbers(table: &[Limit], numbers: &[u32], out: &mut [u8], start: usize)
 
 // Writes one line by its form from the start of out, as far as out goes, and answers how long the line is.
 pub fn write_line(tag: &[u8], table: &[Limit], numbers: &[u32], out: &mut [u8]) -> usize
-    ensures { λ r. ⌜ Laid (lineText (lineOf (now (tag .entry)) (now (table .entry))) (now (numbers .entry))) (now (out .entry)) 0 r (now (out .exit)) ⌝ }
+    ensures { λ r. ⌜ Laid (lineText (lineOf (now (tag .entry)) (now (table .entry))) (now (numbers .entry)))
+        (now (out .entry)) 0 r (now (out .exit)) ⌝ }
 {
     write_bytes(tag, out);
     write_numbers(table, numbers, out, tag.len())

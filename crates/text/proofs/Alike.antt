@@ -13,7 +13,10 @@ use Rattle.ground.proofs.Stores.{drop-more}
 
 -- ---- the greatest, found number by number
 
-pub greatest-more : (ns : List ℕ) (i top next : ℕ) → i < length ns → next ≡ max top (getD ns i 0) → max next (foldr max 0 (drop (i + 1) ns)) ≡ max top (foldr max 0 (drop i ns))
+pub greatest-more : (ns : List ℕ) (i top next : ℕ)
+    → i < length ns
+    → next ≡ max top (getD ns i 0)
+    → max next (foldr max 0 (drop (i + 1) ns)) ≡ max top (foldr max 0 (drop i ns))
 greatest-more ns i top next h e = rw (drop-more ns i h) (omega (arith, e))
 
 pub greatest-done : (ns : List ℕ) (i top : ℕ) → length ns ≤ i → max top (foldr max 0 (drop i ns)) ≡ top
@@ -27,14 +30,19 @@ plain-holds high last n = rw (leb·zero n) (and-true (leb n high))
 or-none-holds : (low high last n : ℕ) → low ≤ 1 → holds (limit low high orNone) last n ≡ leb n high
 or-none-holds low high last zero h = sym (leb·zero high)
 or-none-holds low high last (suc n) h =
-    rw (ne-eqb (suc n) 0 (λ (z : suc n ≡ 0). omega arith), lt-ltb 0 (suc n) (omega arith), le-leb low (suc n) (omega arith)) (and-true (leb (suc n) high))
+    rw (
+      ne-eqb (suc n) 0 (λ (z : suc n ≡ 0). omega arith),
+      lt-ltb 0 (suc n) (omega arith),
+      le-leb low (suc n) (omega arith),
+    ) (and-true (leb (suc n) high))
 
 low-holds : (l : Limit) (last n : ℕ) → fromZero l ≡ true → holds l last n ≡ leb n (l .high)
 unfolding fromZero
 low-holds l last n f = go (eqb (l .rule) orNone) refl
   where
     go : (t : Bool) → eqb (l .rule) orNone ≡ t → holds l last n ≡ leb n (l .high)
-    go true e = rw (eqb-true (l .rule) orNone e) (or-none-holds (l .low) (l .high) last n (leb-true (l .low) 1 (rw e at f)))
+    go true e =
+        rw (eqb-true (l .rule) orNone e) (or-none-holds (l .low) (l .high) last n (leb-true (l .low) 1 (rw e at f)))
     go false e =
         let p = both-hold (eqb (l .rule) plain) (eqb (l .low) 0) (rw e at f) in
         rw (eqb-true (l .rule) plain (p .0), eqb-true (l .low) 0 (p .1)) (plain-holds (l .high) last n)
@@ -49,7 +57,10 @@ max-leb a b h = go (leb a h) (leb b h) refl refl
     go true false p q = lt-leb (max a b) h (omega (arith, leb-false b h q))
     go false t p q = lt-leb (max a b) h (omega (arith, leb-false a h p))
 
-pub alike-holds : (l : Limit) (last : ℕ) (ns : List ℕ) → fromZero l ≡ true → allHold (replicate (length ns) l) last ns ≡ leb (foldr max 0 ns) (l .high)
+pub alike-holds : (l : Limit) (last : ℕ) (ns : List ℕ)
+    → fromZero l ≡ true
+    → allHold (replicate (length ns) l) last ns ≡ leb (foldr max 0 ns) (l .high)
 unfolding allHold
 alike-holds l last [] f = sym (leb·zero (l .high))
-alike-holds l last (n ∷ ns) f = rw (low-holds l last n f, alike-holds l n ns f) (sym (max-leb n (foldr max 0 ns) (l .high)))
+alike-holds l last (n ∷ ns) f =
+    rw (low-holds l last n f, alike-holds l n ns f) (sym (max-leb n (foldr max 0 ns) (l .high)))

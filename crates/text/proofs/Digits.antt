@@ -1,4 +1,5 @@
--- The first digits of a field: how many they are tells whether one more may follow, so that a reader that counts them need not look at the number. Assumes nothing.
+-- The first digits of a field: how many they are tells whether one more may follow, so that a reader that counts them
+-- need not look at the number. Assumes nothing.
 use mathlib.Core.Path.{_≡_, refl, sym, ap, _∙_}
 use mathlib.Core.Logic.{_≢_}
 use mathlib.Core.Bool.{Bool, true, false, and-false}
@@ -12,7 +13,9 @@ use lib.ListN.{length, drop, getD}
 use Rattle.text.specs.declared.NumberRead.{NumberRead}
 use Rattle.text.specs.declared.NumberRead.the-variants.{Value, Malformed}
 use Rattle.text.specs.Number.{isDigit, nineDigits, restOf, numberOf, digitsIn, digitsOf}
-use Rattle.text.proofs.Number.{digit-low, digit-high, length-digits-small, length-digits-more, length-digits-mono, number-zero, zero-led, number-rest, rest-more, rest-stops, rest-end}
+use Rattle.text.proofs.Number.{digit-low, digit-high, length-digits-small, length-digits-more}
+use Rattle.text.proofs.Number.{length-digits-mono, number-zero, zero-led, number-rest, rest-more, rest-stops}
+use Rattle.text.proofs.Number.{rest-end}
 
 -- ---- how many digits
 
@@ -24,8 +27,10 @@ Long n (suc i) = (0 < n) × (length (digitsOf n) ≡ suc i)
 long-more : (n i d : ℕ) → Long n i → (i ≡ 0 → 0 < d) → d < 10 → Long (10 * n + d) (suc i)
 long-more n zero d g k l = let s = k refl in (omega (arith, g), length-digits-small (10 * n + d) (omega (arith, g)))
 long-more n (suc i) d g k l =
-    let q : (10 * n + d) / 10 ≡ n = omega arith in
-    (omega (arith, g .0), omega (arith, length-digits-more (10 * n + d) (omega (arith, g .0)), ap (λ (m : ℕ). length (digitsOf m)) q, g .1))
+    let q : (10 * n + d) / 10 ≡ n = omega arith in (
+      omega (arith, g .0),
+      omega (arith, length-digits-more (10 * n + d) (omega (arith, g .0)), ap (λ (m : ℕ). length (digitsOf m)) q, g .1),
+    )
 
 -- nineDigits is the last number of nine digits
 nine : length (digitsOf nineDigits) ≡ 9
@@ -42,7 +47,9 @@ long-nine n zero g h = omega (arith, g)
 long-nine n (suc i) g h = go (ltb nineDigits n) refl
   where
     go : (t : Bool) → ltb nineDigits n ≡ t → n ≤ nineDigits
-    go true e = let w = ltb-true nineDigits n e in absurd (omega (arith, length-digits-mono (nineDigits + 1) n (omega arith), ten, g .1))
+    go true e =
+        let w = ltb-true nineDigits n e in
+        absurd (omega (arith, length-digits-mono (nineDigits + 1) n (omega arith), ten, g .1))
     go false e = ltb-false nineDigits n e
 
 -- and none may follow ten
@@ -93,12 +100,18 @@ module _ (f : List ℕ) (n i : ℕ) (g : Digits f n i) where
 -- ---- a number has ten digits at most
 
 no-value : {A : Type 0} {r : NumberRead} {at n : ℕ} → r ≡ Malformed at → r ≡ Value n → A
-no-value {at = at} {n = n} e f = let z : _≡_ {A = NumberRead} (Malformed at) (Value n) = sym e ∙ f in let c : _≡_ {A = ℕ} 0 1 = cc in absurd (omega arith)
+no-value {at = at} {n = n} e f =
+    let z : _≡_ {A = NumberRead} (Malformed at) (Value n) = sym e ∙ f in
+    let c : _≡_ {A = ℕ} 0 1 = cc in
+    absurd (omega arith)
 
 -- k more digits make ten
 walk : (f : List ℕ) (m k n i : ℕ) → i + k ≡ 10 → 10 < length f → Digits f n i → numberOf f ≡ Value m → ⊥
 walk f m zero n i e h g v = no-value (digits-full f n i g (omega arith) (omega arith)) v
-walk f m (suc k) n i e h g v = go (isDigit (getD f i 0)) refl (λ d. walk f m k (10 * n + (getD f i 0 - 48)) (i + 1) (omega arith) h (digits-next f n i g (omega arith) (omega arith) d) v)
+walk f m (suc k) n i e h g v =
+    go (isDigit (getD f i 0)) refl
+    (λ d. walk f m k (10 * n + (getD f i 0 - 48)) (i + 1) (omega arith) h
+    (digits-next f n i g (omega arith) (omega arith) d) v)
   where
     go : (t : Bool) → isDigit (getD f i 0) ≡ t → (isDigit (getD f i 0) ≡ true → ⊥) → ⊥
     go true d next = next d
@@ -110,6 +123,9 @@ ten-most f n v = go (ltb 10 (length f)) (eqb (getD f 0 0) 48) refl refl
     go : (t u : Bool) → ltb 10 (length f) ≡ t → eqb (getD f 0 0) 48 ≡ u → length f ≤ 10
     go true true e w =
         let h = ltb-true 10 (length f) e in
-        no-value (number-zero f (omega arith) (eqb-true (getD f 0 0) 48 w) ∙ zero-led f (omega arith) (λ z. omega arith)) v
-    go true false e w = let h = ltb-true 10 (length f) e in absurd (walk f n 10 0 0 refl h (digits-none f (omega arith) (eqb-false (getD f 0 0) 48 w)) v)
+        no-value
+        (number-zero f (omega arith) (eqb-true (getD f 0 0) 48 w) ∙ zero-led f (omega arith) (λ z. omega arith)) v
+    go true false e w =
+        let h = ltb-true 10 (length f) e in
+        absurd (walk f n 10 0 0 refl h (digits-none f (omega arith) (eqb-false (getD f 0 0) 48 w)) v)
     go false u e w = ltb-false 10 (length f) e

@@ -24,11 +24,15 @@ dash-some rule t d = begins-some dash t (both-hold (eqb rule orNone) (begins das
 -- ---- each way through
 
 module _ (l : Limit) (last e : ℕ) (t : List ℕ) where
-  pub dash-ended : (eqb (l .rule) orNone && begins dash t) ≡ true → begins e (drop 1 t) ≡ true → readEntry l last e t ≡ Number 0 2
+  pub dash-ended : (eqb (l .rule) orNone && begins dash t) ≡ true
+      → begins e (drop 1 t) ≡ true
+      → readEntry l last e t ≡ Number 0 2
   unfolding readEntry
   dash-ended d b = rw (d, b)
 
-  pub dash-unended : (eqb (l .rule) orNone && begins dash t) ≡ true → begins e (drop 1 t) ≡ false → readEntry l last e t ≡ Misread 2 1
+  pub dash-unended : (eqb (l .rule) orNone && begins dash t) ≡ true
+      → begins e (drop 1 t) ≡ false
+      → readEntry l last e t ≡ Misread 2 1
   unfolding readEntry
   dash-unended d b = rw (d, b)
 
@@ -46,7 +50,9 @@ module _ (l : Limit) (last e : ℕ) (t : List ℕ) where
       unfolding readEntry
       outside b w = rw (d, ← q, v, b, w)
 
-      pub taken : begins e (drop (length f) t) ≡ true → within l last n ≡ true → readEntry l last e t ≡ Number n (length f + 1)
+      pub taken : begins e (drop (length f) t) ≡ true
+          → within l last n ≡ true
+          → readEntry l last e t ≡ Number n (length f + 1)
       unfolding readEntry
       taken b w = rw (d, ← q, v, b, w)
 
@@ -71,7 +77,10 @@ number-place (b ∷ s) at v = go (isDigit b) (eqb b 48) v
     alone [] w = let z : _≡_ {A = ℕ} 0 1 = cc in absurd (omega arith)
     alone (x ∷ s) w = let z : 1 ≡ at = cc in omega arith
 
-    go : (u z : Bool) → (elim u [ true ↦ elim z [ true ↦ zeroAlone s | false ↦ restOf (b - 48) 1 s ] | false ↦ Malformed 0 ]) ≡ Malformed at → at ≤ suc (length s)
+    go : (u z : Bool)
+        → (elim u [ true ↦ elim z [ true ↦ zeroAlone s | false ↦ restOf (b - 48) 1 s ] | false ↦ Malformed 0 ])
+        ≡ Malformed at
+        → at ≤ suc (length s)
     go true true w = alone s w
     go true false w = let h = rest-place (b - 48) 1 s at w in omega arith
     go false z w = let y : 0 ≡ at = cc in omega arith
@@ -84,15 +93,24 @@ reach (Misread number at) = at
 begun : (e : ℕ) (t : List ℕ) (k : ℕ) → begins e (drop k t) ≡ true → k < length t
 begun e t k b = omega (arith, begins-some e (drop k t) b, length-drop k t)
 
-dash-reach : (e : ℕ) (t : List ℕ) (u : Bool) → begins e (drop 1 t) ≡ u → 0 < length t → reach (cond u (Number 0 2) (Misread 2 1)) ≤ length t
+dash-reach : (e : ℕ) (t : List ℕ) (u : Bool)
+    → begins e (drop 1 t) ≡ u
+    → 0 < length t
+    → reach (cond u (Number 0 2) (Misread 2 1)) ≤ length t
 dash-reach e t true b h = let k = begun e t 1 b in omega arith
 dash-reach e t false b h = omega arith
 
-judged-reach : (r : NumberRead) (l : Limit) (last e : ℕ) (t : List ℕ) → numberOf (fieldOf t) ≡ r → reach (judged r l last e (length (fieldOf t)) (drop (length (fieldOf t)) t)) ≤ length t
+judged-reach : (r : NumberRead) (l : Limit) (last e : ℕ) (t : List ℕ)
+    → numberOf (fieldOf t) ≡ r
+    → reach (judged r l last e (length (fieldOf t)) (drop (length (fieldOf t)) t)) ≤ length t
 judged-reach (Malformed at) l last e t v = omega (arith, number-place (fieldOf t) at v, field-most t)
 judged-reach (Value n) l last e t v = go (begins e (drop (length (fieldOf t)) t)) refl (within l last n)
   where
-    go : (u : Bool) → begins e (drop (length (fieldOf t)) t) ≡ u → (w : Bool) → reach (cond u (cond w (Number n (length (fieldOf t) + 1)) (Misread 3 0)) (Misread 2 (length (fieldOf t)))) ≤ length t
+    go : (u : Bool)
+        → begins e (drop (length (fieldOf t)) t) ≡ u
+        → (w : Bool)
+        → reach (cond u (cond w (Number n (length (fieldOf t) + 1)) (Misread 3 0)) (Misread 2 (length (fieldOf t)))) ≤
+        length t
     go true b true = let k = begun e t (length (fieldOf t)) b in omega arith
     go true b false = omega arith
     go false b w = field-most t
@@ -102,6 +120,8 @@ unfolding readEntry
 entry-reach l last e t = go (eqb (l .rule) orNone && begins dash t) refl
   where
     go : (u : Bool) → (eqb (l .rule) orNone && begins dash t) ≡ u
-        → reach (cond u (cond (begins e (drop 1 t)) (Number 0 2) (Misread 2 1)) (judged (numberOf (fieldOf t)) l last e (length (fieldOf t)) (drop (length (fieldOf t)) t))) ≤ length t
+        → reach
+        (cond u (cond (begins e (drop 1 t)) (Number 0 2) (Misread 2 1))
+        (judged (numberOf (fieldOf t)) l last e (length (fieldOf t)) (drop (length (fieldOf t)) t))) ≤ length t
     go true d = dash-reach e t (begins e (drop 1 t)) refl (dash-some (l .rule) t d)
     go false d = judged-reach (numberOf (fieldOf t)) l last e t refl

@@ -16,15 +16,20 @@ use Rattle.text.specs.Line.{readEntry}
 -- ---- a number: 1 to 10 digits, no leading zero but 0 itself
 
 numbers : List String
-numbers = "0" ∷ "7" ∷ "4294967295" ∷ "4294967296" ∷ "9999999999" ∷ "" ∷ "00" ∷ "07" ∷ "10000000000" ∷ "12x" ∷ "-" ∷ "-1" ∷ " 1" ∷ []
+numbers =
+    "0" ∷ "7" ∷ "4294967295" ∷ "4294967296" ∷ "9999999999" ∷ "" ∷ "00" ∷ "07" ∷ "10000000000" ∷ "12x" ∷ "-" ∷ "-1"
+    ∷ " 1" ∷ []
 
 numbers-right :
     map (λ (s : String). numberOf (bytes s)) numbers
-    ≡ Value 0 ∷ Value 7 ∷ Value 4294967295 ∷ Value 4294967296 ∷ Value 9999999999 ∷ Malformed 0 ∷ Malformed 1 ∷ Malformed 1 ∷ Malformed 10 ∷ Malformed 2 ∷ Malformed 0 ∷ Malformed 0 ∷ Malformed 0 ∷ []
+    ≡ Value 0 ∷ Value 7 ∷ Value 4294967295 ∷ Value 4294967296 ∷ Value 9999999999 ∷ Malformed 0 ∷ Malformed 1
+    ∷ Malformed 1 ∷ Malformed 10 ∷ Malformed 2 ∷ Malformed 0 ∷ Malformed 0 ∷ Malformed 0 ∷ []
 unfolding numbers numberOf restOf
 numbers-right = refl
 
-digits-right : map digitsOf (0 ∷ 10 ∷ 4294967296 ∷ 9999999999 ∷ []) ≡ bytes "0" ∷ bytes "10" ∷ bytes "4294967296" ∷ bytes "9999999999" ∷ []
+digits-right :
+    map digitsOf (0 ∷ 10 ∷ 4294967296 ∷ 9999999999 ∷ [])
+    ≡ bytes "0" ∷ bytes "10" ∷ bytes "4294967296" ∷ bytes "9999999999" ∷ []
 unfolding digitsOf digitsIn
 digits-right = refl
 
@@ -66,13 +71,17 @@ entries =
 
 entries-right :
     map read entries
-    ≡ Number 24 3 ∷ Misread 3 0 ∷ Misread 3 0 ∷ Misread 2 2 ∷ Misread 2 2 ∷ Misread 2 10 ∷ Misread 3 0 ∷ Misread 3 0 ∷ Misread 2 0 ∷ Number 0 2 ∷ Misread 3 0 ∷ Misread 3 0 ∷ Misread 2 1 ∷ Misread 2 1 ∷ Number 4000 5 ∷ Misread 3 0 ∷ []
+    ≡ Number 24 3 ∷ Misread 3 0 ∷ Misread 3 0 ∷ Misread 2 2 ∷ Misread 2 2 ∷ Misread 2 10 ∷ Misread 3 0 ∷ Misread 3 0
+    ∷ Misread 2 0 ∷ Number 0 2 ∷ Misread 3 0 ∷ Misread 3 0 ∷ Misread 2 1 ∷ Misread 2 1 ∷ Number 4000 5 ∷ Misread 3 0
+    ∷ []
 unfolding read entries readEntry fieldOf numberOf restOf
 entries-right = refl
 
 -- ---- a limit as the code's tables have it: low, high, and the number of its rule; what a row lacks is 0
 
-tables-right : limitsOf ((0 ∷ 1 ∷ 0 ∷ []) ∷ (1 ∷ 24 ∷ 1 ∷ []) ∷ (2000 ∷ 6000 ∷ 2 ∷ []) ∷ [] ∷ []) ≡ ranging 0 1 ∷ rangingOrNone 1 24 ∷ rangingCapped 2000 6000 ∷ ranging 0 0 ∷ []
+tables-right :
+    limitsOf ((0 ∷ 1 ∷ 0 ∷ []) ∷ (1 ∷ 24 ∷ 1 ∷ []) ∷ (2000 ∷ 6000 ∷ 2 ∷ []) ∷ [] ∷ [])
+    ≡ ranging 0 1 ∷ rangingOrNone 1 24 ∷ rangingCapped 2000 6000 ∷ ranging 0 0 ∷ []
 tables-right = refl
 
 -- ---- for the computed statements of the nouns above

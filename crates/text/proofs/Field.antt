@@ -46,11 +46,18 @@ abbrev pub Walked : List ℕ → ℕ → Type 0
 Walked t i = fieldOf t ≡ take i t ++ fieldOf (drop i t)
 
 module _ (t : List ℕ) (i : ℕ) where
-  pub walked-stop : i < length t → Walked t i → (eqb (getD t i 0) tab || eqb (getD t i 0) feed) ≡ true → take i t ≡ fieldOf t
+  pub walked-stop : i < length t
+      → Walked t i
+      → (eqb (getD t i 0) tab || eqb (getD t i 0) feed) ≡ true
+      → take i t ≡ fieldOf t
   walked-stop h w e = sym (w ∙ rw (drop-cons t i 0, field-stop (getD t i 0) (drop (suc i) t) e, append-nil))
 
-  pub walked-more : i < length t → Walked t i → (eqb (getD t i 0) tab || eqb (getD t i 0) feed) ≡ false → Walked t (i + 1)
-  walked-more h w e = w ∙ rw (add-one, drop-cons t i 0, take-suc t i 0, append-assoc, field-more (getD t i 0) (drop (suc i) t) e)
+  pub walked-more : i < length t
+      → Walked t i
+      → (eqb (getD t i 0) tab || eqb (getD t i 0) feed) ≡ false
+      → Walked t (i + 1)
+  walked-more h w e =
+      w ∙ rw (add-one, drop-cons t i 0, take-suc t i 0, append-assoc, field-more (getD t i 0) (drop (suc i) t) e)
 
   pub walked-end : length t ≤ i → Walked t i → t ≡ fieldOf t
   unfolding fieldOf
@@ -63,7 +70,10 @@ unfolding fieldOf
 field-split [] = refl
 field-split (b ∷ t) = go (eqb b tab || eqb b feed) refl (field-split t)
   where
-    go : (u : Bool) → (eqb b tab || eqb b feed) ≡ u → fieldOf t ++ drop (length (fieldOf t)) t ≡ t → fieldOf (b ∷ t) ++ drop (length (fieldOf (b ∷ t))) (b ∷ t) ≡ b ∷ t
+    go : (u : Bool)
+        → (eqb b tab || eqb b feed) ≡ u
+        → fieldOf t ++ drop (length (fieldOf t)) t ≡ t
+        → fieldOf (b ∷ t) ++ drop (length (fieldOf (b ∷ t))) (b ∷ t) ≡ b ∷ t
     go true e ih = rw (field-stop b t e)
     go false e ih = rw (field-more b t e) (ap (λ (l : List ℕ). b ∷ l) ih)
 
@@ -79,7 +89,11 @@ agreed-whole [] t e = refl
 agreed-whole (a ∷ s) [] e = absurd (omega arith)
 agreed-whole (a ∷ s) (b ∷ t) e = go (eqb b a) refl e (agreed-whole s t)
   where
-    go : (u : Bool) → eqb b a ≡ u → (elim u [ true ↦ suc (agreed s t) | false ↦ 0 ]) ≡ suc (length s) → (agreed s t ≡ length s → t ≡ s ++ drop (length s) t) → b ∷ t ≡ a ∷ (s ++ drop (length s) t)
+    go : (u : Bool)
+        → eqb b a ≡ u
+        → (elim u [ true ↦ suc (agreed s t) | false ↦ 0 ]) ≡ suc (length s)
+        → (agreed s t ≡ length s → t ≡ s ++ drop (length s) t)
+        → b ∷ t ≡ a ∷ (s ++ drop (length s) t)
     go true w d ih =
         let q : b ≡ a = eqb-true b a w in
         let r : t ≡ s ++ drop (length s) t = ih (omega arith) in
@@ -129,6 +143,9 @@ module _ (s t : List ℕ) (i : ℕ) where
   unfolding agreed
   agreed-differs h l n = rw (drop-cons s i 0, drop-cons t i 0, ne-eqb (getD t i 0) (getD s i 0) n, agreed)
 
-  pub agreed-more : i < length s → i < length t → getD t i 0 ≡ getD s i 0 → agreed (drop i s) (drop i t) ≡ suc (agreed (drop (i + 1) s) (drop (i + 1) t))
+  pub agreed-more : i < length s
+      → i < length t
+      → getD t i 0 ≡ getD s i 0
+      → agreed (drop i s) (drop i t) ≡ suc (agreed (drop (i + 1) s) (drop (i + 1) t))
   unfolding agreed
   agreed-more h l e = rw (add-one i, drop-cons s i 0, drop-cons t i 0, eq-eqb (getD t i 0) (getD s i 0) e, agreed)

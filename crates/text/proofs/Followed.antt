@@ -12,15 +12,22 @@ use Rattle.text.proofs.Line.{extent, extent-shift}
 
 -- ---- one reading followed by another
 
-pub followed-taken : (p : Reading) (next : List ℕ → Reading) (t : List ℕ) (k : ℕ) → p .ended ≡ Taken k → followed p next t ≡ after (p .numbers) k (next (drop k t))
+pub followed-taken : (p : Reading) (next : List ℕ → Reading) (t : List ℕ) (k : ℕ)
+    → p .ended ≡ Taken k
+    → followed p next t ≡ after (p .numbers) k (next (drop k t))
 followed-taken p next t k e = rw e
 
-pub followed-fault : (p : Reading) (next : List ℕ → Reading) (t : List ℕ) (number at : ℕ) → p .ended ≡ Fault number at → followed p next t ≡ p
+pub followed-fault : (p : Reading) (next : List ℕ → Reading) (t : List ℕ) (number at : ℕ)
+    → p .ended ≡ Fault number at
+    → followed p next t ≡ p
 followed-fault p next t number at e = rw e
 
 -- numbers that p gave are stored, and then those that next gives, into the part after them
-pub reads-more : (p : Reading) (next : List ℕ → Reading) (t : List ℕ) {o₀ o ys : List ℕ} {k n : ℕ} {r : LineRead} → Reads p o₀ (Taken k) o → length (p .numbers) ≡ n
-    → Reads (next (drop k t)) (take (length o - n) (drop n o)) r ys → Reads (followed p next t) o₀ (shiftBy k r) (putBack o n ys)
+pub reads-more : (p : Reading) (next : List ℕ → Reading) (t : List ℕ) {o₀ o ys : List ℕ} {k n : ℕ} {r : LineRead}
+    → Reads p o₀ (Taken k) o
+    → length (p .numbers) ≡ n
+    → Reads (next (drop k t)) (take (length o - n) (drop n o)) r ys
+    → Reads (followed p next t) o₀ (shiftBy k r) (putBack o n ys)
 reads-more p next t {o₀} {o} {ys} {k} {n} {r} a m b =
     let e : followed p next t ≡ after (p .numbers) k (next (drop k t)) = followed-taken p next t k (sym (a .answer)) in
     record {
@@ -28,23 +35,32 @@ reads-more p next t {o₀} {o} {ys} {k} {n} {r} a m b =
       stored = part-append o₀ (p .numbers) (next (drop k t) .numbers) o ys n (a .stored) m (b .stored) ∙ rw e;
     }
 
-pub reads-fault : (p : Reading) (next : List ℕ → Reading) (t : List ℕ) {o₀ o : List ℕ} {number at : ℕ} → Reads p o₀ (Fault number at) o → Reads (followed p next t) o₀ (Fault number at) o
+pub reads-fault : (p : Reading) (next : List ℕ → Reading) (t : List ℕ) {o₀ o : List ℕ} {number at : ℕ}
+    → Reads p o₀ (Fault number at) o
+    → Reads (followed p next t) o₀ (Fault number at) o
 reads-fault p next t {o₀} {o} {number} {at} a =
     let e : followed p next t ≡ p = followed-fault p next t number at (sym (a .answer)) in
     record { answer = a .answer ∙ rw e; stored = a .stored ∙ rw e }
 
 -- what next gives has no numbers, and leaves the list alone
-pub reads-last : (p : Reading) (next : List ℕ → Reading) (t : List ℕ) {o₀ o : List ℕ} {k : ℕ} {r : LineRead} → Reads p o₀ (Taken k) o → r ≡ next (drop k t) .ended → next (drop k t) .numbers ≡ []
+pub reads-last : (p : Reading) (next : List ℕ → Reading) (t : List ℕ) {o₀ o : List ℕ} {k : ℕ} {r : LineRead}
+    → Reads p o₀ (Taken k) o
+    → r ≡ next (drop k t) .ended
+    → next (drop k t) .numbers ≡ []
     → Reads (followed p next t) o₀ (shiftBy k r) o
 reads-last p next t {k = k} a e n =
     let d : followed p next t ≡ after (p .numbers) k (next (drop k t)) = followed-taken p next t k (sym (a .answer)) in
     record { answer = rw (d, e); stored = a .stored ∙ rw (d, n, append-nil (p .numbers)) }
 
-pub followed-extent : (p : Reading) (next : List ℕ → Reading) (t : List ℕ) → extent (p .ended) ≤ length t → ((u : List ℕ) → extent (next u .ended) ≤ length u) → extent (followed p next t .ended) ≤ length t
+pub followed-extent : (p : Reading) (next : List ℕ → Reading) (t : List ℕ)
+    → extent (p .ended) ≤ length t
+    → ((u : List ℕ) → extent (next u .ended) ≤ length u)
+    → extent (followed p next t .ended) ≤ length t
 followed-extent p next t h ih = go (p .ended) refl
   where
     go : (r : LineRead) → p .ended ≡ r → extent (followed p next t .ended) ≤ length t
-    go (Taken k) e = rw e (omega (arith, ap extent e, extent-shift k (next (drop k t) .ended), ih (drop k t), length-drop k t))
+    go (Taken k) e =
+        rw e (omega (arith, ap extent e, extent-shift k (next (drop k t) .ended), ih (drop k t), length-drop k t))
     go (Fault number at) e = rw e (omega (arith, ap extent e))
 
 -- the two readings of one that went well
@@ -61,7 +77,9 @@ pub shift-taken : (j : ℕ) (r : LineRead) (k : ℕ) → shiftBy j r ≡ Taken k
 shift-taken j (Taken i) k e = (i, refl, cc)
 shift-taken j (Fault number at) k e = let z : _≡_ {A = ℕ} 0 1 = cc in absurd (omega arith)
 
-pub followed-parts : (p : Reading) (next : List ℕ → Reading) (t : List ℕ) (k : ℕ) → followed p next t .ended ≡ Taken k → Parts p next t k
+pub followed-parts : (p : Reading) (next : List ℕ → Reading) (t : List ℕ) (k : ℕ)
+    → followed p next t .ended ≡ Taken k
+    → Parts p next t k
 followed-parts p next t k h = go (p .ended) refl
   where
     go : (r : LineRead) → p .ended ≡ r → Parts p next t k

@@ -19,6 +19,8 @@ led-none t = record { start = refl; count = refl }
 pub led-more : {x y t : List ℕ} {j k : ℕ} → Led x t j → Led y (drop j t) k → Led (x ++ y) t (j + k)
 led-more {x} {y} {t} {j} {k} p q =
     record {
-      start = p .start ∙ ap (λ (z : List ℕ). x ++ z) (q .start ∙ rw (drop-drop k j t)) ∙ sym (append-assoc x y (drop (j + k) t));
+      start = p .start
+          ∙ ap (λ (z : List ℕ). x ++ z) (q .start ∙ rw (drop-drop k j t))
+          ∙ sym (append-assoc x y (drop (j + k) t));
       count = omega (arith, p .count, q .count, length-append x y);
     }

@@ -22,7 +22,9 @@ abbrev pub limitAt : List (List ℕ) → ℕ → Limit
 limitAt t k = limitOf (getD t k [])
 
 -- and those after it
-pub limits-more : (t : List (List ℕ)) (k : ℕ) → k < length t → limitsOf (drop k t) ≡ limitAt t k ∷ limitsOf (drop (k + 1) t)
+pub limits-more : (t : List (List ℕ)) (k : ℕ)
+    → k < length t
+    → limitsOf (drop k t) ≡ limitAt t k ∷ limitsOf (drop (k + 1) t)
 limits-more t k h = rw (add-one k, drop-cons t k [])
 
 pub limits-end : (t : List (List ℕ)) (k : ℕ) → length t ≤ k → limitsOf (drop k t) ≡ []
@@ -66,11 +68,15 @@ hold-uneven [] last (n ∷ ns) h = refl
 hold-uneven (l ∷ ls) last [] h = refl
 hold-uneven (l ∷ ls) last (n ∷ ns) h = rw (hold-uneven ls n ns (λ (e : length ls ≡ length ns). h (ap suc e)), and-false)
 
-hold-more : (l : Limit) (ls : List Limit) (last n : ℕ) (ns : List ℕ) → holds l last n ≡ true → allHold (l ∷ ls) last (n ∷ ns) ≡ allHold ls n ns
+hold-more : (l : Limit) (ls : List Limit) (last n : ℕ) (ns : List ℕ)
+    → holds l last n ≡ true
+    → allHold (l ∷ ls) last (n ∷ ns) ≡ allHold ls n ns
 unfolding allHold
 hold-more l ls last n ns e = rw e
 
-hold-fails : (l : Limit) (ls : List Limit) (last n : ℕ) (ns : List ℕ) → holds l last n ≡ false → allHold (l ∷ ls) last (n ∷ ns) ≡ false
+hold-fails : (l : Limit) (ls : List Limit) (last n : ℕ) (ns : List ℕ)
+    → holds l last n ≡ false
+    → allHold (l ∷ ls) last (n ∷ ns) ≡ false
 unfolding allHold
 hold-fails l ls last n ns e = rw e
 
@@ -81,14 +87,18 @@ module _ (t : List (List ℕ)) (ns : List ℕ) (k last : ℕ) (h : k < length t)
   step = rw (limits-more t k h, drop-more ns k l)
 
   pub step-more : holds (limitAt t k) last (getD ns k 0) ≡ true
-      → allHold (limitsOf (drop k t)) last (drop k ns) ≡ allHold (limitsOf (drop (k + 1) t)) (getD ns k 0) (drop (k + 1) ns)
+      → allHold (limitsOf (drop k t)) last (drop k ns)
+      ≡ allHold (limitsOf (drop (k + 1) t)) (getD ns k 0) (drop (k + 1) ns)
   step-more e = step ∙ hold-more _ (limitsOf (drop (k + 1) t)) last (getD ns k 0) (drop (k + 1) ns) e
 
   pub step-fails : holds (limitAt t k) last (getD ns k 0) ≡ false
       → allHold (limitsOf (drop k t)) last (drop k ns) ≡ false
   step-fails e = step ∙ hold-fails _ (limitsOf (drop (k + 1) t)) last (getD ns k 0) (drop (k + 1) ns) e
 
-pub hold-done : (t : List (List ℕ)) (ns : List ℕ) (k last : ℕ) → length t ≤ k → length ns ≤ k → allHold (limitsOf (drop k t)) last (drop k ns) ≡ true
+pub hold-done : (t : List (List ℕ)) (ns : List ℕ) (k last : ℕ)
+    → length t ≤ k
+    → length ns ≤ k
+    → allHold (limitsOf (drop k t)) last (drop k ns) ≡ true
 unfolding allHold
 hold-done t ns k last h l = rw (limits-end t k h, drop-of-length-le ns {i = k} l)
 

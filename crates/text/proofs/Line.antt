@@ -13,7 +13,8 @@ use Rattle.text.specs.declared.LineRead.{LineRead}
 use Rattle.text.specs.declared.LineRead.the-variants.{Taken, Fault}
 use Rattle.text.specs.Limit.{Limit, limitsOf}
 use Rattle.text.specs.Field.{agreed}
-use Rattle.text.specs.Line.{Line, lineOf, Reading, Reads, shiftBy, after, refused, ender, onEntry, readEntry, readNumbers, readLine}
+use Rattle.text.specs.Line.{Line, lineOf, Reading, Reads, shiftBy, after, refused, ender, onEntry, readEntry}
+use Rattle.text.specs.Line.{readNumbers, readLine}
 use Rattle.text.proofs.Field.{agreed-fits}
 use Rattle.ground.proofs.Stores.{rest-part}
 use Rattle.text.proofs.Entry.{reach, entry-reach}
@@ -21,7 +22,8 @@ use Rattle.text.proofs.Entry.{reach, entry-reach}
 -- ---- a whole line
 
 module _ (l : Line) (t : List ℕ) where
-  pub line-tagged : agreed (l .tag) t ≡ length (l .tag) → readLine l t ≡ after [] (length (l .tag)) (readNumbers (l .limits) 0 (drop (length (l .tag)) t))
+  pub line-tagged : agreed (l .tag) t ≡ length (l .tag)
+      → readLine l t ≡ after [] (length (l .tag)) (readNumbers (l .limits) 0 (drop (length (l .tag)) t))
   unfolding readLine
   line-tagged e = rw (eq-eqb (agreed (l .tag) t) (length (l .tag)) e, readLine)
 
@@ -38,14 +40,20 @@ pub extent-shift : (k : ℕ) (r : LineRead) → extent (shiftBy k r) ≡ k + ext
 extent-shift k (Taken n) = refl
 extent-shift k (Fault number at) = refl
 
-entry-extent : (r : EntryRead) (rest : ℕ → List ℕ → Reading) (t : List ℕ) → reach r ≤ length t → ((n : ℕ) (u : List ℕ) → extent (rest n u .ended) ≤ length u) → extent (onEntry r rest t .ended) ≤ length t
+entry-extent : (r : EntryRead) (rest : ℕ → List ℕ → Reading) (t : List ℕ)
+    → reach r ≤ length t
+    → ((n : ℕ) (u : List ℕ) → extent (rest n u .ended) ≤ length u)
+    → extent (onEntry r rest t .ended) ≤ length t
 entry-extent (Misread number at) rest t h ih = h
-entry-extent (Number n k) rest t h ih = omega (arith, extent-shift k (rest n (drop k t) .ended), ih n (drop k t), length-drop k t)
+entry-extent (Number n k) rest t h ih =
+    omega (arith, extent-shift k (rest n (drop k t) .ended), ih n (drop k t), length-drop k t)
 
 numbers-extent : (ls : List Limit) (last : ℕ) (t : List ℕ) → extent (readNumbers ls last t .ended) ≤ length t
 unfolding readNumbers
 numbers-extent [] last t = omega arith
-numbers-extent (l ∷ ls) last t = entry-extent (readEntry l last (ender ls) t) (readNumbers ls) t (entry-reach l last (ender ls) t) (numbers-extent ls)
+numbers-extent (l ∷ ls) last t =
+    entry-extent (readEntry l last (ender ls) t) (readNumbers ls) t (entry-reach l last (ender ls) t)
+    (numbers-extent ls)
 
 pub line-extent : (l : Line) (t : List ℕ) → extent (readLine l t .ended) ≤ length t
 line-extent l t = go (eqb (agreed (l .tag) t) (length (l .tag))) refl
@@ -54,7 +62,13 @@ line-extent l t = go (eqb (agreed (l .tag) t) (length (l .tag))) refl
     go true e =
         let d = eqb-true (agreed (l .tag) t) (length (l .tag)) e in
         rw (line-tagged l t d)
-        (omega (arith, extent-shift (length (l .tag)) (readNumbers (l .limits) 0 (drop (length (l .tag)) t) .ended), numbers-extent (l .limits) 0 (drop (length (l .tag)) t), length-drop (length (l .tag)) t, agreed-fits (l .tag) t))
+        (omega (
+          arith,
+          extent-shift (length (l .tag)) (readNumbers (l .limits) 0 (drop (length (l .tag)) t) .ended),
+          numbers-extent (l .limits) 0 (drop (length (l .tag)) t),
+          length-drop (length (l .tag)) t,
+          agreed-fits (l .tag) t,
+        ))
     go false e = rw (line-untagged l t (eqb-false (agreed (l .tag) t) (length (l .tag)) e)) (agreed-fits (l .tag) t)
 
 -- ---- what the line reader leaves
@@ -62,21 +76,31 @@ line-extent l t = go (eqb (agreed (l .tag) t) (length (l .tag))) refl
 module _ (tag : List ℕ) (table : List (List ℕ)) (t o₀ : List ℕ) (same : ℕ) (q : same ≡ agreed tag t) where
   pub reads-untagged : (same ≡ length tag → ⊥) → Reads (readLine (lineOf tag table) t) o₀ (Fault 2 same) o₀
   reads-untagged n =
-      let e : readLine (lineOf tag table) t ≡ refused 2 same = line-untagged (lineOf tag table) t (λ (d : agreed tag t ≡ length tag). n (q ∙ d)) ∙ rw q in
+      let e : readLine (lineOf tag table) t ≡ refused 2 same =
+      line-untagged (lineOf tag table) t (λ (d : agreed tag t ≡ length tag). n (q ∙ d)) ∙ rw q in
       record { answer = rw e; stored = rw e }
 
   module _ (d : same ≡ length tag) where
     pub tag-fits : length tag ≤ length t
     tag-fits = omega (arith, agreed-fits tag t)
 
-    module _ {r : LineRead} {o : List ℕ} (p : Reads (readNumbers (limitsOf table) 0 (take (length t - length tag) (drop (length tag) t))) o₀ r o) where
+    module _ {r : LineRead} {o : List ℕ}
+        (p : Reads (readNumbers (limitsOf table) 0 (take (length t - length tag) (drop (length tag) t))) o₀ r o) where
       pub reads-tagged : Reads (readLine (lineOf tag table) t) o₀ (shiftBy (length tag) r) o
       reads-tagged =
-          let e : readLine (lineOf tag table) t ≡ after [] (length tag) (readNumbers (limitsOf table) 0 (take (length t - length tag) (drop (length tag) t))) =
+          let e : readLine (lineOf tag table) t
+          ≡ after [] (length tag)
+          (readNumbers (limitsOf table) 0 (take (length t - length tag) (drop (length tag) t))) =
           line-tagged (lineOf tag table) t (sym q ∙ d) ∙ rw (rest-part t (length tag)) in
           record { answer = rw (e, p .answer); stored = p .stored ∙ rw e }
 
       pub tagged-in : length tag + extent r ≤ length t
       tagged-in =
-          let n : length (take (length t - length tag) (drop (length tag) t)) ≡ length t - length tag = ap length (rest-part t (length tag)) ∙ length-drop (length tag) t in
-          omega (arith, ap extent (p .answer), numbers-extent (limitsOf table) 0 (take (length t - length tag) (drop (length tag) t)), tag-fits)
+          let n : length (take (length t - length tag) (drop (length tag) t)) ≡ length t - length tag =
+          ap length (rest-part t (length tag)) ∙ length-drop (length tag) t in
+          omega (
+            arith,
+            ap extent (p .answer),
+            numbers-extent (limitsOf table) 0 (take (length t - length tag) (drop (length tag) t)),
+            tag-fits,
+          )

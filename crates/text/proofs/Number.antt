@@ -37,7 +37,11 @@ unfolding numberOf
 number-zero [] h e = absurd (omega arith)
 number-zero (b ∷ s) h e = rw (digit-is b (omega arith) (omega arith), eq-eqb b 48 e, numberOf)
 
-pub number-more : (s : List ℕ) → 0 < length s → isDigit (getD s 0 0) ≡ true → (getD s 0 0 ≡ 48 → ⊥) → numberOf s ≡ restOf (getD s 0 0 - 48) 1 (drop 1 s)
+pub number-more : (s : List ℕ)
+    → 0 < length s
+    → isDigit (getD s 0 0) ≡ true
+    → (getD s 0 0 ≡ 48 → ⊥)
+    → numberOf s ≡ restOf (getD s 0 0 - 48) 1 (drop 1 s)
 unfolding numberOf
 number-more [] h d e = absurd (omega arith)
 number-more (b ∷ s) h d e = rw (d, ne-eqb b 48 e, numberOf)
@@ -52,7 +56,9 @@ zero-led [] h k = absurd (omega arith)
 zero-led (b ∷ []) h k = absurd (k refl)
 zero-led (b ∷ d ∷ s) h k = refl
 
-pub rest-step : (n i b : ℕ) (s : List ℕ) → (isDigit b && leb n nineDigits) ≡ true → restOf n i (b ∷ s) ≡ restOf (10 * n + (b - 48)) (suc i) s
+pub rest-step : (n i b : ℕ) (s : List ℕ)
+    → (isDigit b && leb n nineDigits) ≡ true
+    → restOf n i (b ∷ s) ≡ restOf (10 * n + (b - 48)) (suc i) s
 unfolding restOf
 rest-step n i b s e = rw (e, restOf)
 
@@ -69,10 +75,14 @@ number-rest (b ∷ s) h k = go (isDigit b) refl
     go false e = rw (e, numberOf, restOf)
 
 module _ (n j : ℕ) (s : List ℕ) (i : ℕ) where
-  pub rest-more : i < length s → (isDigit (getD s i 0) && leb n nineDigits) ≡ true → restOf n j (drop i s) ≡ restOf (10 * n + (getD s i 0 - 48)) (j + 1) (drop (i + 1) s)
+  pub rest-more : i < length s
+      → (isDigit (getD s i 0) && leb n nineDigits) ≡ true
+      → restOf n j (drop i s) ≡ restOf (10 * n + (getD s i 0 - 48)) (j + 1) (drop (i + 1) s)
   rest-more h e = rw (add-one i, add-one j, drop-cons s i 0) (rest-step n j (getD s i 0) (drop (suc i) s) e)
 
-  pub rest-stops : i < length s → (isDigit (getD s i 0) && leb n nineDigits) ≡ false → restOf n j (drop i s) ≡ Malformed j
+  pub rest-stops : i < length s
+      → (isDigit (getD s i 0) && leb n nineDigits) ≡ false
+      → restOf n j (drop i s) ≡ Malformed j
   unfolding restOf
   rest-stops h e = rw (drop-cons s i 0, e, restOf)
 
@@ -94,11 +104,18 @@ in-more k n h = rw (le-ltb n 10 h, digitsIn)
 in-enough : (k j n : ℕ) → n < k → n < j → digitsIn k n ≡ digitsIn j n
 in-enough zero j n h l = absurd (omega arith)
 in-enough (suc k) zero n h l = absurd (omega arith)
-in-enough (suc k) (suc j) n h l = go (ltb n 10) refl (λ (w : 10 ≤ n). in-enough k j (n / 10) (omega arith) (omega arith))
+in-enough (suc k) (suc j) n h l =
+    go (ltb n 10) refl (λ (w : 10 ≤ n). in-enough k j (n / 10) (omega arith) (omega arith))
   where
-    go : (t : Bool) → ltb n 10 ≡ t → (10 ≤ n → digitsIn k (n / 10) ≡ digitsIn j (n / 10)) → digitsIn (suc k) n ≡ digitsIn (suc j) n
+    go : (t : Bool)
+        → ltb n 10 ≡ t
+        → (10 ≤ n → digitsIn k (n / 10) ≡ digitsIn j (n / 10))
+        → digitsIn (suc k) n ≡ digitsIn (suc j) n
     go true e ih = in-small k n (ltb-true n 10 e) ∙ sym (in-small j n (ltb-true n 10 e))
-    go false e ih = in-more k n (ltb-false n 10 e) ∙ ap (λ (l : List ℕ). l ++ ((48 + n % 10) ∷ [])) (ih (ltb-false n 10 e)) ∙ sym (in-more j n (ltb-false n 10 e))
+    go false e ih =
+        in-more k n (ltb-false n 10 e)
+        ∙ ap (λ (l : List ℕ). l ++ ((48 + n % 10) ∷ [])) (ih (ltb-false n 10 e))
+        ∙ sym (in-more j n (ltb-false n 10 e))
 
 pub digits-small : (n : ℕ) → n < 10 → digitsOf n ≡ (48 + n) ∷ []
 unfolding digitsOf
@@ -106,7 +123,9 @@ digits-small n h = in-small n n h
 
 pub digits-more : (n : ℕ) → 10 ≤ n → digitsOf n ≡ digitsOf (n / 10) ++ ((48 + n % 10) ∷ [])
 unfolding digitsOf
-digits-more n h = in-more n n h ∙ ap (λ (l : List ℕ). l ++ ((48 + n % 10) ∷ [])) (in-enough n (suc (n / 10)) (n / 10) (omega arith) (omega arith))
+digits-more n h =
+    in-more n n h
+    ∙ ap (λ (l : List ℕ). l ++ ((48 + n % 10) ∷ [])) (in-enough n (suc (n / 10)) (n / 10) (omega arith) (omega arith))
 
 pub length-digits-small : (n : ℕ) → n < 10 → length (digitsOf n) ≡ 1
 length-digits-small n h = ap length (digits-small n h)
@@ -117,13 +136,29 @@ length-digits-more n h = ap length (digits-more n h) ∙ length-append (digitsOf
 -- a larger number has no fewer digits
 mono-in : (k m n : ℕ) → n < k → m ≤ n → length (digitsOf m) ≤ length (digitsOf n)
 mono-in zero m n h l = absurd (omega arith)
-mono-in (suc k) m n h l = go (ltb m 10) refl (ltb n 10) refl (λ (w : 10 ≤ m). mono-in k (m / 10) (n / 10) (omega arith) (omega arith)) (λ (w : 10 ≤ n). mono-in k 0 (n / 10) (omega arith) (omega arith))
+mono-in (suc k) m n h l =
+    go (ltb m 10) refl (ltb n 10) refl (λ (w : 10 ≤ m). mono-in k (m / 10) (n / 10) (omega arith) (omega arith))
+    (λ (w : 10 ≤ n). mono-in k 0 (n / 10) (omega arith) (omega arith))
   where
-    go : (s : Bool) → ltb m 10 ≡ s → (t : Bool) → ltb n 10 ≡ t → (10 ≤ m → length (digitsOf (m / 10)) ≤ length (digitsOf (n / 10))) → (10 ≤ n → length (digitsOf 0) ≤ length (digitsOf (n / 10))) → length (digitsOf m) ≤ length (digitsOf n)
-    go true e true d ih jh = omega (arith, length-digits-small m (ltb-true m 10 e), length-digits-small n (ltb-true n 10 d))
-    go true e false d ih jh = omega (arith, length-digits-small m (ltb-true m 10 e), length-digits-more n (ltb-false n 10 d))
+    go : (s : Bool)
+        → ltb m 10 ≡ s
+        → (t : Bool)
+        → ltb n 10 ≡ t
+        → (10 ≤ m → length (digitsOf (m / 10)) ≤ length (digitsOf (n / 10)))
+        → (10 ≤ n → length (digitsOf 0) ≤ length (digitsOf (n / 10)))
+        → length (digitsOf m) ≤ length (digitsOf n)
+    go true e true d ih jh =
+        omega (arith, length-digits-small m (ltb-true m 10 e), length-digits-small n (ltb-true n 10 d))
+    go true e false d ih jh =
+        omega (arith, length-digits-small m (ltb-true m 10 e), length-digits-more n (ltb-false n 10 d))
     go false e true d ih jh = let a = ltb-false m 10 e in let b = ltb-true n 10 d in absurd (omega arith)
-    go false e false d ih jh = omega (arith, ih (ltb-false m 10 e), length-digits-more m (ltb-false m 10 e), length-digits-more n (ltb-false n 10 d))
+    go false e false d ih jh =
+        omega (
+          arith,
+          ih (ltb-false m 10 e),
+          length-digits-more m (ltb-false m 10 e),
+          length-digits-more n (ltb-false n 10 d),
+        )
 
 pub length-digits-mono : (m n : ℕ) → m ≤ n → length (digitsOf m) ≤ length (digitsOf n)
 length-digits-mono m n h = mono-in (suc n) m n (omega arith) h

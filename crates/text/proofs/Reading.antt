@@ -14,7 +14,8 @@ use Rattle.text.specs.declared.LineRead.{LineRead}
 use Rattle.text.specs.declared.LineRead.the-variants.{Taken, Fault}
 use Rattle.text.specs.Quoted.{tab, feed}
 use Rattle.text.specs.Limit.{Limit, limitsOf}
-use Rattle.text.specs.Line.{Reading, Reads, shiftBy, after, nothing, refused, ender, onEntry, readEntry, readNumbers}
+use Rattle.text.specs.Line.{Reading, Reads, shiftBy, after, nothing, refused, ender, onEntry, readEntry}
+use Rattle.text.specs.Line.{readNumbers}
 use Rattle.ground.proofs.Stores.{sets-snoc}
 use Rattle.text.proofs.Limit.{limitAt, limits-more, limits-end, length-limits}
 use Rattle.text.proofs.Entry.{reach, entry-reach}
@@ -41,9 +42,11 @@ ender-left : (ls : List Limit) → ender ls ≡ cond (eqb (length ls) 0) feed ta
 ender-left [] = refl
 ender-left (l ∷ ls) = rw (lib.Dec.eqb·suc-zero (length ls))
 
-pub ender-after : (t : List (List ℕ)) (k : ℕ) → ender (limitsOf (drop (k + 1) t)) ≡ cond (eqb (length t - k - 1) 0) feed tab
+pub ender-after : (t : List (List ℕ)) (k : ℕ)
+    → ender (limitsOf (drop (k + 1) t)) ≡ cond (eqb (length t - k - 1) 0) feed tab
 ender-after t k =
-    let n : length (limitsOf (drop (k + 1) t)) ≡ length t - k - 1 = omega (arith, length-limits (drop (k + 1) t), length-drop (k + 1) t) in
+    let n : length (limitsOf (drop (k + 1) t)) ≡ length t - k - 1 =
+    omega (arith, length-limits (drop (k + 1) t), length-drop (k + 1) t) in
     ender-left (limitsOf (drop (k + 1) t)) ∙ rw n
 
 -- k numbers are read, which took `at` bytes of t
@@ -56,26 +59,40 @@ pub record State (table : List (List ℕ)) (t o₀ o : List ℕ) (k last at : �
   pub so-far : readNumbers (limitsOf table) 0 t ≡ after so at (readNumbers (limitsOf (drop k table)) last (drop at t))
 
 pub start : (table : List (List ℕ)) (t o : List ℕ) → State table t o o 0 0 0
-start table t o = record { so = []; k-in = omega arith; at-in = omega arith; many = refl; stored = refl; so-far = sym (after-nothing (readNumbers (limitsOf table) 0 t)) }
+start table t o =
+    record {
+      so = [];
+      k-in = omega arith;
+      at-in = omega arith;
+      many = refl;
+      stored = refl;
+      so-far = sym
+          (after-nothing (readNumbers (limitsOf table) 0 t));
+    }
 
 module _ {table : List (List ℕ)} {t o₀ o : List ℕ} {k last at : ℕ} (s : State table t o₀ o k last at) where
   pub done : length table ≤ k → Reads (readNumbers (limitsOf table) 0 t) o₀ (Taken at) o
   unfolding readNumbers
   done h =
-      let e : readNumbers (limitsOf table) 0 t ≡ after (s .so) at nothing = s .so-far ∙ ap (λ (ls : List Limit). after (s .so) at (readNumbers ls last (drop at t))) (limits-end table k h) in
+      let e : readNumbers (limitsOf table) 0 t ≡ after (s .so) at nothing =
+      s .so-far ∙ ap (λ (ls : List Limit). after (s .so) at (readNumbers ls last (drop at t))) (limits-end table k h) in
       record { answer = rw (e, add-zero at); stored = s .stored ∙ rw (e, append-nil (s .so)) }
 
   module _ (h : k < length table) (e : ℕ) (w : e ≡ cond (eqb (length table - k - 1) 0) feed tab) where
     entered : readNumbers (limitsOf (drop k table)) last (drop at t)
-        ≡ onEntry (readEntry (limitAt table k) last e (drop at t)) (readNumbers (limitsOf (drop (k + 1) table))) (drop at t)
+        ≡ onEntry (readEntry (limitAt table k) last e (drop at t)) (readNumbers (limitsOf (drop (k + 1) table)))
+        (drop at t)
     unfolding readNumbers
     entered = rw (limits-more table k h, ender-after table k, w)
 
     -- an entry stays within the text
     within : {r : EntryRead} → readEntry (limitAt table k) last e (drop at t) ≡ r → at + reach r ≤ length t
-    within {r} v = omega (arith, ap reach v, entry-reach (limitAt table k) last e (drop at t), length-drop at t, s .at-in)
+    within {r} v =
+        omega (arith, ap reach v, entry-reach (limitAt table k) last e (drop at t), length-drop at t, s .at-in)
 
-    pub fault-in : {number place : ℕ} → readEntry (limitAt table k) last e (drop at t) ≡ Misread number place → at + place ≤ length t
+    pub fault-in : {number place : ℕ}
+        → readEntry (limitAt table k) last e (drop at t) ≡ Misread number place
+        → at + place ≤ length t
     fault-in v = within v
 
     pub step-in : {n len : ℕ} → readEntry (limitAt table k) last e (drop at t) ≡ Number n len → at + len ≤ length t
@@ -85,19 +102,23 @@ module _ {table : List (List ℕ)} {t o₀ o : List ℕ} {k last at : ℕ} (s : 
         → Reads (readNumbers (limitsOf table) 0 t) o₀ (Fault number (at + place)) o
     fault {number} {place} v =
         let r : readNumbers (limitsOf (drop k table)) last (drop at t) ≡ refused number place = entered ∙ rw v in
-        let q : readNumbers (limitsOf table) 0 t ≡ after (s .so) at (refused number place) = s .so-far ∙ ap (after (s .so) at) r in
+        let q : readNumbers (limitsOf table) 0 t ≡ after (s .so) at (refused number place) =
+        s .so-far ∙ ap (after (s .so) at) r in
         record { answer = rw q; stored = s .stored ∙ rw (q, append-nil (s .so)) }
 
     pub step : {n len : ℕ} → readEntry (limitAt table k) last e (drop at t) ≡ Number n len
         → State table t o₀ (set o k n) (k + 1) n (at + len)
     step {n} {len} v =
         let rest : Reading = readNumbers (limitsOf (drop (k + 1) table)) n (drop (at + len) t) in
-        let q : readNumbers (limitsOf (drop k table)) last (drop at t) ≡ after (n ∷ []) len rest = entered ∙ rw (v, drop-drop len at t) in
+        let q : readNumbers (limitsOf (drop k table)) last (drop at t) ≡ after (n ∷ []) len rest =
+        entered ∙ rw (v, drop-drop len at t) in
         record {
           so = s .so ++ (n ∷ []);
           k-in = omega arith;
           at-in = step-in v;
           many = omega (arith, s .many, length-append (s .so) (n ∷ []));
-          stored = ap (λ (x : List ℕ). set x k n) (s .stored) ∙ ap (λ (j : ℕ). set (sets o₀ 0 (s .so)) j n) (omega (arith, s .many)) ∙ sets-snoc o₀ 0 (s .so) n;
+          stored = ap (λ (x : List ℕ). set x k n) (s .stored)
+              ∙ ap (λ (j : ℕ). set (sets o₀ 0 (s .so)) j n) (omega (arith, s .many))
+              ∙ sets-snoc o₀ 0 (s .so) n;
           so-far = s .so-far ∙ ap (after (s .so) at) q ∙ after-after (s .so) (n ∷ []) at len rest;
         }

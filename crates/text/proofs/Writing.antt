@@ -39,16 +39,21 @@ numbers-take [] ns = refl
 numbers-take (l ∷ ls) [] = refl
 numbers-take (l ∷ ls) (n ∷ ns) = ap (λ (x : List ℕ). entryText l n ++ (ender ls ∷ x)) (numbers-take ls ns)
 
-pub numbers-end : (table : List (List ℕ)) (ns : List ℕ) (k : ℕ) → length table ≤ k → numbersText (limitsOf (drop k table)) (drop k ns) ≡ []
+pub numbers-end : (table : List (List ℕ)) (ns : List ℕ) (k : ℕ)
+    → length table ≤ k
+    → numbersText (limitsOf (drop k table)) (drop k ns) ≡ []
 unfolding numbersText
 numbers-end table ns k h = rw (limits-end table k h)
 
-pub numbers-out : (table : List (List ℕ)) (ns : List ℕ) (k : ℕ) → length ns ≤ k → numbersText (limitsOf (drop k table)) (drop k ns) ≡ []
+pub numbers-out : (table : List (List ℕ)) (ns : List ℕ) (k : ℕ)
+    → length ns ≤ k
+    → numbersText (limitsOf (drop k table)) (drop k ns) ≡ []
 numbers-out table ns k h = rw (drop-of-length-le ns {i = k} h) (numbers-none (limitsOf (drop k table)))
 
 numbers-more : (table : List (List ℕ)) (ns : List ℕ) (k : ℕ) → k < length table → k < length ns
     → numbersText (limitsOf (drop k table)) (drop k ns)
-    ≡ entryText (limitAt table k) (getD ns k 0) ++ (cond (eqb (length table - k - 1) 0) feed tab ∷ numbersText (limitsOf (drop (k + 1) table)) (drop (k + 1) ns))
+    ≡ entryText (limitAt table k) (getD ns k 0)
+    ++ (cond (eqb (length table - k - 1) 0) feed tab ∷ numbersText (limitsOf (drop (k + 1) table)) (drop (k + 1) ns))
 unfolding numbersText
 numbers-more table ns k h l = rw (limits-more table k h, drop-more ns k l, ender-after table k)
 
@@ -63,14 +68,21 @@ pub record State (table : List (List ℕ)) (ns o₀ o : List ℕ) (start k at : 
   pub so-far : numbersText (limitsOf table) ns ≡ so ++ numbersText (limitsOf (drop k table)) (drop k ns)
 
 pub begin : (table : List (List ℕ)) (ns o : List ℕ) (start : ℕ) → State table ns o o start 0 start
-begin table ns o start = record { so = []; k-in = omega arith; most = omega arith; laid = laid-none o start; so-far = refl }
+begin table ns o start =
+    record { so = []; k-in = omega arith; most = omega arith; laid = laid-none o start; so-far = refl }
 
 module _ {table : List (List ℕ)} {ns o₀ o : List ℕ} {start k at : ℕ} (s : State table ns o₀ o start k at) where
-  pub done : numbersText (limitsOf (drop k table)) (drop k ns) ≡ [] → Laid (numbersText (limitsOf table) ns) o₀ start at o
+  pub done : numbersText (limitsOf (drop k table)) (drop k ns) ≡ []
+      → Laid (numbersText (limitsOf table) ns) o₀ start at o
   done e = rw (s .so-far, e, append-nil) (s .laid)
 
-  pub step : {mid e : ℕ} {o₁ : List ℕ} → k < length table → k < length ns → getD ns k 0 < elevenDigits → e ≡ cond (eqb (length table - k - 1) 0) feed tab
-      → Laid (entryText (limitAt table k) (getD ns k 0)) o at mid o₁ → State table ns o₀ (set o₁ mid e) start (k + 1) (mid + 1)
+  pub step : {mid e : ℕ} {o₁ : List ℕ}
+      → k < length table
+      → k < length ns
+      → getD ns k 0 < elevenDigits
+      → e ≡ cond (eqb (length table - k - 1) 0) feed tab
+      → Laid (entryText (limitAt table k) (getD ns k 0)) o at mid o₁
+      → State table ns o₀ (set o₁ mid e) start (k + 1) (mid + 1)
   step {mid} {e} {o₁} h l n w p =
       let x : List ℕ = entryText (limitAt table k) (getD ns k 0) in
       record {

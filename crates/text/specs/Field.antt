@@ -1,4 +1,5 @@
--- 01, The sheet, how fields and lines are parted: what a field is, and how a text begins. Assumes nothing: these are definitions.
+-- 01, The sheet, how fields and lines are parted: what a field is, and how a text begins. Assumes nothing: these are
+-- definitions.
 use Prim.Native.Nat.{ℕ, suc}
 use mathlib.Core.Bool.{Bool, true, false, _||_}
 use mathlib.Core.List.{List, [], _∷_}

@@ -1,5 +1,6 @@
--- 01, The sheet, the table's limits of a number: a low and a high end; for some, that it is not above the number before; for some, that there may be none, written `-`.
--- Whatever reads, writes or checks a number goes by these alone. Assumes nothing: these are definitions.
+-- 01, The sheet, the table's limits of a number: a low and a high end; for some, that it is not above the number
+-- before; for some, that there may be none, written `-`. Whatever reads, writes or checks a number goes by these alone.
+-- Assumes nothing: these are definitions.
 use Prim.Native.Nat.{ℕ}
 use mathlib.Core.Bool.{Bool, true, false, _&&_, _||_, cond}
 use mathlib.Core.List.{List, [], _∷_, map}
@@ -59,7 +60,8 @@ allHold [] last (n ∷ ns) = false
 allHold (l ∷ ls) last [] = false
 allHold (l ∷ ls) last (n ∷ ns) = holds l last n && allHold ls n ns
 
--- whether any number up to the highest may stand, after whatever number: low..high goes down to 0, or to 1 with 0 for none
+-- whether any number up to the highest may stand, after whatever number: low..high goes down to 0, or to 1 with 0 for
+-- none
 unfoldable pub fromZero : Limit → Bool
 fromZero l = cond (eqb (l .rule) orNone) (leb (l .low) 1) (eqb (l .rule) plain && eqb (l .low) 0)
 

@@ -1,7 +1,7 @@
--- 01, The sheet: one record a line. A line is its literal bytes and then numbers, each ended by a tab but the last, which is ended by the line feed.
--- Of each number the form comes first, the byte after it included, and the limits second: 2, then 3.
--- Beside its number a refusal has a place, that of the first faulty byte, and where a limit is broken the start of the number; 01 wants the number alone.
--- Assumes nothing: these are definitions.
+-- 01, The sheet: one record a line. A line is its literal bytes and then numbers, each ended by a tab but the last,
+-- which is ended by the line feed. Of each number the form comes first, the byte after it included, and the limits
+-- second: 2, then 3. Beside its number a refusal has a place, that of the first faulty byte, and where a limit is
+-- broken the start of the number; 01 wants the number alone. Assumes nothing: these are definitions.
 use Prim.Native.Nat.{ℕ, _+_}
 use mathlib.Core.Path.{_≡_}
 use mathlib.Core.Bool.{true, false, _&&_, cond}
@@ -68,7 +68,8 @@ onEntry (Number n k) rest t = after (n ∷ []) k (rest n (drop k t))
 -- what a field that was read as r gives; len is its length, and t what stands after it
 abbrev pub judged : NumberRead → Limit → ℕ → ℕ → ℕ → List ℕ → EntryRead
 judged (Malformed at) l last e len t = Misread brokenLine at
-judged (Value n) l last e len t = cond (begins e t) (cond (within l last n) (Number n (len + 1)) (Misread outsideLimits 0)) (Misread brokenLine len)
+judged (Value n) l last e len t =
+    cond (begins e t) (cond (within l last n) (Number n (len + 1)) (Misread outsideLimits 0)) (Misread brokenLine len)
 
 -- a `-` where there may be none, with the byte that must end it
 abbrev pub readDash : ℕ → List ℕ → EntryRead
@@ -76,7 +77,9 @@ readDash e t = cond (begins e (drop 1 t)) (Number 0 2) (Misread brokenLine 1)
 
 -- the number at the start of t, after the number last, with the byte e that must end it
 unfoldable pub readEntry : Limit → ℕ → ℕ → List ℕ → EntryRead
-readEntry l last e t = cond (eqb (l .rule) orNone && begins dash t) (readDash e t) (judged (numberOf (fieldOf t)) l last e (length (fieldOf t)) (drop (length (fieldOf t)) t))
+readEntry l last e t =
+    cond (eqb (l .rule) orNone && begins dash t) (readDash e t)
+    (judged (numberOf (fieldOf t)) l last e (length (fieldOf t)) (drop (length (fieldOf t)) t))
 
 -- numbers by their limits, after the number last
 unfoldable pub readNumbers : List Limit → ℕ → List ℕ → Reading

@@ -1,4 +1,5 @@
-// What a line of text is: definitions in specs/, laws in proofs/, and the types and numbers that the code names. The code is the crate spelling.
+// What a line of text is: definitions in specs/, laws in proofs/, and the types and numbers that the code names. The
+// code is the crate spelling.
 
 // What a number of a line may be: its least and greatest value, and a rule.
 pub type Limit = [u32; 3];
@@ -16,7 +17,8 @@ pub enum NumberRead {
     Malformed(usize),
 }
 
-// What a number with the byte that ends it reads as: the number and how many bytes both took, or a refusal and its place.
+// What a number with the byte that ends it reads as: the number and how many bytes both took, or a refusal and its
+// place.
 pub enum EntryRead {
     Number(u32, usize),
     Misread(u32, usize),

@@ -18,30 +18,37 @@ abbrev μ-loop : tie.MeasureT-loop
 
 slice-aggregate-result : tie.Need-slice-aggregate-result Inv-loop μ-loop
 slice-aggregate-result c =
-    let h = c .before .before .before .before in sym (length-take-le (h .loop .i) (h .before .args .text .now) (h .loop .inv .0))
+    let h = c .before .before .before .before in
+    sym (length-take-le (h .loop .i) (h .before .args .text .now) (h .loop .inv .0))
 
 returns : tie.Need-returns Inv-loop μ-loop
 returns c =
     let at-loop-test = c .before .before .before in
     let h = c .before .before .before .before in
-    walked-stop (h .before .args .text .now) (h .loop .i) (at-loop-test .loop-test .taken) (h .loop .inv .1) (simp (eq-eqb _ _ (c .before .if1 .taken)))
+    walked-stop (h .before .args .text .now) (h .loop .i) (at-loop-test .loop-test .taken) (h .loop .inv .1)
+    (simp (eq-eqb _ _ (c .before .if1 .taken)))
 
 slice-aggregate-result-2 : tie.Need-slice-aggregate-result-2 Inv-loop μ-loop
 slice-aggregate-result-2 c =
-    let h = c .before .before .before .before .before .before in sym (length-take-le (h .loop .i) (h .before .args .text .now) (h .loop .inv .0))
+    let h = c .before .before .before .before .before .before in
+    sym (length-take-le (h .loop .i) (h .before .args .text .now) (h .loop .inv .0))
 
 returns-2 : tie.Need-returns-2 Inv-loop μ-loop
 returns-2 c =
     let at-loop-test = c .before .before .before .before .before in
     let at-if1 = c .before .before .before in
     let h = c .before .before .before .before .before .before in
-    walked-stop (h .before .args .text .now) (h .loop .i) (at-loop-test .loop-test .taken) (h .loop .inv .1) (simp (ne-eqb _ _ (at-if1 .if1 .left), eq-eqb _ _ (c .before .if2 .taken)))
+    walked-stop (h .before .args .text .now) (h .loop .i) (at-loop-test .loop-test .taken) (h .loop .inv .1)
+    (simp (ne-eqb _ _ (at-if1 .if1 .left), eq-eqb _ _ (c .before .if2 .taken)))
 
 loop-again : tie.Need-loop-again Inv-loop μ-loop
 loop-again c =
     let at-loop-test = c .before .before .before .before in
-    let h = c .before .before .before .before .before in
-    (omega arith, walked-more (h .before .args .text .now) (h .loop .i) (at-loop-test .loop-test .taken) (h .loop .inv .1) (simp (ne-eqb _ _ (c .before .before .if1 .left), ne-eqb _ _ (c .if2 .left))))
+    let h = c .before .before .before .before .before in (
+      omega arith,
+      walked-more (h .before .args .text .now) (h .loop .i) (at-loop-test .loop-test .taken) (h .loop .inv .1)
+          (simp (ne-eqb _ _ (c .before .before .if1 .left), ne-eqb _ _ (c .if2 .left))),
+    )
 
 returns-3 : tie.Need-returns-3 Inv-loop μ-loop
 returns-3 c =

@@ -23,23 +23,36 @@ slice-write-out : tie.Need-slice-write-out Inv-loop μ-loop
 slice-write-out c =
     let at-shorter = c .before .before .before in
     let start = c .before .before .before .before .before .before in
-    omega (arith, at-shorter .shorter .ensures, c .before .loop-test .taken, ap length (c .before .before .loop .inv .1), length-sets (start .args .out .now) 0 (take (c .before .before .loop .i) (start .args .bytes .now)))
+    omega (
+      arith,
+      at-shorter .shorter .ensures,
+      c .before .loop-test .taken,
+      ap length (c .before .before .loop .inv .1),
+      length-sets (start .args .out .now) 0 (take (c .before .before .loop .i) (start .args .bytes .now)),
+    )
 
 loop-again : tie.Need-loop-again Inv-loop μ-loop
 loop-again c =
     let start = c .before .before .before .before .before .before in
-    let at-shorter = c .before .before .before in
-    (omega arith, rw (c .before .before .loop .inv .1) (sets-take (start .args .out .now) (start .args .bytes .now) (c .before .before .loop .i) (omega (arith, at-shorter .shorter .ensures, c .before .loop-test .taken))))
+    let at-shorter = c .before .before .before in (
+      omega arith,
+      rw (c .before .before .loop .inv .1)
+          (sets-take (start .args .out .now) (start .args .bytes .now) (c .before .before .loop .i)
+          (omega (arith, at-shorter .shorter .ensures, c .before .loop-test .taken))),
+    )
 
 same-length : tie.Need-same-length Inv-loop μ-loop
 same-length c =
     let start = c .before .before .before .before .before in
-    ap length (c .before .loop .inv .1) ∙ length-sets (start .args .out .now) 0 (take (c .before .loop .i) (start .args .bytes .now))
+    ap length (c .before .loop .inv .1)
+    ∙ length-sets (start .args .out .now) 0 (take (c .before .loop .i) (start .args .bytes .now))
 
 returns : tie.Need-returns Inv-loop μ-loop
 returns c =
     let start = c .before .before .before .before .before in
-    c .before .loop .inv .1 ∙ sets-enough (start .args .out .now) (start .args .bytes .now) (c .before .loop .i) (omega (arith, c .before .before .shorter .ensures, c .loop-test .left))
+    c .before .loop .inv .1
+    ∙ sets-enough (start .args .out .now) (start .args .bytes .now) (c .before .loop .i)
+    (omega (arith, c .before .before .shorter .ensures, c .loop-test .left))
 
 pub write-bytes-spec : {M : Type 1} → statement M
 write-bytes-spec =

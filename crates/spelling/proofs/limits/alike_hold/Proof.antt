@@ -12,7 +12,8 @@ returns : tie.Need-returns
 returns c =
     let start = c .before .before in
     let l = limitOf (start .args .t1) in
-    ap (λ (n : ℕ). leb n (l .high)) (c .greatest .ensures) ∙ sym (alike-holds l 0 (start .args .numbers .now) (start .pre))
+    ap (λ (n : ℕ). leb n (l .high)) (c .greatest .ensures)
+    ∙ sym (alike-holds l 0 (start .args .numbers .now) (start .pre))
 
 pub alike-hold-spec : {M : Type 1} → statement M
 alike-hold-spec =

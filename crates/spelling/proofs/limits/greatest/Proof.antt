@@ -20,8 +20,12 @@ loop-again : tie.Need-loop-again Inv-loop μ-loop
 loop-again c =
     let a = c .before .before .before .before .args in
     let at = c .before .before .before .loop in
-    let next : c .if1 .top ≡ max (at .top) (getD (a .numbers .now) (at .k) 0) = ⊎-elim (λ w. omega arith) (λ w. omega arith) (c .if1 .came) in
-    (omega arith, greatest-more (a .numbers .now) (at .k) (at .top) (c .if1 .top) (c .before .before .loop-test .taken) next ∙ at .inv .1)
+    let next : c .if1 .top ≡ max (at .top) (getD (a .numbers .now) (at .k) 0) =
+    ⊎-elim (λ w. omega arith) (λ w. omega arith) (c .if1 .came) in (
+      omega arith,
+      greatest-more (a .numbers .now) (at .k) (at .top) (c .if1 .top) (c .before .before .loop-test .taken) next
+          ∙ at .inv .1,
+    )
 
 returns : tie.Need-returns Inv-loop μ-loop
 returns c =

@@ -14,32 +14,42 @@ returns c =
 returns-2 : tie.Need-returns-2
 returns-2 c =
     let start = c .before .before in
-    sym (within-above (limitOf (start .args .t1)) (start .args .last) (start .args .n) (c .before .if1 .left) (c .if2 .taken))
+    sym
+    (within-above (limitOf (start .args .t1)) (start .args .last) (start .args .n) (c .before .if1 .left)
+    (c .if2 .taken))
 
 returns-3 : tie.Need-returns-3
 returns-3 c =
     let start = c .before .before .before in
-    sym (within-plain (limitOf (start .args .t1)) (start .args .last) (start .args .n) (c .before .before .if1 .left) (c .before .if2 .left) (c .if3 .taken))
+    sym
+    (within-plain (limitOf (start .args .t1)) (start .args .last) (start .args .n) (c .before .before .if1 .left)
+    (c .before .if2 .left) (c .if3 .taken))
 
 returns-4 : tie.Need-returns-4
 returns-4 c =
     let start = c .before .before .before .before in
     let at-if1 = c .before .before .before in
-    sym (within-or-none (limitOf (start .args .t1)) (start .args .last) (start .args .n) (at-if1 .if1 .left) (c .before .before .if2 .left) (c .if4 .taken))
+    sym
+    (within-or-none (limitOf (start .args .t1)) (start .args .last) (start .args .n) (at-if1 .if1 .left)
+    (c .before .before .if2 .left) (c .if4 .taken))
 
 returns-5 : tie.Need-returns-5
 returns-5 c =
     let start = c .before .before .before .before .before in
     let at-if1 = c .before .before .before .before in
     let at-if2 = c .before .before .before in
-    sym (within-capped (limitOf (start .args .t1)) (start .args .last) (start .args .n) (at-if1 .if1 .left) (at-if2 .if2 .left) (c .before .if4 .left) (c .if5 .taken))
+    sym
+    (within-capped (limitOf (start .args .t1)) (start .args .last) (start .args .n) (at-if1 .if1 .left)
+    (at-if2 .if2 .left) (c .before .if4 .left) (c .if5 .taken))
 
 returns-6 : tie.Need-returns-6
 returns-6 c =
     let start = c .before .before .before .before .before in
     let at-if1 = c .before .before .before .before in
     let at-if2 = c .before .before .before in
-    sym (within-other (limitOf (start .args .t1)) (start .args .last) (start .args .n) (at-if1 .if1 .left) (at-if2 .if2 .left) (c .before .if4 .left) (c .if5 .left))
+    sym
+    (within-other (limitOf (start .args .t1)) (start .args .last) (start .args .n) (at-if1 .if1 .left)
+    (at-if2 .if2 .left) (c .before .if4 .left) (c .if5 .left))
 
 pub is-within-spec : {M : Type 1} → statement M
 is-within-spec =

@@ -27,7 +27,14 @@ add-t22 c =
     let at-loop-test = c .before .before .before .before .before .before .before in
     let at-ender-before = c .before .before .before .before .before .before in
     let at-read-entry = c .before .before .before in
-    let h = fault-in (at-loop .loop .inv .0) (omega (arith, at-loop .loop .inv .1, at-loop-test .loop-test .taken)) (at-ender-before .ender-before .result) (at-ender-before .ender-before .ensures ∙ ap (λ (n : ℕ). cond (eqb (n - at-loop .loop .k - 1) 0) feed tab) (at-loop .loop .inv .1)) (sym (ap (readEntry _ _ _) (rest-part (start .args .text .now) (at-loop .loop .at))) ∙ sym (at-read-entry .read-entry .ensures) ∙ c .before .refusal .given .1) in
+    let h =
+    fault-in (at-loop .loop .inv .0) (omega (arith, at-loop .loop .inv .1, at-loop-test .loop-test .taken))
+    (at-ender-before .ender-before .result)
+    (at-ender-before .ender-before .ensures
+    ∙ ap (λ (n : ℕ). cond (eqb (n - at-loop .loop .k - 1) 0) feed tab) (at-loop .loop .inv .1))
+    (sym (ap (readEntry _ _ _) (rest-part (start .args .text .now) (at-loop .loop .at)))
+    ∙ sym (at-read-entry .read-entry .ensures)
+    ∙ c .before .refusal .given .1) in
     omega arith
 
 same-length : tie.Need-same-length Inv-loop μ-loop
@@ -42,28 +49,52 @@ returns c =
     let at-loop-test = c .before .before .before .before .before .before .before in
     let at-ender-before = c .before .before .before .before .before .before in
     let at-read-entry = c .before .before .before in
-    fault (at-loop .loop .inv .0) (omega (arith, at-loop .loop .inv .1, at-loop-test .loop-test .taken)) (at-ender-before .ender-before .result) (at-ender-before .ender-before .ensures ∙ ap (λ (n : ℕ). cond (eqb (n - at-loop .loop .k - 1) 0) feed tab) (at-loop .loop .inv .1)) (sym (ap (readEntry _ _ _) (rest-part (start .args .text .now) (at-loop .loop .at))) ∙ sym (at-read-entry .read-entry .ensures) ∙ c .before .refusal .given .1)
+    fault (at-loop .loop .inv .0) (omega (arith, at-loop .loop .inv .1, at-loop-test .loop-test .taken))
+    (at-ender-before .ender-before .result)
+    (at-ender-before .ender-before .ensures
+    ∙ ap (λ (n : ℕ). cond (eqb (n - at-loop .loop .k - 1) 0) feed tab) (at-loop .loop .inv .1))
+    (sym (ap (readEntry _ _ _) (rest-part (start .args .text .now) (at-loop .loop .at)))
+    ∙ sym (at-read-entry .read-entry .ensures)
+    ∙ c .before .refusal .given .1)
 
 add-at : tie.Need-add-at Inv-loop μ-loop
 add-at c =
-    let start = c .before .before .before .before .before .before .before .before .before .before .before .before .before .before .before in
+    let start =
+    c .before .before .before .before .before .before .before .before .before .before .before .before .before .before .before in
     let at-loop = c .before .before .before .before .before .before .before .before .before .before .before .before in
     let at-loop-test = c .before .before .before .before .before .before .before .before .before .before .before in
     let at-ender-before = c .before .before .before .before .before .before .before .before .before .before in
     let at-read-entry = c .before .before .before .before .before .before .before in
     let at-n = c .before .before .before .before .before in
-    let h = step-in (at-loop .loop .inv .0) (omega (arith, at-loop .loop .inv .1, at-loop-test .loop-test .taken)) (at-ender-before .ender-before .result) (at-ender-before .ender-before .ensures ∙ ap (λ (n : ℕ). cond (eqb (n - at-loop .loop .k - 1) 0) feed tab) (at-loop .loop .inv .1)) (sym (ap (readEntry _ _ _) (rest-part (start .args .text .now) (at-loop .loop .at))) ∙ sym (at-read-entry .read-entry .ensures) ∙ at-n .n .given .1) in
+    let h =
+    step-in (at-loop .loop .inv .0) (omega (arith, at-loop .loop .inv .1, at-loop-test .loop-test .taken))
+    (at-ender-before .ender-before .result)
+    (at-ender-before .ender-before .ensures
+    ∙ ap (λ (n : ℕ). cond (eqb (n - at-loop .loop .k - 1) 0) feed tab) (at-loop .loop .inv .1))
+    (sym (ap (readEntry _ _ _) (rest-part (start .args .text .now) (at-loop .loop .at)))
+    ∙ sym (at-read-entry .read-entry .ensures)
+    ∙ at-n .n .given .1) in
     omega arith
 
 loop-again : tie.Need-loop-again Inv-loop μ-loop
 loop-again c =
-    let start = c .before .before .before .before .before .before .before .before .before .before .before .before .before .before .before in
+    let start =
+    c .before .before .before .before .before .before .before .before .before .before .before .before .before .before .before in
     let at-loop = c .before .before .before .before .before .before .before .before .before .before .before .before in
     let at-loop-test = c .before .before .before .before .before .before .before .before .before .before .before in
     let at-ender-before = c .before .before .before .before .before .before .before .before .before .before in
     let at-read-entry = c .before .before .before .before .before .before .before in
-    let at-n = c .before .before .before .before .before in
-    (rw (c .before .before .store-number .ensures) (step (at-loop .loop .inv .0) (omega (arith, at-loop .loop .inv .1, at-loop-test .loop-test .taken)) (at-ender-before .ender-before .result) (at-ender-before .ender-before .ensures ∙ ap (λ (n : ℕ). cond (eqb (n - at-loop .loop .k - 1) 0) feed tab) (at-loop .loop .inv .1)) (sym (ap (readEntry _ _ _) (rest-part (start .args .text .now) (at-loop .loop .at))) ∙ sym (at-read-entry .read-entry .ensures) ∙ at-n .n .given .1)), at-loop .loop .inv .1)
+    let at-n = c .before .before .before .before .before in (
+      rw (c .before .before .store-number .ensures)
+          (step (at-loop .loop .inv .0) (omega (arith, at-loop .loop .inv .1, at-loop-test .loop-test .taken))
+          (at-ender-before .ender-before .result)
+          (at-ender-before .ender-before .ensures
+          ∙ ap (λ (n : ℕ). cond (eqb (n - at-loop .loop .k - 1) 0) feed tab) (at-loop .loop .inv .1))
+          (sym (ap (readEntry _ _ _) (rest-part (start .args .text .now) (at-loop .loop .at)))
+          ∙ sym (at-read-entry .read-entry .ensures)
+          ∙ at-n .n .given .1)),
+      at-loop .loop .inv .1,
+    )
 
 same-length-2 : tie.Need-same-length-2 Inv-loop μ-loop
 same-length-2 c = ap length (c .before .loop .inv .0 .stored) ∙ simp length-sets

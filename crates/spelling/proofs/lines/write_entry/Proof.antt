@@ -11,7 +11,8 @@ returns c =
     let start = c .before .before .before .before .before .before .before in
     let at-is-none = c .before .before .before .before .before in
     let at-if1 = c .before .before .before .before in
-    simp (← at-is-none .is-none .ensures, at-if1 .if1 .taken, c .before .before .store .ensures) (laid-byte (start .args .out .now) (start .args .at) 45)
+    simp (← at-is-none .is-none .ensures, at-if1 .if1 .taken, c .before .before .store .ensures)
+    (laid-byte (start .args .out .now) (start .args .at) 45)
 
 add-result-2 : tie.Need-add-result-2
 add-result-2 c =
@@ -25,7 +26,9 @@ returns-2 c =
     let at-is-none = c .before .before .before .before .before .before in
     let at-if1 = c .before .before .before .before .before in
     let at-shorter = c .before .before .before .before in
-    simp (← at-is-none .is-none .ensures, at-if1 .if1 .left) (laid-left _ (start .args .out .now) _ (start .args .at) _ _ (at-shorter .shorter .ensures) (c .before .before .write-number .ensures))
+    simp (← at-is-none .is-none .ensures, at-if1 .if1 .left)
+    (laid-left _ (start .args .out .now) _ (start .args .at) _ _ (at-shorter .shorter .ensures)
+    (c .before .before .write-number .ensures))
 
 pub write-entry-spec : {M : Type 1} → statement M
 write-entry-spec =

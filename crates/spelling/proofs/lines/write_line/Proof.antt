@@ -8,7 +8,8 @@ returns : tie.Need-returns
 returns c =
     let start = c .before .before .before .before .before .before .before .before .before .before .before in
     let at-write-bytes = c .before .before .before .before .before .before in
-    laid-more (laid-start (start .args .tag .now) (start .args .out .now) _ (at-write-bytes .write-bytes .ensures)) (c .before .before .write-numbers .ensures)
+    laid-more (laid-start (start .args .tag .now) (start .args .out .now) _ (at-write-bytes .write-bytes .ensures))
+    (c .before .before .write-numbers .ensures)
 
 pub write-line-spec : {M : Type 1} → statement M
 write-line-spec =

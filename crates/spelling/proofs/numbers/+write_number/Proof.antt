@@ -38,10 +38,12 @@ write-number-add-store t c = search needs
 write-number-cast-store : (t : ℕ) → write-number-lts.Need-cast-store (calls t) (write-number-at t) write-number.Post
 write-number-cast-store t c = search needs
 
-write-number-store-requires : (t : ℕ) → write-number-lts.Need-store-requires (calls t) (write-number-at t) write-number.Post
+write-number-store-requires : (t : ℕ)
+    → write-number-lts.Need-store-requires (calls t) (write-number-at t) write-number.Post
 write-number-store-requires t c κs = search needs
 
-write-number-write-number-requires : (t : ℕ) → write-number-lts.Need-write-number-requires (calls t) (write-number-at t) write-number.Post
+write-number-write-number-requires : (t : ℕ)
+    → write-number-lts.Need-write-number-requires (calls t) (write-number-at t) write-number.Post
 write-number-write-number-requires t c κs = search needs
 
 write-number-add-store-2 : (t : ℕ) → write-number-lts.Need-add-store-2 (calls t) (write-number-at t) write-number.Post
@@ -50,7 +52,8 @@ write-number-add-store-2 t c = search needs
 write-number-cast-store-2 : (t : ℕ) → write-number-lts.Need-cast-store-2 (calls t) (write-number-at t) write-number.Post
 write-number-cast-store-2 t c = search needs
 
-write-number-store-requires-2 : (t : ℕ) → write-number-lts.Need-store-requires-2 (calls t) (write-number-at t) write-number.Post
+write-number-store-requires-2 : (t : ℕ)
+    → write-number-lts.Need-store-requires-2 (calls t) (write-number-at t) write-number.Post
 write-number-store-requires-2 t c κs = search needs
 
 write-number-add-result : (t : ℕ) → write-number-lts.Need-add-result (calls t) (write-number-at t) write-number.Post
@@ -69,7 +72,8 @@ write-number-returns t c =
     let at-if1 = c .before .before .before .before in
     laid-digit (start .args .n) (start .args .out .now) _ (at-if1 .if1 .taken) (c .before .before .store .ensures)
 
-write-number-same-length-2 : (t : ℕ) → write-number-lts.Need-same-length-2 (calls t) (write-number-at t) write-number.Post
+write-number-same-length-2 : (t : ℕ)
+    → write-number-lts.Need-same-length-2 (calls t) (write-number-at t) write-number.Post
 write-number-same-length-2 t c = search needs
 
 write-number-returns-2 : (t : ℕ) → write-number-lts.Need-returns-2 (calls t) (write-number-at t) write-number.Post
@@ -77,7 +81,8 @@ write-number-returns-2 t c =
     let start = c .before .before .before .before .before .before .before .before .before .before in
     let at-if1 = c .before .before .before .before .before .before .before .before in
     let at-write-number = c .before .before .before .before .before .before in
-    laid-digits (start .args .n) (start .args .out .now) _ _ _ (at-if1 .if1 .left) (at-write-number .write-number .ensures) (c .before .before .store2 .ensures)
+    laid-digits (start .args .n) (start .args .out .now) _ _ _ (at-if1 .if1 .left)
+    (at-write-number .write-number .ensures) (c .before .before .store2 .ensures)
 
 pub +write-number-spec : {M : Type 1} → statement M
 +write-number-spec = close μ-write-number λ t. write-number-lts.spec (calls t)

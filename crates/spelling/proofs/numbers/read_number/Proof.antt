@@ -46,7 +46,10 @@ mul-n c =
     let at-shorter = c .before .before .before .before .before in
     let at-loop = c .before .before .before .before in
     let at = at-loop .loop in
-    omega (arith, digits-nine (start .args .f .now) (at .n) (at .i) (at .inv .1) (omega (arith, at-shorter .shorter .ensures)))
+    omega (
+      arith,
+      digits-nine (start .args .f .now) (at .n) (at .i) (at .inv .1) (omega (arith, at-shorter .shorter .ensures)),
+    )
 
 add-n : tie.Need-add-n Inv-loop μ-loop
 add-n c =
@@ -56,7 +59,12 @@ add-n c =
     let f : List ℕ = start .args .f .now in
     let at = at-loop .loop in
     let e = sym (c .before .before .is-digit .ensures) ∙ c .before .if4 .taken in
-    omega (arith, digits-nine f (at .n) (at .i) (at .inv .1) (omega (arith, at-shorter .shorter .ensures)), digit-high (getD f (at .i) 0) e, c .digit .ensures)
+    omega (
+      arith,
+      digits-nine f (at .n) (at .i) (at .inv .1) (omega (arith, at-shorter .shorter .ensures)),
+      digit-high (getD f (at .i) 0) e,
+      c .digit .ensures,
+    )
 
 loop-again : tie.Need-loop-again Inv-loop μ-loop
 loop-again c =
@@ -65,8 +73,12 @@ loop-again c =
     let at-loop = c .before .before .before .before .before in
     let f : List ℕ = start .args .f .now in
     let at = at-loop .loop in
-    let e = sym (c .before .before .is-digit .ensures) ∙ c .before .if4 .taken in
-    (omega arith, rw (c .digit .ensures) (digits-next f (at .n) (at .i) (at .inv .1) (omega (arith, at-shorter .shorter .ensures)) (omega (arith, at-shorter .shorter .ensures)) e))
+    let e = sym (c .before .before .is-digit .ensures) ∙ c .before .if4 .taken in (
+      omega arith,
+      rw (c .digit .ensures)
+          (digits-next f (at .n) (at .i) (at .inv .1) (omega (arith, at-shorter .shorter .ensures))
+          (omega (arith, at-shorter .shorter .ensures)) e),
+    )
 
 returns-4 : tie.Need-returns-4 Inv-loop μ-loop
 returns-4 c =
@@ -74,14 +86,18 @@ returns-4 c =
     let at-shorter = c .before .before .before .before .before in
     let at-loop = c .before .before .before .before in
     let at = at-loop .loop in
-    sym (digits-stop (start .args .f .now) (at .n) (at .i) (at .inv .1) (omega (arith, at-shorter .shorter .ensures)) (sym (c .before .is-digit .ensures) ∙ c .if4 .left))
+    sym
+    (digits-stop (start .args .f .now) (at .n) (at .i) (at .inv .1) (omega (arith, at-shorter .shorter .ensures))
+    (sym (c .before .is-digit .ensures) ∙ c .if4 .left))
 
 returns-5 : tie.Need-returns-5 Inv-loop μ-loop
 returns-5 c =
     let start = c .before .before .before .before .before .before .before .before in
     let at-shorter = c .before .before .before in
     let at = c .before .before .loop in
-    sym (digits-full (start .args .f .now) (at .n) (at .i) (at .inv .1) (c .if5 .taken) (omega (arith, at-shorter .shorter .ensures)))
+    sym
+    (digits-full (start .args .f .now) (at .n) (at .i) (at .inv .1) (c .if5 .taken)
+    (omega (arith, at-shorter .shorter .ensures)))
 
 returns-6 : tie.Need-returns-6 Inv-loop μ-loop
 returns-6 c =
