@@ -1,6 +1,10 @@
--- Conjunctions and choices.
+-- Conjunctions and choices, and proofs by cases.
 use mathlib.Core.Path.{_≡_, refl, sym}
+use mathlib.Core.Logic.{_≢_}
 use mathlib.Core.Bool.{Bool, true, false, not, _&&_, cond, true≢false}
+use Prim.Native.Nat.{ℕ, _≤_, _<_}
+use borrow.Author.Tests.{ltb-true, ltb-false, eqb-true, eqb-false}
+use lib.Dec.{ltb, eqb}
 
 -- ---- a conjunction
 
@@ -32,3 +36,15 @@ false-true e = absurd (true≢false (sym e))
 pub either : {A : Type 0} (P : A → Type 0) (u : Bool) {a b : A} → P a → P b → P (cond u a b)
 either P true h k = h
 either P false h k = k
+
+-- ---- cases: what follows from a test's either outcome follows
+
+pub by-test : {A : Type 0} (t : Bool) → (t ≡ true → A) → (t ≡ false → A) → A
+by-test true h k = h refl
+by-test false h k = k refl
+
+pub by-less : {A : Type 0} (m n : ℕ) → (m < n → A) → (n ≤ m → A) → A
+by-less m n h k = by-test (ltb m n) (λ e. h (ltb-true m n e)) (λ e. k (ltb-false m n e))
+
+pub by-equal : {A : Type 0} (m n : ℕ) → (m ≡ n → A) → (m ≢ n → A) → A
+by-equal m n h k = by-test (eqb m n) (λ e. h (eqb-true m n e)) (λ e. k (eqb-false m n e))

@@ -1,14 +1,15 @@
--- Laws of fields and of how a text begins. Assumes nothing.
+-- Laws of fields and of how a text begins.
 use mathlib.Core.Path.{_≡_, refl, sym, ap, _∙_}
-use mathlib.Core.Bool.{Bool, true, false, _||_, true≢false}
+use mathlib.Core.Bool.{true, false, _||_}
 use mathlib.Core.List.{List, [], _∷_, _++_, append-nil, append-assoc}
-use Prim.Native.Nat.{ℕ, suc, _+_, _≤_, _<_}
+use Prim.Native.Nat.{ℕ, suc, _+_, _≤_, _<_, min}
 use native.Mathlib.Numerals.{add-one}
 use native.Mathlib.Omega.{arith}
 use borrow.Author.Tests.{eq-eqb, ne-eqb, eqb-true}
 use lib.Dec.{eqb}
 use lib.ListN.{length, take, drop, getD, length-append, drop-of-length-le}
 use lib.Seq.{drop-cons, take-suc, take-all}
+use Rattle.ground.proofs.Booleans.{false-true, by-test, by-equal}
 use Rattle.text.specs.Quoted.{tab, feed}
 use Rattle.text.specs.Field.{fieldOf, begins, agreed}
 
@@ -23,12 +24,12 @@ begins-head b [] h = absurd (omega arith)
 begins-head b (c ∷ t) h = refl
 
 pub begins-some : (b : ℕ) (t : List ℕ) → begins b t ≡ true → 0 < length t
-begins-some b [] e = absurd (true≢false (sym e))
+begins-some b [] e = false-true e
 begins-some b (c ∷ t) e = omega arith
 
 -- a text that begins with b is b and the rest
 pub begins-cons : (b : ℕ) (t : List ℕ) → begins b t ≡ true → t ≡ b ∷ drop 1 t
-begins-cons b [] e = absurd (true≢false (sym e))
+begins-cons b [] e = false-true e
 begins-cons b (c ∷ t) e = ap (λ (x : ℕ). x ∷ t) (eqb-true c b e)
 
 -- ---- the field, walked byte by byte
@@ -68,14 +69,9 @@ module _ (t : List ℕ) (i : ℕ) where
 pub field-split : (t : List ℕ) → fieldOf t ++ drop (length (fieldOf t)) t ≡ t
 unfolding fieldOf
 field-split [] = refl
-field-split (b ∷ t) = go (eqb b tab || eqb b feed) refl (field-split t)
-  where
-    go : (u : Bool)
-        → (eqb b tab || eqb b feed) ≡ u
-        → fieldOf t ++ drop (length (fieldOf t)) t ≡ t
-        → fieldOf (b ∷ t) ++ drop (length (fieldOf (b ∷ t))) (b ∷ t) ≡ b ∷ t
-    go true e ih = rw (field-stop b t e)
-    go false e ih = rw (field-more b t e) (ap (λ (l : List ℕ). b ∷ l) ih)
+field-split (b ∷ t) =
+    by-test (eqb b tab || eqb b feed) (λ e. rw (field-stop b t e))
+    (λ e. rw (field-more b t e) (ap (λ (l : List ℕ). b ∷ l) (field-split t)))
 
 pub field-most : (t : List ℕ) → length (fieldOf t) ≤ length t
 field-most t = omega (arith, length-append (fieldOf t) (drop (length (fieldOf t)) t), ap length (field-split t))
@@ -87,18 +83,12 @@ pub agreed-whole : (s t : List ℕ) → agreed s t ≡ length s → t ≡ s ++ d
 unfolding agreed
 agreed-whole [] t e = refl
 agreed-whole (a ∷ s) [] e = absurd (omega arith)
-agreed-whole (a ∷ s) (b ∷ t) e = go (eqb b a) refl e (agreed-whole s t)
-  where
-    go : (u : Bool)
-        → eqb b a ≡ u
-        → (elim u [ true ↦ suc (agreed s t) | false ↦ 0 ]) ≡ suc (length s)
-        → (agreed s t ≡ length s → t ≡ s ++ drop (length s) t)
-        → b ∷ t ≡ a ∷ (s ++ drop (length s) t)
-    go true w d ih =
-        let q : b ≡ a = eqb-true b a w in
-        let r : t ≡ s ++ drop (length s) t = ih (omega arith) in
-        ap (λ (x : ℕ). x ∷ t) q ∙ ap (λ (x : List ℕ). a ∷ x) r
-    go false w d ih = absurd (omega arith)
+agreed-whole (a ∷ s) (b ∷ t) e =
+    by-equal b a
+    (λ q.
+    let r : t ≡ s ++ drop (length s) t = agreed-whole s t (omega (arith, rw (eq-eqb b a q, agreed) at e)) in
+    ap (λ (x : ℕ). x ∷ t) q ∙ ap (λ (x : List ℕ). a ∷ x) r)
+    (λ q. absurd (omega (arith, rw (ne-eqb b a q, agreed) at e)))
 
 -- and a text that starts with the tag agrees whole
 pub agreed-self : (s t : List ℕ) → agreed s (s ++ t) ≡ length s
@@ -106,25 +96,18 @@ unfolding agreed
 agreed-self [] t = refl
 agreed-self (a ∷ s) t = rw (eq-eqb a a refl, agreed) (ap suc (agreed-self s t))
 
-pub agreed-most : (s t : List ℕ) → agreed s t ≤ length s
+agreed-least : (s t : List ℕ) → agreed s t ≤ min (length s) (length t)
 unfolding agreed
-agreed-most [] t = omega arith
-agreed-most (a ∷ s) [] = omega arith
-agreed-most (a ∷ s) (b ∷ t) = go (eqb b a) (agreed-most s t)
-  where
-    go : (u : Bool) → agreed s t ≤ length s → (elim u [ true ↦ suc (agreed s t) | false ↦ 0 ]) ≤ suc (length s)
-    go true ih = omega arith
-    go false ih = omega arith
+agreed-least [] t = omega arith
+agreed-least (a ∷ s) [] = omega arith
+agreed-least (a ∷ s) (b ∷ t) =
+    by-test (eqb b a) (λ e. rw (e, agreed) (omega (arith, agreed-least s t))) (λ e. rw (e, agreed) (omega arith))
+
+pub agreed-most : (s t : List ℕ) → agreed s t ≤ length s
+agreed-most s t = omega (arith, agreed-least s t)
 
 pub agreed-fits : (s t : List ℕ) → agreed s t ≤ length t
-unfolding agreed
-agreed-fits [] t = omega arith
-agreed-fits (a ∷ s) [] = omega arith
-agreed-fits (a ∷ s) (b ∷ t) = go (eqb b a) (agreed-fits s t)
-  where
-    go : (u : Bool) → agreed s t ≤ length t → (elim u [ true ↦ suc (agreed s t) | false ↦ 0 ]) ≤ suc (length t)
-    go true ih = omega arith
-    go false ih = omega arith
+agreed-fits s t = omega (arith, agreed-least s t)
 
 agreed-nil : (s : List ℕ) → agreed s [] ≡ 0
 unfolding agreed

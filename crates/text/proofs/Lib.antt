@@ -1,6 +1,7 @@
 -- The laws of the text layer, a file for each concept of specs/.
 pub mod Field
 pub mod Number
+pub mod NumberSteps
 pub mod Digits
 pub mod NumberTrip
 pub mod Limit

@@ -1,5 +1,5 @@
 -- `read_number` meets its contract. Assumes nothing.
-use Rattle.text.proofs.Number.{digit-high, number-empty, number-zero, zero-alone, zero-led}
+use Rattle.text.proofs.NumberSteps.{digit-high, number-empty, number-zero, zero-alone, zero-led}
 use Rattle.text.proofs.Digits.{Digits, digits-none, digits-nine, digits-next, digits-stop, digits-full, digits-end}
 use mathlib.Core.Path.{sym, _∙_}
 use mathlib.Core.List.{List}
@@ -48,7 +48,7 @@ mul-n c =
     let at = at-loop .loop in
     omega (
       arith,
-      digits-nine (start .args .f .now) (at .n) (at .i) (at .inv .1) (omega (arith, at-shorter .shorter .ensures)),
+      digits-nine (at .inv .1) (omega (arith, at-shorter .shorter .ensures)),
     )
 
 add-n : tie.Need-add-n Inv-loop μ-loop
@@ -61,7 +61,7 @@ add-n c =
     let e = sym (c .before .before .is-digit .ensures) ∙ c .before .if4 .taken in
     omega (
       arith,
-      digits-nine f (at .n) (at .i) (at .inv .1) (omega (arith, at-shorter .shorter .ensures)),
+      digits-nine (at .inv .1) (omega (arith, at-shorter .shorter .ensures)),
       digit-high (getD f (at .i) 0) e,
       c .digit .ensures,
     )
@@ -76,7 +76,7 @@ loop-again c =
     let e = sym (c .before .before .is-digit .ensures) ∙ c .before .if4 .taken in (
       omega arith,
       rw (c .digit .ensures)
-          (digits-next f (at .n) (at .i) (at .inv .1) (omega (arith, at-shorter .shorter .ensures))
+          (digits-next (at .inv .1) (omega (arith, at-shorter .shorter .ensures))
           (omega (arith, at-shorter .shorter .ensures)) e),
     )
 
@@ -87,7 +87,7 @@ returns-4 c =
     let at-loop = c .before .before .before .before in
     let at = at-loop .loop in
     sym
-    (digits-stop (start .args .f .now) (at .n) (at .i) (at .inv .1) (omega (arith, at-shorter .shorter .ensures))
+    (digits-stop (at .inv .1) (omega (arith, at-shorter .shorter .ensures))
     (sym (c .before .is-digit .ensures) ∙ c .if4 .left))
 
 returns-5 : tie.Need-returns-5 Inv-loop μ-loop
@@ -96,14 +96,14 @@ returns-5 c =
     let at-shorter = c .before .before .before in
     let at = c .before .before .loop in
     sym
-    (digits-full (start .args .f .now) (at .n) (at .i) (at .inv .1) (c .if5 .taken)
+    (digits-full (at .inv .1) (c .if5 .taken)
     (omega (arith, at-shorter .shorter .ensures)))
 
 returns-6 : tie.Need-returns-6 Inv-loop μ-loop
 returns-6 c =
     let start = c .before .before .before .before .before .before .before .before in
     let at = c .before .before .loop in
-    sym (digits-end (start .args .f .now) (at .n) (at .i) (at .inv .1) (c .if5 .left))
+    sym (digits-end (at .inv .1) (c .if5 .left))
 
 pub read-number-spec : {M : Type 1} → statement M
 read-number-spec =

@@ -1,0 +1,114 @@
+-- A field read as a number, digit by digit.
+use mathlib.Core.Path.{_≡_, refl, sym, ap, _∙_}
+use mathlib.Core.Logic.{_≢_}
+use mathlib.Core.Bool.{true, false, _&&_}
+use mathlib.Core.List.{List, [], _∷_}
+use Prim.Native.Nat.{ℕ, suc, _+_, _*_, _-_, _≤_, _<_}
+use native.Mathlib.Numerals.{add-one}
+use native.Mathlib.Omega.{arith}
+use borrow.Author.Tests.{le-leb, leb-true, eq-eqb, ne-eqb}
+use lib.Dec.{leb}
+use lib.ListN.{length, drop, getD, drop-of-length-le}
+use lib.Seq.{drop-cons}
+use Rattle.ground.proofs.Booleans.{both-hold, false-true, by-test, by-equal}
+use Rattle.text.specs.declared.NumberRead.the-variants.{Value, Malformed}
+use Rattle.text.specs.Number.{isDigit, nineDigits, restOf, zeroAlone, numberOf}
+
+-- ---- digits
+
+pub digit-is : (b : ℕ) → 48 ≤ b → b ≤ 57 → isDigit b ≡ true
+digit-is b h l = rw (le-leb 48 b h, le-leb b 57 l)
+
+pub digit-low : (b : ℕ) → isDigit b ≡ true → 48 ≤ b
+digit-low b e = leb-true 48 b (both-hold _ _ e .0)
+
+pub digit-high : (b : ℕ) → isDigit b ≡ true → b ≤ 57
+digit-high b e = leb-true b 57 (both-hold (leb 48 b) _ e .1)
+
+-- ---- a field, read digit by digit
+
+pub number-empty : (s : List ℕ) → length s ≡ 0 → numberOf s ≡ Malformed 0
+unfolding numberOf
+number-empty [] h = refl
+number-empty (b ∷ s) h = absurd (omega arith)
+
+pub number-zero : (s : List ℕ) → 0 < length s → getD s 0 0 ≡ 48 → numberOf s ≡ zeroAlone (drop 1 s)
+unfolding numberOf
+number-zero [] h e = absurd (omega arith)
+number-zero (b ∷ s) h e = rw (digit-is b (omega arith) (omega arith), eq-eqb b 48 e, numberOf)
+
+pub number-more : (s : List ℕ)
+    → 0 < length s
+    → isDigit (getD s 0 0) ≡ true
+    → (getD s 0 0 ≡ 48 → ⊥)
+    → numberOf s ≡ restOf (getD s 0 0 - 48) 1 (drop 1 s)
+unfolding numberOf
+number-more [] h d e = absurd (omega arith)
+number-more (b ∷ s) h d e = rw (d, ne-eqb b 48 e, numberOf)
+
+pub zero-alone : (s : List ℕ) → length s ≡ 1 → zeroAlone (drop 1 s) ≡ Value 0
+zero-alone [] h = absurd (omega arith)
+zero-alone (b ∷ []) h = refl
+zero-alone (b ∷ d ∷ s) h = absurd (omega arith)
+
+pub zero-led : (s : List ℕ) → 0 < length s → (length s ≡ 1 → ⊥) → zeroAlone (drop 1 s) ≡ Malformed 1
+zero-led [] h k = absurd (omega arith)
+zero-led (b ∷ []) h k = absurd (k refl)
+zero-led (b ∷ d ∷ s) h k = refl
+
+pub rest-step : (n i b : ℕ) (s : List ℕ)
+    → (isDigit b && leb n nineDigits) ≡ true
+    → restOf n i (b ∷ s) ≡ restOf (10 * n + (b - 48)) (suc i) s
+unfolding restOf
+rest-step n i b s e = rw (e, restOf)
+
+-- a field that starts with no `0` reads as what is left after no digits
+pub number-rest : (s : List ℕ) → 0 < length s → getD s 0 0 ≢ 48 → numberOf s ≡ restOf 0 0 s
+unfolding numberOf restOf
+number-rest [] h k = absurd (omega arith)
+number-rest (b ∷ s) h k =
+    by-test (isDigit b)
+    (λ e.
+    let w : b - 48 ≡ 10 * 0 + (b - 48) = omega arith in
+    number-more (b ∷ s) h e k ∙ ap (λ (n : ℕ). restOf n 1 s) w ∙ sym (rest-step 0 0 b s (rw e)))
+    (λ e. rw (e, numberOf, restOf))
+
+module _ (n j : ℕ) (s : List ℕ) (i : ℕ) where
+  pub rest-more : i < length s
+      → (isDigit (getD s i 0) && leb n nineDigits) ≡ true
+      → restOf n j (drop i s) ≡ restOf (10 * n + (getD s i 0 - 48)) (j + 1) (drop (i + 1) s)
+  rest-more h e = rw (add-one i, add-one j, drop-cons s i 0) (rest-step n j (getD s i 0) (drop (suc i) s) e)
+
+  pub rest-stops : i < length s
+      → (isDigit (getD s i 0) && leb n nineDigits) ≡ false
+      → restOf n j (drop i s) ≡ Malformed j
+  unfolding restOf
+  rest-stops h e = rw (drop-cons s i 0, e, restOf)
+
+  pub rest-end : length s ≤ i → restOf n j (drop i s) ≡ Value n
+  unfolding restOf
+  rest-end h = rw (drop-of-length-le s {i = i} h)
+
+-- ---- the place of a fault is in the field, or at its end
+
+rest-place : (n i : ℕ) (s : List ℕ) (at : ℕ) → restOf n i s ≡ Malformed at → at ≤ i + length s
+unfolding restOf
+rest-place n i [] at v = false-true (cc)
+rest-place n i (b ∷ s) at v =
+    by-test (isDigit b && leb n nineDigits)
+    (λ u. omega (arith, rest-place (10 * n + (b - 48)) (suc i) s at (rw (u, restOf) at v)))
+    (λ u.
+    let w : Malformed i ≡ Malformed at = rw (u, restOf) at v in
+    let z : i ≡ at = cc in
+    omega arith)
+
+zero-place : (s : List ℕ) (at : ℕ) → zeroAlone s ≡ Malformed at → at ≤ suc (length s)
+zero-place [] at v = false-true (cc)
+zero-place (b ∷ s) at v = let z : 1 ≡ at = cc in omega arith
+
+pub number-place : (f : List ℕ) (at : ℕ) → numberOf f ≡ Malformed at → at ≤ length f
+unfolding numberOf
+number-place [] at v = let z : 0 ≡ at = cc in omega arith
+number-place (b ∷ s) at v =
+    by-equal b 48 (λ e. zero-place s at (sym (number-zero (b ∷ s) (omega arith) e) ∙ v))
+    (λ e. omega (arith, rest-place 0 0 (b ∷ s) at (sym (number-rest (b ∷ s) (omega arith) e) ∙ v)))
