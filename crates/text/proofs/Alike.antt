@@ -1,14 +1,14 @@
--- Numbers that stand by one limit whose range goes down to 0: the greatest of them tells. Assumes nothing.
+-- Numbers that stand by one limit whose range goes down to 0: the greatest of them tells.
 use mathlib.Core.Path.{_≡_, refl, sym}
-use mathlib.Core.Bool.{Bool, true, false, _&&_, and-true}
+use mathlib.Core.Bool.{true, _&&_, and-true, and-false}
 use mathlib.Core.List.{List, [], _∷_, foldr}
 use Prim.Native.Nat.{ℕ, zero, suc, _+_, _≤_, _<_, max}
 use native.Mathlib.Omega.{arith}
-use borrow.Author.Tests.{eqb-true, leb-true, leb-false, le-leb, lt-leb, lt-ltb, ne-eqb}
+use borrow.Author.Tests.{eqb-true, leb-true, le-leb, lt-leb, lt-ltb, ne-eqb}
 use lib.Dec.{eqb, leb, leb·zero}
 use lib.ListN.{length, drop, getD, replicate, drop-of-length-le}
 use Rattle.text.specs.Limit.{Limit, plain, orNone, limit, holds, allHold, fromZero}
-use Rattle.ground.proofs.Booleans.{both-hold}
+use Rattle.ground.proofs.Booleans.{both-hold, by-test, by-less}
 use Rattle.ground.proofs.Stores.{drop-more}
 
 -- ---- the greatest, found number by number
@@ -38,24 +38,21 @@ or-none-holds low high last (suc n) h =
 
 low-holds : (l : Limit) (last n : ℕ) → fromZero l ≡ true → holds l last n ≡ leb n (l .high)
 unfolding fromZero
-low-holds l last n f = go (eqb (l .rule) orNone) refl
-  where
-    go : (t : Bool) → eqb (l .rule) orNone ≡ t → holds l last n ≡ leb n (l .high)
-    go true e =
-        rw (eqb-true (l .rule) orNone e) (or-none-holds (l .low) (l .high) last n (leb-true (l .low) 1 (rw e at f)))
-    go false e =
-        let p = both-hold (eqb (l .rule) plain) (eqb (l .low) 0) (rw e at f) in
-        rw (eqb-true (l .rule) plain (p .0), eqb-true (l .low) 0 (p .1)) (plain-holds (l .high) last n)
+low-holds l last n f =
+    by-test (eqb (l .rule) orNone)
+    (λ e. rw (eqb-true (l .rule) orNone e) (or-none-holds (l .low) (l .high) last n (leb-true (l .low) 1 (rw e at f))))
+    (λ e.
+    let p = both-hold (eqb (l .rule) plain) (eqb (l .low) 0) (rw e at f) in
+    rw (eqb-true (l .rule) plain (p .0), eqb-true (l .low) 0 (p .1)) (plain-holds (l .high) last n))
 
 -- ---- many numbers
 
 max-leb : (a b h : ℕ) → leb (max a b) h ≡ (leb a h && leb b h)
-max-leb a b h = go (leb a h) (leb b h) refl refl
-  where
-    go : (s t : Bool) → leb a h ≡ s → leb b h ≡ t → leb (max a b) h ≡ (s && t)
-    go true true p q = le-leb (max a b) h (omega (arith, leb-true a h p, leb-true b h q))
-    go true false p q = lt-leb (max a b) h (omega (arith, leb-false b h q))
-    go false t p q = lt-leb (max a b) h (omega (arith, leb-false a h p))
+max-leb a b h =
+    by-less h a (λ p. rw (lt-leb a h p) (lt-leb (max a b) h (omega arith)))
+    (λ p.
+    by-less h b (λ q. rw (lt-leb b h q, and-false) (lt-leb (max a b) h (omega arith)))
+    (λ q. rw (le-leb a h p, le-leb b h q) (le-leb (max a b) h (omega arith))))
 
 pub alike-holds : (l : Limit) (last : ℕ) (ns : List ℕ)
     → fromZero l ≡ true

@@ -1,11 +1,11 @@
 -- A number with its ending byte that is written reads back, and what reads as one is what it is written as.
 use mathlib.Core.Path.{_≡_, refl, sym, ap, _∙_}
-use mathlib.Core.Bool.{Bool, true, false, _&&_, _||_, cond, and-false}
+use mathlib.Core.Bool.{true, false, _&&_, _||_, and-false}
 use mathlib.Core.List.{List, [], _∷_, _++_, append-nil, append-assoc}
 use Prim.Native.Nat.{ℕ, _+_, _<_}
 use native.Mathlib.Omega.{arith}
-use borrow.Author.Tests.{eq-eqb, ne-eqb, eqb-true, ltb-true}
-use lib.Dec.{eqb, leb, ltb}
+use borrow.Author.Tests.{eq-eqb}
+use lib.Dec.{eqb}
 use lib.ListN.{length, drop, length-append}
 use lib.Seq.{drop-append-seam, drop-drop}
 use Rattle.ground.proofs.Booleans.{both-hold, false-true, by-test}
@@ -15,48 +15,15 @@ use Rattle.text.specs.declared.EntryRead.the-variants.{Number, Misread}
 use Rattle.text.specs.Quoted.{tab, feed, dash}
 use Rattle.text.specs.Field.{fieldOf, begins}
 use Rattle.text.specs.Number.{elevenDigits, numberOf, digitsOf}
-use Rattle.text.specs.Limit.{Limit, orNone, capped, isNone, within, holds}
+use Rattle.text.specs.Limit.{Limit, orNone, isNone, within, holds}
 use Rattle.text.specs.Line.{ender, judged, readEntry, entryText}
 use Rattle.text.proofs.Field.{begins-cons, field-split, field-stop}
 use Rattle.text.proofs.NumberTrip.{read-writes, written-reads, field-digits, no-dash}
-use Rattle.text.proofs.Limit.{within-high}
+use Rattle.text.proofs.Limit.{none-zero, within-some, holds-within, within-holds}
 use Rattle.text.proofs.Entry.{dash-ended, taken}
 use Rattle.text.proofs.Led.{Led}
-
--- ---- limits
-
-some : (u : Bool) (n : ℕ) (x : Bool) → cond u (ltb 0 n) x ≡ true → (u && eqb n 0) ≡ false
-some true n x e = let h = ltb-true 0 n e in ne-eqb n 0 (omega arith)
-some false n x e = refl
-
--- a number within its limit is not none
-pub within-some : (l : Limit) (last n : ℕ) → within l last n ≡ true → isNone l n ≡ false
-within-some l last n e =
-    some (eqb (l .rule) orNone) n (cond (eqb (l .rule) capped) (leb n last) true)
-    (both-hold (leb n (l .high)) _ (both-hold (leb (l .low) n) _ e .1) .1)
-
--- what may stand is none, or is within
-pub holds-within : (l : Limit) (last n : ℕ) → holds l last n ≡ true → isNone l n ≡ false → within l last n ≡ true
-holds-within l last n e d = rw d at e
-
-within-holds : (l : Limit) (last n : ℕ) → within l last n ≡ true → holds l last n ≡ true
-within-holds l last n e = rw (within-some l last n e, e)
-
-none-zero : (l : Limit) (n : ℕ) → isNone l n ≡ true → n ≡ 0
-none-zero l n e = eqb-true n 0 (both-hold (eqb (l .rule) orNone) (eqb n 0) e .1)
-
--- the limits take numbers of at most ten digits
-unfoldable pub narrow : List Limit → Bool
-narrow [] = true
-narrow (l ∷ ls) = ltb (l .high) elevenDigits && narrow ls
-
-pub holds-small : (l : Limit) (last n : ℕ)
-    → ltb (l .high) elevenDigits ≡ true
-    → holds l last n ≡ true
-    → n < elevenDigits
-holds-small l last n w e =
-    by-test (isNone l n) (λ d. omega (arith, none-zero l n d))
-    (λ d. omega (arith, within-high l last n (holds-within l last n e d), ltb-true (l .high) elevenDigits w))
+unfoldable pub use Rattle.text.proofs.Limit.{narrow}
+pub use Rattle.text.proofs.Limit.{holds-within}
 
 -- ---- a number and the byte that ends it
 

@@ -1,4 +1,4 @@
--- Laws of one reading followed by another. Assumes nothing.
+-- Laws of one reading followed by another.
 use mathlib.Core.Path.{_≡_, refl, sym, ap, _∙_}
 use mathlib.Core.List.{List, [], _++_, append-nil}
 use Prim.Native.Nat.{ℕ, _+_, _-_, _≤_}
@@ -7,10 +7,18 @@ use lib.ListN.{length, take, drop, length-drop}
 use Rattle.text.specs.declared.LineRead.{LineRead}
 use Rattle.text.specs.declared.LineRead.the-variants.{Taken, Fault}
 use Rattle.text.specs.Line.{Reading, Reads, shiftBy, after, followed}
+use Rattle.ground.proofs.Booleans.{false-true}
 use Rattle.ground.proofs.Stores.{putBack, part-append}
 use Rattle.text.proofs.Line.{extent, extent-shift}
 
--- ---- one reading followed by another
+-- ---- the two readings
+
+by-ended : {A : Type 0} (r : LineRead)
+    → ((k : ℕ) → r ≡ Taken k → A)
+    → ((number at : ℕ) → r ≡ Fault number at → A)
+    → A
+by-ended (Taken k) h g = h k refl
+by-ended (Fault number at) h g = g number at refl
 
 pub followed-taken : (p : Reading) (next : List ℕ → Reading) (t : List ℕ) (k : ℕ)
     → p .ended ≡ Taken k
@@ -56,12 +64,11 @@ pub followed-extent : (p : Reading) (next : List ℕ → Reading) (t : List ℕ)
     → extent (p .ended) ≤ length t
     → ((u : List ℕ) → extent (next u .ended) ≤ length u)
     → extent (followed p next t .ended) ≤ length t
-followed-extent p next t h ih = go (p .ended) refl
-  where
-    go : (r : LineRead) → p .ended ≡ r → extent (followed p next t .ended) ≤ length t
-    go (Taken k) e =
-        rw e (omega (arith, ap extent e, extent-shift k (next (drop k t) .ended), ih (drop k t), length-drop k t))
-    go (Fault number at) e = rw e (omega (arith, ap extent e))
+followed-extent p next t h ih =
+    by-ended (p .ended)
+    (λ k e.
+    rw e (omega (arith, ap extent e, extent-shift k (next (drop k t) .ended), ih (drop k t), length-drop k t)))
+    (λ number at e. rw e (omega (arith, ap extent e)))
 
 -- the two readings of one that went well
 pub record Parts (p : Reading) (next : List ℕ → Reading) (t : List ℕ) (k : ℕ) : Type 0 where
@@ -75,18 +82,16 @@ pub record Parts (p : Reading) (next : List ℕ → Reading) (t : List ℕ) (k :
 -- how a reading that went well after k bytes went
 pub shift-taken : (j : ℕ) (r : LineRead) (k : ℕ) → shiftBy j r ≡ Taken k → (i : ℕ) × (r ≡ Taken i) × (k ≡ j + i)
 shift-taken j (Taken i) k e = (i, refl, cc)
-shift-taken j (Fault number at) k e = let z : _≡_ {A = ℕ} 0 1 = cc in absurd (omega arith)
+shift-taken j (Fault number at) k e = false-true (cc)
 
 pub followed-parts : (p : Reading) (next : List ℕ → Reading) (t : List ℕ) (k : ℕ)
     → followed p next t .ended ≡ Taken k
     → Parts p next t k
-followed-parts p next t k h = go (p .ended) refl
-  where
-    go : (r : LineRead) → p .ended ≡ r → Parts p next t k
-    go (Taken j) e =
-        let s = shift-taken j (next (drop j t) .ended) k (rw e at h) in
-        record { first = j; rest = s .0; first-taken = e; rest-taken = s .1; both = s .2; numbers = rw e }
-    go (Fault number at) e =
-        let f : Fault number at ≡ Taken k = rw e at h in
-        let z : _≡_ {A = ℕ} 0 1 = cc in
-        absurd (omega arith)
+followed-parts p next t k h =
+    by-ended (p .ended)
+    (λ j e.
+    let s = shift-taken j (next (drop j t) .ended) k (rw e at h) in
+    record { first = j; rest = s .0; first-taken = e; rest-taken = s .1; both = s .2; numbers = rw e })
+    (λ number at e.
+    let f : Fault number at ≡ Taken k = rw e at h in
+    false-true (cc))

@@ -1,12 +1,13 @@
--- Laws of a whole line that is read, and of how far a reading reaches. Assumes nothing.
+-- Laws of a whole line that is read, and of how far a reading reaches.
 use mathlib.Core.Path.{_≡_, refl, sym, ap, _∙_}
-use mathlib.Core.Bool.{Bool, true, false}
+use mathlib.Core.Logic.{_≢_}
 use mathlib.Core.List.{List, [], _∷_}
 use Prim.Native.Nat.{ℕ, _+_, _-_, _≤_}
 use native.Mathlib.Omega.{arith}
-use borrow.Author.Tests.{eq-eqb, ne-eqb, eqb-true, eqb-false}
-use lib.Dec.{eqb}
+use borrow.Author.Tests.{eq-eqb, ne-eqb}
 use lib.ListN.{length, take, drop, length-drop}
+use Rattle.ground.proofs.Booleans.{by-equal}
+use Rattle.ground.proofs.Stores.{rest-part}
 use Rattle.text.specs.declared.EntryRead.{EntryRead}
 use Rattle.text.specs.declared.EntryRead.the-variants.{Number, Misread}
 use Rattle.text.specs.declared.LineRead.{LineRead}
@@ -16,7 +17,6 @@ use Rattle.text.specs.Field.{agreed}
 use Rattle.text.specs.Line.{Line, lineOf, Reading, Reads, shiftBy, after, refused, ender, onEntry, readEntry}
 use Rattle.text.specs.Line.{readNumbers, readLine}
 use Rattle.text.proofs.Field.{agreed-fits}
-use Rattle.ground.proofs.Stores.{rest-part}
 use Rattle.text.proofs.Entry.{reach, entry-reach}
 
 -- ---- a whole line
@@ -27,11 +27,12 @@ module _ (l : Line) (t : List ℕ) where
   unfolding readLine
   line-tagged e = rw (eq-eqb (agreed (l .tag) t) (length (l .tag)) e, readLine)
 
-  pub line-untagged : (agreed (l .tag) t ≡ length (l .tag) → ⊥) → readLine l t ≡ refused 2 (agreed (l .tag) t)
+  pub line-untagged : agreed (l .tag) t ≢ length (l .tag) → readLine l t ≡ refused 2 (agreed (l .tag) t)
   unfolding readLine
   line-untagged e = rw (ne-eqb (agreed (l .tag) t) (length (l .tag)) e, readLine)
 
--- how far a reading reaches into its text
+-- ---- how far a reading reaches into its text
+
 abbrev pub extent : LineRead → ℕ
 extent (Taken n) = n
 extent (Fault number at) = at
@@ -56,51 +57,46 @@ numbers-extent (l ∷ ls) last t =
     (numbers-extent ls)
 
 pub line-extent : (l : Line) (t : List ℕ) → extent (readLine l t .ended) ≤ length t
-line-extent l t = go (eqb (agreed (l .tag) t) (length (l .tag))) refl
-  where
-    go : (u : Bool) → eqb (agreed (l .tag) t) (length (l .tag)) ≡ u → extent (readLine l t .ended) ≤ length t
-    go true e =
-        let d = eqb-true (agreed (l .tag) t) (length (l .tag)) e in
-        rw (line-tagged l t d)
-        (omega (
-          arith,
-          extent-shift (length (l .tag)) (readNumbers (l .limits) 0 (drop (length (l .tag)) t) .ended),
-          numbers-extent (l .limits) 0 (drop (length (l .tag)) t),
-          length-drop (length (l .tag)) t,
-          agreed-fits (l .tag) t,
-        ))
-    go false e = rw (line-untagged l t (eqb-false (agreed (l .tag) t) (length (l .tag)) e)) (agreed-fits (l .tag) t)
+line-extent l t =
+    let n : ℕ = length (l .tag) in
+    by-equal (agreed (l .tag) t) n
+    (λ d.
+    let s = extent-shift n (readNumbers (l .limits) 0 (drop n t) .ended) in
+    let r = numbers-extent (l .limits) 0 (drop n t) in
+    rw (line-tagged l t d) (omega (arith, length-drop n t, agreed-fits (l .tag) t)))
+    (λ d. rw (line-untagged l t d) (agreed-fits (l .tag) t))
 
 -- ---- what the line reader leaves
 
-module _ (tag : List ℕ) (table : List (List ℕ)) (t o₀ : List ℕ) (same : ℕ) (q : same ≡ agreed tag t) where
-  pub reads-untagged : (same ≡ length tag → ⊥) → Reads (readLine (lineOf tag table) t) o₀ (Fault 2 same) o₀
-  reads-untagged n =
-      let e : readLine (lineOf tag table) t ≡ refused 2 same =
-      line-untagged (lineOf tag table) t (λ (d : agreed tag t ≡ length tag). n (q ∙ d)) ∙ rw q in
-      record { answer = rw e; stored = rw e }
+-- the text starts with the tag
+pub record Tagged (tag : List ℕ) (table : List (List ℕ)) (t : List ℕ) : Type 0 where
+  pub whole : agreed tag t ≡ length tag
 
-  module _ (d : same ≡ length tag) where
-    pub tag-fits : length tag ≤ length t
-    tag-fits = omega (arith, agreed-fits tag t)
+pub reads-untagged : (tag : List ℕ) (table : List (List ℕ)) (t o : List ℕ) (same : ℕ)
+    → same ≡ agreed tag t
+    → same ≢ length tag
+    → Reads (readLine (lineOf tag table) t) o (Fault 2 same) o
+reads-untagged tag table t o same q n =
+    let e : readLine (lineOf tag table) t ≡ refused 2 same =
+    line-untagged (lineOf tag table) t (λ (d : agreed tag t ≡ length tag). n (q ∙ d)) ∙ rw q in
+    record { answer = rw e; stored = rw e }
 
-    module _ {r : LineRead} {o : List ℕ}
-        (p : Reads (readNumbers (limitsOf table) 0 (take (length t - length tag) (drop (length tag) t))) o₀ r o) where
-      pub reads-tagged : Reads (readLine (lineOf tag table) t) o₀ (shiftBy (length tag) r) o
-      reads-tagged =
-          let e : readLine (lineOf tag table) t
-          ≡ after [] (length tag)
-          (readNumbers (limitsOf table) 0 (take (length t - length tag) (drop (length tag) t))) =
-          line-tagged (lineOf tag table) t (sym q ∙ d) ∙ rw (rest-part t (length tag)) in
-          record { answer = rw (e, p .answer); stored = p .stored ∙ rw e }
+module _ {tag : List ℕ} {table : List (List ℕ)} {t : List ℕ} (g : Tagged tag table t) where
+  pub tag-fits : length tag ≤ length t
+  tag-fits = omega (arith, g .whole, agreed-fits tag t)
 
-      pub tagged-in : length tag + extent r ≤ length t
-      tagged-in =
-          let n : length (take (length t - length tag) (drop (length tag) t)) ≡ length t - length tag =
-          ap length (rest-part t (length tag)) ∙ length-drop (length tag) t in
-          omega (
-            arith,
-            ap extent (p .answer),
-            numbers-extent (limitsOf table) 0 (take (length t - length tag) (drop (length tag) t)),
-            tag-fits,
-          )
+  module _ {r : LineRead} {o₀ o : List ℕ}
+      (p : Reads (readNumbers (limitsOf table) 0 (take (length t - length tag) (drop (length tag) t))) o₀ r o) where
+    -- what is left to read, as the reader was lent it
+    lent : Reads (readNumbers (limitsOf table) 0 (drop (length tag) t)) o₀ r o
+    lent = rw rest-part at p
+
+    pub reads-tagged : Reads (readLine (lineOf tag table) t) o₀ (shiftBy (length tag) r) o
+    reads-tagged =
+        let e = line-tagged (lineOf tag table) t (g .whole) in
+        record { answer = rw (e, lent .answer); stored = lent .stored ∙ rw e }
+
+    pub tagged-in : length tag + extent r ≤ length t
+    tagged-in =
+        let e = ap extent (lent .answer) in
+        omega (arith, numbers-extent (limitsOf table) 0 (drop (length tag) t), length-drop (length tag) t, tag-fits)

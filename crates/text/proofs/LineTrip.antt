@@ -1,12 +1,11 @@
 -- From numbers to a line's text and back, and from a text that reads to its numbers and back, whatever the form of the
--- line. Assumes nothing.
+-- line.
 use mathlib.Core.Path.{_≡_, refl, sym, _∙_}
-use mathlib.Core.Bool.{Bool, true, false, true≢false}
+use mathlib.Core.Bool.{true}
 use mathlib.Core.List.{List, [], _∷_, _++_, append-assoc}
 use Prim.Native.Nat.{ℕ, _+_}
 use native.Mathlib.Omega.{arith}
-use borrow.Author.Tests.{eqb-true, eqb-false}
-use lib.Dec.{eqb, ltb}
+use lib.Dec.{ltb}
 use lib.ListN.{length, drop, length-append}
 use lib.Seq.{drop-append-seam, drop-drop}
 use Rattle.text.specs.declared.EntryRead.{EntryRead}
@@ -18,11 +17,12 @@ use Rattle.text.specs.Limit.{Limit, holds, allHold}
 use Rattle.text.specs.Line.{Line, Reading, after, ender, onEntry, readEntry, readNumbers, readLine, entryText}
 use Rattle.text.specs.Line.{numbersText, lineText}
 use Rattle.text.proofs.Field.{agreed-whole, agreed-self}
-use Rattle.ground.proofs.Booleans.{both-hold}
+use Rattle.ground.proofs.Booleans.{both-hold, false-true, by-equal}
 use Rattle.text.proofs.Line.{line-tagged, line-untagged}
 use Rattle.text.proofs.Followed.{shift-taken}
 use Rattle.text.proofs.Led.{Led, led-more, led-none}
-use Rattle.text.proofs.EntryTrip.{ender-ends, entry-back, entry-forth, holds-small, narrow}
+use Rattle.text.proofs.Limit.{narrow, holds-small}
+use Rattle.text.proofs.EntryTrip.{ender-ends, entry-back, entry-forth}
 
 -- ---- numbers
 
@@ -33,8 +33,8 @@ numbers-forth : (ls : List Limit) (last : ℕ) (ns rest : List ℕ) → narrow l
     → readNumbers ls last (numbersText ls ns ++ rest) ≡ got (length (numbersText ls ns)) ns
 unfolding readNumbers numbersText allHold narrow
 numbers-forth [] last [] rest w h = refl
-numbers-forth [] last (n ∷ ns) rest w h = absurd (true≢false (sym h))
-numbers-forth (l ∷ ls) last [] rest w h = absurd (true≢false (sym h))
+numbers-forth [] last (n ∷ ns) rest w h = false-true h
+numbers-forth (l ∷ ls) last [] rest w h = false-true h
 numbers-forth (l ∷ ls) last (n ∷ ns) rest w h =
     let hs = both-hold (holds l last n) (allHold ls n ns) h in
     let ws = both-hold (ltb (l .high) elevenDigits) (narrow ls) w in
@@ -63,7 +63,7 @@ entered-back : (l : Limit) (ls : List Limit) (last : ℕ) (t : List ℕ) (r : En
     → BackAll (l ∷ ls) last (numbersText (l ∷ ls) (onEntry r (readNumbers ls) t .numbers)) t k
     (onEntry r (readNumbers ls) t .numbers)
 unfolding numbersText allHold
-entered-back l ls last t (Misread number at) k v ih e = let z : _≡_ {A = ℕ} 0 1 = cc in absurd (omega arith)
+entered-back l ls last t (Misread number at) k v ih e = false-true (cc)
 entered-back l ls last t (Number n j) k v ih e =
     let b = entry-back l last (ender ls) t n j v in
     let s = shift-taken j (readNumbers ls n (drop j t) .ended) k e in
@@ -102,21 +102,15 @@ line-forth l ns rest w h =
 pub line-back : (l : Line) (t : List ℕ) (k : ℕ)
     → readLine l t .ended ≡ Taken k
     → BackAll (l .limits) 0 (lineText l (readLine l t .numbers)) t k (readLine l t .numbers)
-line-back l t k e = go (eqb (agreed (l .tag) t) (length (l .tag))) refl
-  where
-    go : (u : Bool)
-        → eqb (agreed (l .tag) t) (length (l .tag)) ≡ u
-        → BackAll (l .limits) 0 (lineText l (readLine l t .numbers)) t k (readLine l t .numbers)
-    go true d =
-        let a = eqb-true (agreed (l .tag) t) (length (l .tag)) d in
-        let r = line-tagged l t a in
-        let s =
-        shift-taken (length (l .tag)) (readNumbers (l .limits) 0 (drop (length (l .tag)) t) .ended) k (rw r at e) in
-        let p = numbers-back (l .limits) 0 (drop (length (l .tag)) t) (s .0) (s .1) in
-        let q : Led (l .tag) t (length (l .tag)) = record { start = agreed-whole (l .tag) t a; count = refl } in
-        rw r (record { led = rw (s .2) (led-more q (p .led)); held = p .held })
-    go false d =
-        let r = line-untagged l t (eqb-false (agreed (l .tag) t) (length (l .tag)) d) in
-        let f : Fault 2 (agreed (l .tag) t) ≡ Taken k = rw r at e in
-        let z : _≡_ {A = ℕ} 0 1 = cc in
-        absurd (omega arith)
+line-back l t k e =
+    by-equal (agreed (l .tag) t) (length (l .tag))
+    (λ a.
+    let r = line-tagged l t a in
+    let rest : List ℕ = drop (length (l .tag)) t in
+    let s = shift-taken (length (l .tag)) (readNumbers (l .limits) 0 rest .ended) k (rw r at e) in
+    let p = numbers-back (l .limits) 0 rest (s .0) (s .1) in
+    let q : Led (l .tag) t (length (l .tag)) = record { start = agreed-whole (l .tag) t a; count = refl } in
+    rw r (record { led = rw (s .2) (led-more q (p .led)); held = p .held }))
+    (λ d.
+    let f : Fault 2 (agreed (l .tag) t) ≡ Taken k = rw (line-untagged l t d) at e in
+    false-true (cc))

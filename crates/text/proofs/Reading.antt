@@ -1,4 +1,4 @@
--- Laws of readings, one after another, and of the loop that reads numbers. Assumes nothing.
+-- Laws of readings, one after another, and of the loop that reads numbers.
 use mathlib.Core.Path.{_≡_, refl, sym, ap, _∙_}
 use mathlib.Core.Bool.{cond}
 use mathlib.Core.List.{List, [], _∷_, _++_, append-nil, append-assoc}
@@ -58,6 +58,12 @@ pub record State (table : List (List ℕ)) (t o₀ o : List ℕ) (k last at : �
   pub stored : o ≡ sets o₀ 0 so
   pub so-far : readNumbers (limitsOf table) 0 t ≡ after so at (readNumbers (limitsOf (drop k table)) last (drop at t))
 
+-- the next entry, ended by e, reads as r
+pub record Next (table : List (List ℕ)) (t : List ℕ) (k last at e : ℕ) (r : EntryRead) : Type 0 where
+  pub more : k < length table
+  pub ended : e ≡ cond (eqb (length table - k - 1) 0) feed tab
+  pub entry : readEntry (limitAt table k) last e (drop at t) ≡ r
+
 pub start : (table : List (List ℕ)) (t o : List ℕ) → State table t o o 0 0 0
 start table t o =
     record {
@@ -78,47 +84,37 @@ module _ {table : List (List ℕ)} {t o₀ o : List ℕ} {k last at : ℕ} (s : 
       s .so-far ∙ ap (λ (ls : List Limit). after (s .so) at (readNumbers ls last (drop at t))) (limits-end table k h) in
       record { answer = rw (e, add-zero at); stored = s .stored ∙ rw (e, append-nil (s .so)) }
 
-  module _ (h : k < length table) (e : ℕ) (w : e ≡ cond (eqb (length table - k - 1) 0) feed tab) where
+  module _ {e : ℕ} {r : EntryRead} (g : Next table t k last at e r) where
     entered : readNumbers (limitsOf (drop k table)) last (drop at t)
-        ≡ onEntry (readEntry (limitAt table k) last e (drop at t)) (readNumbers (limitsOf (drop (k + 1) table)))
-        (drop at t)
+        ≡ onEntry r (readNumbers (limitsOf (drop (k + 1) table))) (drop at t)
     unfolding readNumbers
-    entered = rw (limits-more table k h, ender-after table k, w)
+    entered = rw (limits-more table k (g .more), ender-after table k, ← g .ended, g .entry)
 
     -- an entry stays within the text
-    within : {r : EntryRead} → readEntry (limitAt table k) last e (drop at t) ≡ r → at + reach r ≤ length t
-    within {r} v =
-        omega (arith, ap reach v, entry-reach (limitAt table k) last e (drop at t), length-drop at t, s .at-in)
+    pub entry-in : at + reach r ≤ length t
+    entry-in =
+        omega (arith, ap reach (g .entry), entry-reach (limitAt table k) last e (drop at t), length-drop at t, s .at-in)
 
-    pub fault-in : {number place : ℕ}
-        → readEntry (limitAt table k) last e (drop at t) ≡ Misread number place
-        → at + place ≤ length t
-    fault-in v = within v
+  pub fault : {e number place : ℕ}
+      → Next table t k last at e (Misread number place)
+      → Reads (readNumbers (limitsOf table) 0 t) o₀ (Fault number (at + place)) o
+  fault {number = number} {place} g =
+      let q : readNumbers (limitsOf table) 0 t ≡ after (s .so) at (refused number place) =
+      s .so-far ∙ ap (after (s .so) at) (entered g) in
+      record { answer = rw q; stored = s .stored ∙ rw (q, append-nil (s .so)) }
 
-    pub step-in : {n len : ℕ} → readEntry (limitAt table k) last e (drop at t) ≡ Number n len → at + len ≤ length t
-    step-in v = within v
-
-    pub fault : {number place : ℕ} → readEntry (limitAt table k) last e (drop at t) ≡ Misread number place
-        → Reads (readNumbers (limitsOf table) 0 t) o₀ (Fault number (at + place)) o
-    fault {number} {place} v =
-        let r : readNumbers (limitsOf (drop k table)) last (drop at t) ≡ refused number place = entered ∙ rw v in
-        let q : readNumbers (limitsOf table) 0 t ≡ after (s .so) at (refused number place) =
-        s .so-far ∙ ap (after (s .so) at) r in
-        record { answer = rw q; stored = s .stored ∙ rw (q, append-nil (s .so)) }
-
-    pub step : {n len : ℕ} → readEntry (limitAt table k) last e (drop at t) ≡ Number n len
-        → State table t o₀ (set o k n) (k + 1) n (at + len)
-    step {n} {len} v =
-        let rest : Reading = readNumbers (limitsOf (drop (k + 1) table)) n (drop (at + len) t) in
-        let q : readNumbers (limitsOf (drop k table)) last (drop at t) ≡ after (n ∷ []) len rest =
-        entered ∙ rw (v, drop-drop len at t) in
-        record {
-          so = s .so ++ (n ∷ []);
-          k-in = omega arith;
-          at-in = step-in v;
-          many = omega (arith, s .many, length-append (s .so) (n ∷ []));
-          stored = ap (λ (x : List ℕ). set x k n) (s .stored)
-              ∙ ap (λ (j : ℕ). set (sets o₀ 0 (s .so)) j n) (omega (arith, s .many))
-              ∙ sets-snoc o₀ 0 (s .so) n;
-          so-far = s .so-far ∙ ap (after (s .so) at) q ∙ after-after (s .so) (n ∷ []) at len rest;
-        }
+  pub step : {e n len : ℕ}
+      → Next table t k last at e (Number n len)
+      → State table t o₀ (set o k n) (k + 1) n (at + len)
+  step {n = n} {len} g =
+      let rest : Reading = readNumbers (limitsOf (drop (k + 1) table)) n (drop (at + len) t) in
+      let q : readNumbers (limitsOf (drop k table)) last (drop at t) ≡ after (n ∷ []) len rest =
+      entered g ∙ rw (drop-drop len at t) in
+      record {
+        so = s .so ++ (n ∷ []);
+        k-in = omega (arith, g .more);
+        at-in = entry-in g;
+        many = omega (arith, s .many, length-append (s .so) (n ∷ []));
+        stored = rw (s .stored, ← s .many) (rw zero-add at (sets-snoc o₀ 0 (s .so) n));
+        so-far = s .so-far ∙ ap (after (s .so) at) q ∙ after-after (s .so) (n ∷ []) at len rest;
+      }

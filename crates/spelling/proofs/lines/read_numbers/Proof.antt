@@ -1,113 +1,75 @@
--- `read_numbers` meets its contract. Assumes nothing.
-use mathlib.Core.Path.{_≡_, refl, sym, ap, _∙_}
-use mathlib.Core.Bool.{cond}
-use Prim.Native.Nat.{ℕ, _-_}
-use lib.Dec.{eqb}
+-- `read_numbers` meets its contract.
+use mathlib.Core.Path.{_≡_, sym, ap, _∙_}
+use Prim.Native.Nat.{_-_}
 use lib.ListN.{length}
 use lib.Seq.{length-sets}
-use Rattle.text.specs.Quoted.{tab, feed}
-use Rattle.text.specs.Line.{readEntry}
+use Rattle.text.specs.declared.EntryRead.{EntryRead}
 use Rattle.ground.proofs.Stores.{rest-part}
-use Rattle.text.proofs.Reading.{State, start, done, fault-in, step-in, fault, step}
+use Rattle.text.proofs.Reading.{State, Next, start, done, entry-in, fault, step}
 use native.Mathlib.Omega.{arith}
 use borrow.Author.Needs.{needs}
 use Rattle.spelling.proofs.lines.read_numbers.Statement.{statement}
 use Rattle.spelling.proofs.lines.read_numbers.Tie as tie
 
 abbrev Inv-loop : tie.InvT-loop
-Inv-loop table text out₀ count k₀ last₀ at₀ out k last at = State table text out₀ out k last at × (count ≡ length table)
+Inv-loop table text out₀ count k₀ last₀ at₀ out k last at = State table text out₀ out k last at
 
 abbrev μ-loop : tie.MeasureT-loop
 μ-loop table text out₀ count k₀ last₀ at₀ out k last at = count - k
 
+abbrev turn : tie.After-read-entry Inv-loop μ-loop → tie.At-loop Inv-loop μ-loop
+turn c = c .before .before .before .before .before
+
+abbrev call : tie.After-read-entry Inv-loop μ-loop → tie.Start Inv-loop μ-loop
+call c = turn c .before .before .before
+
+next : (c : tie.After-read-entry Inv-loop μ-loop) {r : EntryRead}
+    → c .read-entry .result ≡ r
+    → Next (call c .args .table .now) (call c .args .text .now) (turn c .loop .k) (turn c .loop .last) (turn c .loop .at)
+    (c .before .before .before .ender-before .result) r
+next c e =
+    record {
+      more = c .before .before .before .before .loop-test .taken;
+      ended = c .before .before .before .ender-before .ensures;
+      entry = sym (rw rest-part at (c .read-entry .ensures)) ∙ e;
+    }
+
 add-t22 : tie.Need-add-t22 Inv-loop μ-loop
 add-t22 c =
-    let start = c .before .before .before .before .before .before .before .before .before .before .before in
-    let at-loop = c .before .before .before .before .before .before .before .before in
-    let at-loop-test = c .before .before .before .before .before .before .before in
-    let at-ender-before = c .before .before .before .before .before .before in
-    let at-read-entry = c .before .before .before in
-    let h =
-    fault-in (at-loop .loop .inv .0) (omega (arith, at-loop .loop .inv .1, at-loop-test .loop-test .taken))
-    (at-ender-before .ender-before .result)
-    (at-ender-before .ender-before .ensures
-    ∙ ap (λ (n : ℕ). cond (eqb (n - at-loop .loop .k - 1) 0) feed tab) (at-loop .loop .inv .1))
-    (sym (ap (readEntry _ _ _) (rest-part (start .args .text .now) (at-loop .loop .at)))
-    ∙ sym (at-read-entry .read-entry .ensures)
-    ∙ c .before .refusal .given .1) in
+    let at = c .before .before .before in
+    let h = entry-in (turn at .loop .inv) (next at (c .before .refusal .given .1)) in
     omega arith
 
 same-length : tie.Need-same-length Inv-loop μ-loop
-same-length c =
-    let at-loop = c .before .before .before .before .before .before .before .before in
-    ap length (at-loop .loop .inv .0 .stored) ∙ simp length-sets
+same-length c = ap length (turn (c .before .before .before) .loop .inv .stored) ∙ simp length-sets
 
 returns : tie.Need-returns Inv-loop μ-loop
 returns c =
-    let start = c .before .before .before .before .before .before .before .before .before .before .before in
-    let at-loop = c .before .before .before .before .before .before .before .before in
-    let at-loop-test = c .before .before .before .before .before .before .before in
-    let at-ender-before = c .before .before .before .before .before .before in
-    let at-read-entry = c .before .before .before in
-    fault (at-loop .loop .inv .0) (omega (arith, at-loop .loop .inv .1, at-loop-test .loop-test .taken))
-    (at-ender-before .ender-before .result)
-    (at-ender-before .ender-before .ensures
-    ∙ ap (λ (n : ℕ). cond (eqb (n - at-loop .loop .k - 1) 0) feed tab) (at-loop .loop .inv .1))
-    (sym (ap (readEntry _ _ _) (rest-part (start .args .text .now) (at-loop .loop .at)))
-    ∙ sym (at-read-entry .read-entry .ensures)
-    ∙ c .before .refusal .given .1)
+    let at = c .before .before .before in
+    fault (turn at .loop .inv) (next at (c .before .refusal .given .1))
+
+-- the number that was read, seen from after its store
+abbrev read : tie.After-slice-known2 Inv-loop μ-loop → tie.After-read-entry Inv-loop μ-loop
+read c = c .before .before .before .before .before .before .before
 
 add-at : tie.Need-add-at Inv-loop μ-loop
 add-at c =
-    let start =
-    c .before .before .before .before .before .before .before .before .before .before .before .before .before .before .before in
-    let at-loop = c .before .before .before .before .before .before .before .before .before .before .before .before in
-    let at-loop-test = c .before .before .before .before .before .before .before .before .before .before .before in
-    let at-ender-before = c .before .before .before .before .before .before .before .before .before .before in
-    let at-read-entry = c .before .before .before .before .before .before .before in
-    let at-n = c .before .before .before .before .before in
-    let h =
-    step-in (at-loop .loop .inv .0) (omega (arith, at-loop .loop .inv .1, at-loop-test .loop-test .taken))
-    (at-ender-before .ender-before .result)
-    (at-ender-before .ender-before .ensures
-    ∙ ap (λ (n : ℕ). cond (eqb (n - at-loop .loop .k - 1) 0) feed tab) (at-loop .loop .inv .1))
-    (sym (ap (readEntry _ _ _) (rest-part (start .args .text .now) (at-loop .loop .at)))
-    ∙ sym (at-read-entry .read-entry .ensures)
-    ∙ at-n .n .given .1) in
+    let h = entry-in (turn (read c) .loop .inv) (next (read c) (c .before .before .before .before .before .n .given .1)) in
     omega arith
 
 loop-again : tie.Need-loop-again Inv-loop μ-loop
 loop-again c =
-    let start =
-    c .before .before .before .before .before .before .before .before .before .before .before .before .before .before .before in
-    let at-loop = c .before .before .before .before .before .before .before .before .before .before .before .before in
-    let at-loop-test = c .before .before .before .before .before .before .before .before .before .before .before in
-    let at-ender-before = c .before .before .before .before .before .before .before .before .before .before in
-    let at-read-entry = c .before .before .before .before .before .before .before in
-    let at-n = c .before .before .before .before .before in (
-      rw (c .before .before .store-number .ensures)
-          (step (at-loop .loop .inv .0) (omega (arith, at-loop .loop .inv .1, at-loop-test .loop-test .taken))
-          (at-ender-before .ender-before .result)
-          (at-ender-before .ender-before .ensures
-          ∙ ap (λ (n : ℕ). cond (eqb (n - at-loop .loop .k - 1) 0) feed tab) (at-loop .loop .inv .1))
-          (sym (ap (readEntry _ _ _) (rest-part (start .args .text .now) (at-loop .loop .at)))
-          ∙ sym (at-read-entry .read-entry .ensures)
-          ∙ at-n .n .given .1)),
-      at-loop .loop .inv .1,
-    )
+    rw (c .before .before .store-number .ensures)
+    (step (turn (read c) .loop .inv) (next (read c) (c .before .before .before .before .before .n .given .1)))
 
 same-length-2 : tie.Need-same-length-2 Inv-loop μ-loop
-same-length-2 c = ap length (c .before .loop .inv .0 .stored) ∙ simp length-sets
-
-returns-2 : tie.Need-returns-2 Inv-loop μ-loop
-returns-2 c =
-    let at-loop = c .before in
-    done (at-loop .loop .inv .0) (omega (arith, at-loop .loop .inv .1, c .loop-test .left))
+same-length-2 c = ap length (c .before .loop .inv .stored) ∙ simp length-sets
 
 pub read-numbers-spec : {M : Type 1} → statement M
 read-numbers-spec =
     tie.close
-    (tie.spec Inv-loop μ-loop (λ c. (start _ _ _, refl)) (λ c. search needs) (λ c. search needs)
-    (λ c κs. search needs) (λ c. search needs) (λ c. search needs) (λ c. search needs) (λ c. search needs)
-    (λ c. search needs) (λ c κs. search needs) (λ c. search needs) add-t22 same-length returns (λ c. search needs)
-    (λ c κs. search needs) add-at (λ c. search needs) (λ c. search needs) loop-again same-length-2 returns-2)
+    (tie.spec Inv-loop μ-loop (λ c. start _ _ _) (λ c. search needs) (λ c. search needs) (λ c κs. search needs)
+    (λ c. search needs) (λ c. search needs) (λ c. search needs) (λ c. search needs) (λ c. search needs)
+    (λ c κs. search needs) (λ c. search needs) add-t22 same-length returns (λ c. search needs) (λ c κs. search needs)
+    add-at (λ c. search needs) (λ c. search needs) loop-again same-length-2
+    (λ c. done (c .before .loop .inv) (c .loop-test .left)))
