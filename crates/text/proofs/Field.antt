@@ -1,5 +1,6 @@
 -- Laws of fields and of how a text begins.
 use mathlib.Core.Path.{_≡_, refl, sym, ap, _∙_}
+use mathlib.Core.Logic.{_≢_}
 use mathlib.Core.Bool.{true, false, _||_}
 use mathlib.Core.List.{List, [], _∷_, _++_, append-nil, append-assoc}
 use Prim.Native.Nat.{ℕ, suc, _+_, _≤_, _<_, min}
@@ -42,27 +43,25 @@ pub field-more : (b : ℕ) (t : List ℕ) → (eqb b tab || eqb b feed) ≡ fals
 unfolding fieldOf
 field-more b t e = rw (e, fieldOf)
 
--- a field goes on with the field of the rest
-abbrev pub Walked : List ℕ → ℕ → Type 0
-Walked t i = fieldOf t ≡ take i t ++ fieldOf (drop i t)
+-- the first i bytes are all of the field, which goes on with the field of the rest
+pub record Walked (t : List ℕ) (i : ℕ) : Type 0 where
+  pub so-far : fieldOf t ≡ take i t ++ fieldOf (drop i t)
 
-module _ (t : List ℕ) (i : ℕ) where
-  pub walked-stop : i < length t
-      → Walked t i
-      → (eqb (getD t i 0) tab || eqb (getD t i 0) feed) ≡ true
-      → take i t ≡ fieldOf t
-  walked-stop h w e = sym (w ∙ rw (drop-cons t i 0, field-stop (getD t i 0) (drop (suc i) t) e, append-nil))
+pub walked-none : (t : List ℕ) → Walked t 0
+walked-none t = record { so-far = refl }
 
-  pub walked-more : i < length t
-      → Walked t i
-      → (eqb (getD t i 0) tab || eqb (getD t i 0) feed) ≡ false
-      → Walked t (i + 1)
-  walked-more h w e =
-      w ∙ rw (add-one, drop-cons t i 0, take-suc t i 0, append-assoc, field-more (getD t i 0) (drop (suc i) t) e)
+module _ {t : List ℕ} {i : ℕ} (g : Walked t i) where
+  pub walked-stop : i < length t → (eqb (getD t i 0) tab || eqb (getD t i 0) feed) ≡ true → take i t ≡ fieldOf t
+  walked-stop h e = sym (g .so-far ∙ rw (drop-cons t i 0, field-stop (getD t i 0) (drop (suc i) t) e, append-nil))
 
-  pub walked-end : length t ≤ i → Walked t i → t ≡ fieldOf t
+  pub walked-more : i < length t → (eqb (getD t i 0) tab || eqb (getD t i 0) feed) ≡ false → Walked t (i + 1)
+  walked-more h e =
+      let b : ℕ = getD t i 0 in
+      record { so-far = g .so-far ∙ rw (add-one, drop-cons t i 0, take-suc t i 0, append-assoc, field-more b (drop (suc i) t) e) }
+
+  pub walked-end : length t ≤ i → t ≡ fieldOf t
   unfolding fieldOf
-  walked-end h w = sym (w ∙ rw (take-all i t, drop-of-length-le t {i = i} h, append-nil))
+  walked-end h = sym (g .so-far ∙ rw (take-all i t, drop-of-length-le t {i = i} h, append-nil))
 
 -- ---- the field and what stands after it
 
@@ -114,21 +113,31 @@ unfolding agreed
 agreed-nil [] = refl
 agreed-nil (a ∷ s) = refl
 
-module _ (s t : List ℕ) (i : ℕ) where
-  pub agreed-past : length t ≤ i → agreed (drop i s) (drop i t) ≡ 0
-  agreed-past h = rw (drop-of-length-le t {i = i} h) (agreed-nil (drop i s))
+-- the first i bytes agree
+pub record Agreeing (s t : List ℕ) (i : ℕ) : Type 0 where
+  pub so-far : agreed s t ≡ i + agreed (drop i s) (drop i t)
 
-  pub agreed-done : length s ≤ i → agreed (drop i s) (drop i t) ≡ 0
-  unfolding agreed
-  agreed-done h = rw (drop-of-length-le s {i = i} h)
+pub agreeing-none : (s t : List ℕ) → Agreeing s t 0
+agreeing-none s t = record { so-far = omega arith }
 
-  pub agreed-differs : i < length s → i < length t → (getD t i 0 ≡ getD s i 0 → ⊥) → agreed (drop i s) (drop i t) ≡ 0
-  unfolding agreed
-  agreed-differs h l n = rw (drop-cons s i 0, drop-cons t i 0, ne-eqb (getD t i 0) (getD s i 0) n, agreed)
+module _ {s t : List ℕ} {i : ℕ} (g : Agreeing s t i) where
+  agreed-here : agreed (drop i s) (drop i t) ≡ 0 → agreed s t ≡ i
+  agreed-here e = omega (arith, g .so-far)
 
-  pub agreed-more : i < length s
-      → i < length t
-      → getD t i 0 ≡ getD s i 0
-      → agreed (drop i s) (drop i t) ≡ suc (agreed (drop (i + 1) s) (drop (i + 1) t))
+  pub agreed-past : length t ≤ i → agreed s t ≡ i
+  agreed-past h = agreed-here (rw (drop-of-length-le t {i = i} h) (agreed-nil (drop i s)))
+
+  pub agreed-done : length s ≤ i → agreed s t ≡ i
   unfolding agreed
-  agreed-more h l e = rw (add-one i, drop-cons s i 0, drop-cons t i 0, eq-eqb (getD t i 0) (getD s i 0) e, agreed)
+  agreed-done h = agreed-here (rw (drop-of-length-le s {i = i} h))
+
+  pub agreed-differs : i < length s → i < length t → getD t i 0 ≢ getD s i 0 → agreed s t ≡ i
+  unfolding agreed
+  agreed-differs h l n = agreed-here (rw (drop-cons s i 0, drop-cons t i 0, ne-eqb (getD t i 0) (getD s i 0) n, agreed))
+
+  pub agreed-more : i < length s → i < length t → getD t i 0 ≡ getD s i 0 → Agreeing s t (i + 1)
+  unfolding agreed
+  agreed-more h l e =
+      let m : agreed (drop i s) (drop i t) ≡ suc (agreed (drop (i + 1) s) (drop (i + 1) t)) =
+      rw (add-one i, drop-cons s i 0, drop-cons t i 0, eq-eqb (getD t i 0) (getD s i 0) e, agreed) in
+      record { so-far = omega (arith, g .so-far) }

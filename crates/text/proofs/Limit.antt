@@ -80,21 +80,23 @@ hold-uneven [] last (n ∷ ns) h = refl
 hold-uneven (l ∷ ls) last [] h = refl
 hold-uneven (l ∷ ls) last (n ∷ ns) h = rw (hold-uneven ls n ns (λ (e : length ls ≡ length ns). h (ap suc e)), and-false)
 
--- a step of the loop: the number and the limit at place k
-pub hold-step : (t : List (List ℕ)) (ns : List ℕ) (k last : ℕ)
+-- whether those from place k on may stand after last
+abbrev pub heldFrom : List (List ℕ) → List ℕ → ℕ → ℕ → Bool
+heldFrom t ns last k = allHold (limitsOf (drop k t)) last (drop k ns)
+
+pub hold-step : (t : List (List ℕ)) (ns : List ℕ) (last k : ℕ)
     → k < length t
     → k < length ns
-    → allHold (limitsOf (drop k t)) last (drop k ns)
-    ≡ (holds (limitAt t k) last (getD ns k 0) && allHold (limitsOf (drop (k + 1) t)) (getD ns k 0) (drop (k + 1) ns))
+    → heldFrom t ns last k ≡ (holds (limitAt t k) last (getD ns k 0) && heldFrom t ns (getD ns k 0) (k + 1))
 unfolding allHold
-hold-step t ns k last h l = rw (limits-more t k h, drop-more ns k l)
+hold-step t ns last k h l = rw (limits-more t k h, drop-more ns k l)
 
-pub hold-done : (t : List (List ℕ)) (ns : List ℕ) (k last : ℕ)
+pub hold-done : (t : List (List ℕ)) (ns : List ℕ) (last k : ℕ)
     → length t ≤ k
     → length ns ≤ k
-    → allHold (limitsOf (drop k t)) last (drop k ns) ≡ true
+    → heldFrom t ns last k ≡ true
 unfolding allHold
-hold-done t ns k last h l = rw (limits-end t k h, drop-of-length-le ns {i = k} l)
+hold-done t ns last k h l = rw (limits-end t k h, drop-of-length-le ns {i = k} l)
 
 pub hold-length : (ls : List Limit) (last : ℕ) (ns : List ℕ) → allHold ls last ns ≡ true → length ns ≡ length ls
 unfolding allHold

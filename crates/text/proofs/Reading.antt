@@ -49,6 +49,10 @@ ender-after t k =
     omega (arith, length-limits (drop (k + 1) t), length-drop (k + 1) t) in
     ender-left (limitsOf (drop (k + 1) t)) ∙ rw n
 
+-- what reading the numbers from place k on gives, from the byte `at` on
+abbrev pub readFrom : List (List ℕ) → List ℕ → ℕ → ℕ → ℕ → Reading
+readFrom table t k last at = readNumbers (limitsOf (drop k table)) last (drop at t)
+
 -- k numbers are read, which took `at` bytes of t
 pub record State (table : List (List ℕ)) (t o₀ o : List ℕ) (k last at : ℕ) : Type 0 where
   pub so : List ℕ
@@ -56,7 +60,7 @@ pub record State (table : List (List ℕ)) (t o₀ o : List ℕ) (k last at : �
   pub at-in : at ≤ length t
   pub many : length so ≡ k
   pub stored : o ≡ sets o₀ 0 so
-  pub so-far : readNumbers (limitsOf table) 0 t ≡ after so at (readNumbers (limitsOf (drop k table)) last (drop at t))
+  pub so-far : readNumbers (limitsOf table) 0 t ≡ after so at (readFrom table t k last at)
 
 -- the next entry, ended by e, reads as r
 pub record Next (table : List (List ℕ)) (t : List ℕ) (k last at e : ℕ) (r : EntryRead) : Type 0 where
@@ -85,8 +89,7 @@ module _ {table : List (List ℕ)} {t o₀ o : List ℕ} {k last at : ℕ} (s : 
       record { answer = rw (e, add-zero at); stored = s .stored ∙ rw (e, append-nil (s .so)) }
 
   module _ {e : ℕ} {r : EntryRead} (g : Next table t k last at e r) where
-    entered : readNumbers (limitsOf (drop k table)) last (drop at t)
-        ≡ onEntry r (readNumbers (limitsOf (drop (k + 1) table))) (drop at t)
+    entered : readFrom table t k last at ≡ onEntry r (readNumbers (limitsOf (drop (k + 1) table))) (drop at t)
     unfolding readNumbers
     entered = rw (limits-more table k (g .more), ender-after table k, ← g .ended, g .entry)
 
@@ -107,9 +110,8 @@ module _ {table : List (List ℕ)} {t o₀ o : List ℕ} {k last at : ℕ} (s : 
       → Next table t k last at e (Number n len)
       → State table t o₀ (set o k n) (k + 1) n (at + len)
   step {n = n} {len} g =
-      let rest : Reading = readNumbers (limitsOf (drop (k + 1) table)) n (drop (at + len) t) in
-      let q : readNumbers (limitsOf (drop k table)) last (drop at t) ≡ after (n ∷ []) len rest =
-      entered g ∙ rw (drop-drop len at t) in
+      let rest : Reading = readFrom table t (k + 1) n (at + len) in
+      let q : readFrom table t k last at ≡ after (n ∷ []) len rest = entered g ∙ rw (drop-drop len at t) in
       record {
         so = s .so ++ (n ∷ []);
         k-in = omega (arith, g .more);

@@ -1,6 +1,6 @@
--- Laws of a line's text, number by number, and of the loop that writes it. Assumes nothing.
+-- Laws of a line's text, number by number, and of the loop that writes it.
 use mathlib.Core.Path.{_≡_, refl, ap, _∙_}
-use mathlib.Core.Bool.{Bool, true, false, cond}
+use mathlib.Core.Bool.{cond}
 use mathlib.Core.List.{List, [], _∷_, _++_, append-nil, append-assoc}
 use Prim.Native.Nat.{ℕ, _+_, _-_, _*_, _≤_, _<_}
 use native.Mathlib.Omega.{arith}
@@ -10,6 +10,7 @@ use Rattle.text.specs.Quoted.{tab, feed, dash}
 use Rattle.text.specs.Number.{elevenDigits, digitsOf}
 use Rattle.text.specs.Limit.{Limit, isNone, limitsOf}
 use Rattle.text.specs.Line.{Laid, ender, entryText, numbersText}
+use Rattle.ground.proofs.Booleans.{by-test}
 use Rattle.ground.proofs.Stores.{drop-more}
 use Rattle.text.proofs.Number.{length-digits-ten}
 use Rattle.text.proofs.Limit.{limitAt, limits-more, limits-end}
@@ -18,12 +19,9 @@ use Rattle.text.proofs.Laid.{laid-none, laid-more, laid-byte}
 
 -- ---- one number
 
-length-entry-ten : (l : Limit) (n : ℕ) → n < elevenDigits → length (entryText l n) ≤ 10
-length-entry-ten l n h = go (isNone l n)
-  where
-    go : (b : Bool) → length (cond b (dash ∷ []) (digitsOf n)) ≤ 10
-    go true = omega arith
-    go false = length-digits-ten n h
+pub length-entry-ten : (l : Limit) (n : ℕ) → n < elevenDigits → length (entryText l n) ≤ 10
+length-entry-ten l n h =
+    by-test (isNone l n) (λ d. rw d (omega arith)) (λ d. rw d (length-digits-ten n h))
 
 -- ---- numbers
 
@@ -39,25 +37,11 @@ numbers-take [] ns = refl
 numbers-take (l ∷ ls) [] = refl
 numbers-take (l ∷ ls) (n ∷ ns) = ap (λ (x : List ℕ). entryText l n ++ (ender ls ∷ x)) (numbers-take ls ns)
 
-pub numbers-end : (table : List (List ℕ)) (ns : List ℕ) (k : ℕ)
-    → length table ≤ k
-    → numbersText (limitsOf (drop k table)) (drop k ns) ≡ []
-unfolding numbersText
-numbers-end table ns k h = rw (limits-end table k h)
-
-pub numbers-out : (table : List (List ℕ)) (ns : List ℕ) (k : ℕ)
-    → length ns ≤ k
-    → numbersText (limitsOf (drop k table)) (drop k ns) ≡ []
-numbers-out table ns k h = rw (drop-of-length-le ns {i = k} h) (numbers-none (limitsOf (drop k table)))
-
-numbers-more : (table : List (List ℕ)) (ns : List ℕ) (k : ℕ) → k < length table → k < length ns
-    → numbersText (limitsOf (drop k table)) (drop k ns)
-    ≡ entryText (limitAt table k) (getD ns k 0)
-    ++ (cond (eqb (length table - k - 1) 0) feed tab ∷ numbersText (limitsOf (drop (k + 1) table)) (drop (k + 1) ns))
-unfolding numbersText
-numbers-more table ns k h l = rw (limits-more table k h, drop-more ns k l, ender-after table k)
-
 -- ---- the loop
+
+-- the text of the numbers from place k on
+abbrev pub textFrom : List (List ℕ) → List ℕ → ℕ → List ℕ
+textFrom table ns k = numbersText (limitsOf (drop k table)) (drop k ns)
 
 -- k numbers are laid, from start up to `at`
 pub record State (table : List (List ℕ)) (ns o₀ o : List ℕ) (start k at : ℕ) : Type 0 where
@@ -65,16 +49,24 @@ pub record State (table : List (List ℕ)) (ns o₀ o : List ℕ) (start k at : 
   pub k-in : k ≤ length table
   pub most : at ≤ start + 11 * k
   pub laid : Laid so o₀ start at o
-  pub so-far : numbersText (limitsOf table) ns ≡ so ++ numbersText (limitsOf (drop k table)) (drop k ns)
+  pub so-far : numbersText (limitsOf table) ns ≡ so ++ textFrom table ns k
 
 pub begin : (table : List (List ℕ)) (ns o : List ℕ) (start : ℕ) → State table ns o o start 0 start
 begin table ns o start =
     record { so = []; k-in = omega arith; most = omega arith; laid = laid-none o start; so-far = refl }
 
 module _ {table : List (List ℕ)} {ns o₀ o : List ℕ} {start k at : ℕ} (s : State table ns o₀ o start k at) where
-  pub done : numbersText (limitsOf (drop k table)) (drop k ns) ≡ []
-      → Laid (numbersText (limitsOf table) ns) o₀ start at o
-  done e = rw (s .so-far, e, append-nil) (s .laid)
+  whole : textFrom table ns k ≡ [] → Laid (numbersText (limitsOf table) ns) o₀ start at o
+  whole e = rw (s .so-far, e, append-nil) (s .laid)
+
+  -- no limit is left
+  pub done : length table ≤ k → Laid (numbersText (limitsOf table) ns) o₀ start at o
+  unfolding numbersText
+  done h = whole (rw (limits-end table k h))
+
+  -- no number is left
+  pub cut : length ns ≤ k → Laid (numbersText (limitsOf table) ns) o₀ start at o
+  cut h = whole (rw (drop-of-length-le ns {i = k} h) (numbers-none (limitsOf (drop k table))))
 
   pub step : {mid e : ℕ} {o₁ : List ℕ}
       → k < length table
@@ -83,12 +75,12 @@ module _ {table : List (List ℕ)} {ns o₀ o : List ℕ} {start k at : ℕ} (s 
       → e ≡ cond (eqb (length table - k - 1) 0) feed tab
       → Laid (entryText (limitAt table k) (getD ns k 0)) o at mid o₁
       → State table ns o₀ (set o₁ mid e) start (k + 1) (mid + 1)
+  unfolding numbersText
   step {mid} {e} {o₁} h l n w p =
-      let x : List ℕ = entryText (limitAt table k) (getD ns k 0) in
       record {
-        so = s .so ++ (x ++ (e ∷ []));
+        so = s .so ++ (entryText (limitAt table k) (getD ns k 0) ++ (e ∷ []));
         k-in = omega arith;
         most = omega (arith, p .end, s .most, length-entry-ten (limitAt table k) (getD ns k 0) n);
         laid = laid-more (s .laid) (laid-more p (laid-byte o₁ mid e));
-        so-far = s .so-far ∙ rw (numbers-more table ns k h l, w) (simp append-assoc);
+        so-far = s .so-far ∙ rw (limits-more table k h, drop-more ns k l, ender-after table k, w) (simp append-assoc);
       }
