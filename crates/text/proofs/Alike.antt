@@ -1,5 +1,5 @@
 -- Numbers that stand by one limit whose range goes down to 0: the greatest of them tells.
-use mathlib.Core.Path.{_≡_, refl, sym}
+use mathlib.Core.Path.{_≡_, sym}
 use mathlib.Core.Bool.{true, _&&_, and-true, and-false}
 use mathlib.Core.List.{List, [], _∷_, foldr}
 use Prim.Native.Nat.{ℕ, zero, suc, _+_, _≤_, _<_, max}

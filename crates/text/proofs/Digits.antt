@@ -2,20 +2,20 @@
 -- need not look at the number.
 use mathlib.Core.Path.{_≡_, refl, ap, _∙_}
 use mathlib.Core.Logic.{_≢_}
-use mathlib.Core.Bool.{true, false, and-false}
+use mathlib.Core.Bool.{true, false}
 use mathlib.Core.List.{List}
 use Prim.Native.Nat.{ℕ, zero, suc, _+_, _*_, _-_, _/_, _≤_, _<_}
 use native.Mathlib.Numerals.{add-one}
 use native.Mathlib.Omega.{arith}
 use borrow.Author.Tests.{le-leb, lt-leb}
-use lib.ListN.{length, drop, getD}
-use Rattle.ground.proofs.Booleans.{false-true, by-test, by-less, by-equal}
-use Rattle.text.specs.declared.NumberRead.{NumberRead}
+use lib.ListN.{length, drop, getD, drop-of-length-le}
+use lib.Seq.{drop-cons}
+use Rattle.ground.proofs.Booleans.{second-fails, by-less}
 use Rattle.text.specs.declared.NumberRead.the-variants.{Value, Malformed}
 use Rattle.text.specs.Number.{isDigit, nineDigits, restOf, numberOf, digitsIn, digitsOf}
-use Rattle.text.proofs.Number.{length-digits-small, length-digits-more, length-digits-mono}
-use Rattle.text.proofs.NumberSteps.{digit-low, digit-high, number-zero, zero-led, number-rest, rest-more}
-use Rattle.text.proofs.NumberSteps.{rest-stops, rest-end}
+use Rattle.text.proofs.Number.{length-digits-small, length-digits-more, length-digits-mono, length-digits-ten}
+use Rattle.text.proofs.NumberSteps.{digit-low, digit-high, number-rest}
+use Rattle.text.proofs.NumberTrip.{read-writes, read-small}
 
 -- ---- how many digits
 
@@ -70,6 +70,7 @@ module _ {f : List ℕ} {n i : ℕ} (g : Digits f n i) where
   digits-nine h = long-nine n i (g .long) h
 
   pub digits-next : i < length f → i < 10 → isDigit (getD f i 0) ≡ true → Digits f (10 * n + (getD f i 0 - 48)) (i + 1)
+  unfolding restOf
   digits-next h l e =
       let low = digit-low (getD f i 0) e in
       let high = digit-high (getD f i 0) e in
@@ -77,37 +78,25 @@ module _ {f : List ℕ} {n i : ℕ} (g : Digits f n i) where
       record {
         led = g .led;
         long = rw (add-one i) (long-more n i (getD f i 0 - 48) (g .long) first (omega arith));
-        rest = g .rest ∙ rest-more n i f i h (rw (e, le-leb n nineDigits (digits-nine l)));
+        rest = g .rest ∙ rw (add-one, drop-cons f i 0, e, le-leb n nineDigits (digits-nine l), restOf);
       }
 
   pub digits-stop : i < length f → isDigit (getD f i 0) ≡ false → numberOf f ≡ Malformed i
-  digits-stop h e = g .rest ∙ rest-stops n i f i h (rw e)
+  unfolding restOf
+  digits-stop h e = g .rest ∙ rw (drop-cons f i 0, e, restOf)
 
   -- an eleventh byte is at fault whatever it is
   pub digits-full : i < length f → 10 ≤ i → numberOf f ≡ Malformed i
-  digits-full h l = g .rest ∙ rest-stops n i f i h (rw (lt-leb n nineDigits (long-ten n i (g .long) l), and-false))
+  unfolding restOf
+  digits-full h l =
+      let e = second-fails (isDigit (getD f i 0)) (lt-leb n nineDigits (long-ten n i (g .long) l)) in
+      g .rest ∙ rw (drop-cons f i 0, e, restOf)
 
   pub digits-end : length f ≤ i → numberOf f ≡ Value n
-  digits-end h = g .rest ∙ rest-end n i f i h
+  unfolding restOf
+  digits-end h = g .rest ∙ rw (drop-of-length-le f {i = i} h)
 
 -- ---- a number has ten digits at most
 
-no-value : {A : Type 0} {r : NumberRead} {at n : ℕ} → r ≡ Malformed at → r ≡ Value n → A
-no-value e f = false-true (cc)
-
--- k more digits make ten
-walk : {f : List ℕ} {m n i : ℕ} (k : ℕ) → i + k ≡ 10 → 10 < length f → Digits f n i → numberOf f ≡ Value m → ⊥
-walk zero e h g v = no-value (digits-full g (omega arith) (omega arith)) v
-walk {f} {i = i} (suc k) e h g v =
-    by-test (isDigit (getD f i 0))
-    (λ d. walk k (omega arith) h (digits-next g (omega arith) (omega arith) d) v)
-    (λ d. no-value (digits-stop g (omega arith) d) v)
-
 pub ten-most : (f : List ℕ) (n : ℕ) → numberOf f ≡ Value n → length f ≤ 10
-ten-most f n v =
-    by-less 10 (length f)
-    (λ h.
-    by-equal (getD f 0 0) 48
-    (λ w. no-value (number-zero f (omega arith) w ∙ zero-led f (omega arith) (λ z. omega arith)) v)
-    (λ w. absurd (walk 10 refl h (digits-none f (omega arith) w) v)))
-    (λ h. h)
+ten-most f n v = omega (arith, ap length (read-writes f n v), length-digits-ten n (read-small f n v))

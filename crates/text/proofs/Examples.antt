@@ -1,4 +1,4 @@
--- Worked fields and numbers, computed: one statement over each list of them. Assumes nothing.
+-- Worked fields and numbers, computed: one statement over each list of them.
 use mathlib.Core.Path.{_≡_, refl}
 use mathlib.Core.List.{List, [], _∷_, map}
 use Prim.Native.Nat.{ℕ, zero, suc, _-_}

@@ -4,11 +4,12 @@ use mathlib.Core.Logic.{_≢_}
 use mathlib.Core.Bool.{true, false, _||_}
 use mathlib.Core.List.{List, [], _∷_, _++_, append-nil, append-assoc}
 use Prim.Native.Nat.{ℕ, suc, _+_, _≤_, _<_, min}
+use native.Mathlib.Nat.{add-zero}
 use native.Mathlib.Numerals.{add-one}
 use native.Mathlib.Omega.{arith}
 use borrow.Author.Tests.{eq-eqb, ne-eqb, eqb-true}
 use lib.Dec.{eqb}
-use lib.ListN.{length, take, drop, getD, length-append, drop-of-length-le}
+use lib.ListN.{length, take, drop, getD, length-append, length-drop, drop-of-length-le}
 use lib.Seq.{drop-cons, take-suc, take-all}
 use Rattle.ground.proofs.Booleans.{false-true, by-test, by-equal}
 use Rattle.text.specs.Quoted.{tab, feed}
@@ -56,8 +57,8 @@ module _ {t : List ℕ} {i : ℕ} (g : Walked t i) where
 
   pub walked-more : i < length t → (eqb (getD t i 0) tab || eqb (getD t i 0) feed) ≡ false → Walked t (i + 1)
   walked-more h e =
-      let b : ℕ = getD t i 0 in
-      record { so-far = g .so-far ∙ rw (add-one, drop-cons t i 0, take-suc t i 0, append-assoc, field-more b (drop (suc i) t) e) }
+      let m = field-more (getD t i 0) (drop (suc i) t) e in
+      record { so-far = g .so-far ∙ rw (add-one, drop-cons t i 0, take-suc t i 0, append-assoc, m) }
 
   pub walked-end : length t ≤ i → t ≡ fieldOf t
   unfolding fieldOf
@@ -108,11 +109,6 @@ agreed-most s t = omega (arith, agreed-least s t)
 pub agreed-fits : (s t : List ℕ) → agreed s t ≤ length t
 agreed-fits s t = omega (arith, agreed-least s t)
 
-agreed-nil : (s : List ℕ) → agreed s [] ≡ 0
-unfolding agreed
-agreed-nil [] = refl
-agreed-nil (a ∷ s) = refl
-
 -- the first i bytes agree
 pub record Agreeing (s t : List ℕ) (i : ℕ) : Type 0 where
   pub so-far : agreed s t ≡ i + agreed (drop i s) (drop i t)
@@ -121,19 +117,16 @@ pub agreeing-none : (s t : List ℕ) → Agreeing s t 0
 agreeing-none s t = record { so-far = omega arith }
 
 module _ {s t : List ℕ} {i : ℕ} (g : Agreeing s t i) where
-  agreed-here : agreed (drop i s) (drop i t) ≡ 0 → agreed s t ≡ i
-  agreed-here e = omega (arith, g .so-far)
-
   pub agreed-past : length t ≤ i → agreed s t ≡ i
-  agreed-past h = agreed-here (rw (drop-of-length-le t {i = i} h) (agreed-nil (drop i s)))
+  agreed-past h = omega (arith, g .so-far, agreed-least (drop i s) (drop i t), length-drop i t)
 
   pub agreed-done : length s ≤ i → agreed s t ≡ i
-  unfolding agreed
-  agreed-done h = agreed-here (rw (drop-of-length-le s {i = i} h))
+  agreed-done h = omega (arith, g .so-far, agreed-least (drop i s) (drop i t), length-drop i s)
 
   pub agreed-differs : i < length s → i < length t → getD t i 0 ≢ getD s i 0 → agreed s t ≡ i
   unfolding agreed
-  agreed-differs h l n = agreed-here (rw (drop-cons s i 0, drop-cons t i 0, ne-eqb (getD t i 0) (getD s i 0) n, agreed))
+  agreed-differs h l n =
+      g .so-far ∙ rw (drop-cons s i 0, drop-cons t i 0, ne-eqb (getD t i 0) (getD s i 0) n, agreed) (add-zero i)
 
   pub agreed-more : i < length s → i < length t → getD t i 0 ≡ getD s i 0 → Agreeing s t (i + 1)
   unfolding agreed

@@ -1,4 +1,4 @@
--- Bytes laid into a lent slice, one piece after the other. Assumes nothing.
+-- Bytes laid into a lent slice, one piece after the other.
 use mathlib.Core.Path.{_≡_, refl, sym, _∙_}
 use mathlib.Core.List.{List, [], _∷_, _++_}
 use Prim.Native.Nat.{ℕ, _+_, _-_, _/_, _%_, _≤_, _<_, min}

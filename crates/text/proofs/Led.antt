@@ -1,4 +1,4 @@
--- A text that another leads: pieces read one after the other make up the text. Assumes nothing.
+-- A text that another leads: pieces read one after the other make up the text.
 use mathlib.Core.Path.{_≡_, refl, sym, ap, _∙_}
 use mathlib.Core.List.{List, [], _++_, append-assoc}
 use Prim.Native.Nat.{ℕ, _+_}

@@ -1,18 +1,18 @@
 -- The laws of the text layer, a file for each concept of specs/.
-pub mod Field
-pub mod Number
-pub mod NumberSteps
-pub mod Digits
-pub mod NumberTrip
-pub mod Limit
-pub mod Alike
-pub mod Entry
-pub mod Reading
-pub mod Line
-pub mod Followed
-pub mod Laid
-pub mod Writing
-pub mod Led
-pub mod EntryTrip
-pub mod LineTrip
-pub mod Examples
+pub mod Field  -- how a text begins, its first field, how far a tag agrees with it
+pub mod Number  -- the digits of a number, and how many they are
+pub mod NumberSteps  -- a field read as a number, digit by digit
+pub mod NumberTrip  -- from a number to its digits and back
+pub mod Digits  -- the first digits of a field; a number has ten at most
+pub mod Limit  -- the table of limits, one number, many numbers
+pub mod Alike  -- many numbers by one limit: the greatest tells
+pub mod Entry  -- a number read with the byte that must end it
+pub mod Reading  -- one number after another, and the loop that reads them
+pub mod Line  -- a whole line that is read, and how far a reading reaches
+pub mod Followed  -- one reading followed by another
+pub mod Laid  -- bytes laid into a lent slice, piece by piece
+pub mod Writing  -- a line's text number by number, and the loop that writes it
+pub mod Led  -- a text that another leads
+pub mod EntryTrip  -- from a number with its ending byte to its text and back
+pub mod LineTrip  -- from a line's numbers to its text and back
+pub mod Examples  -- worked fields and numbers, computed

@@ -1,15 +1,14 @@
 -- A field read as a number, digit by digit.
-use mathlib.Core.Path.{_≡_, refl, sym, ap, _∙_}
+use mathlib.Core.Path.{_≡_, refl, sym, _∙_}
 use mathlib.Core.Logic.{_≢_}
-use mathlib.Core.Bool.{true, false, _&&_}
+use mathlib.Core.Bool.{true, _&&_}
 use mathlib.Core.List.{List, [], _∷_}
 use Prim.Native.Nat.{ℕ, suc, _+_, _*_, _-_, _≤_, _<_}
-use native.Mathlib.Numerals.{add-one}
+use native.Mathlib.Nat.{zero-add}
 use native.Mathlib.Omega.{arith}
 use borrow.Author.Tests.{le-leb, leb-true, eq-eqb, ne-eqb}
 use lib.Dec.{leb}
-use lib.ListN.{length, drop, getD, drop-of-length-le}
-use lib.Seq.{drop-cons}
+use lib.ListN.{length, drop, getD}
 use Rattle.ground.proofs.Booleans.{both-hold, false-true, by-test, by-equal}
 use Rattle.text.specs.declared.NumberRead.the-variants.{Value, Malformed}
 use Rattle.text.specs.Number.{isDigit, nineDigits, restOf, zeroAlone, numberOf}
@@ -40,7 +39,7 @@ number-zero (b ∷ s) h e = rw (digit-is b (omega arith) (omega arith), eq-eqb b
 pub number-more : (s : List ℕ)
     → 0 < length s
     → isDigit (getD s 0 0) ≡ true
-    → (getD s 0 0 ≡ 48 → ⊥)
+    → getD s 0 0 ≢ 48
     → numberOf s ≡ restOf (getD s 0 0 - 48) 1 (drop 1 s)
 unfolding numberOf
 number-more [] h d e = absurd (omega arith)
@@ -51,7 +50,7 @@ zero-alone [] h = absurd (omega arith)
 zero-alone (b ∷ []) h = refl
 zero-alone (b ∷ d ∷ s) h = absurd (omega arith)
 
-pub zero-led : (s : List ℕ) → 0 < length s → (length s ≡ 1 → ⊥) → zeroAlone (drop 1 s) ≡ Malformed 1
+pub zero-led : (s : List ℕ) → 0 < length s → length s ≢ 1 → zeroAlone (drop 1 s) ≡ Malformed 1
 zero-led [] h k = absurd (omega arith)
 zero-led (b ∷ []) h k = absurd (k refl)
 zero-led (b ∷ d ∷ s) h k = refl
@@ -67,27 +66,7 @@ pub number-rest : (s : List ℕ) → 0 < length s → getD s 0 0 ≢ 48 → numb
 unfolding numberOf restOf
 number-rest [] h k = absurd (omega arith)
 number-rest (b ∷ s) h k =
-    by-test (isDigit b)
-    (λ e.
-    let w : b - 48 ≡ 10 * 0 + (b - 48) = omega arith in
-    number-more (b ∷ s) h e k ∙ ap (λ (n : ℕ). restOf n 1 s) w ∙ sym (rest-step 0 0 b s (rw e)))
-    (λ e. rw (e, numberOf, restOf))
-
-module _ (n j : ℕ) (s : List ℕ) (i : ℕ) where
-  pub rest-more : i < length s
-      → (isDigit (getD s i 0) && leb n nineDigits) ≡ true
-      → restOf n j (drop i s) ≡ restOf (10 * n + (getD s i 0 - 48)) (j + 1) (drop (i + 1) s)
-  rest-more h e = rw (add-one i, add-one j, drop-cons s i 0) (rest-step n j (getD s i 0) (drop (suc i) s) e)
-
-  pub rest-stops : i < length s
-      → (isDigit (getD s i 0) && leb n nineDigits) ≡ false
-      → restOf n j (drop i s) ≡ Malformed j
-  unfolding restOf
-  rest-stops h e = rw (drop-cons s i 0, e, restOf)
-
-  pub rest-end : length s ≤ i → restOf n j (drop i s) ≡ Value n
-  unfolding restOf
-  rest-end h = rw (drop-of-length-le s {i = i} h)
+    by-test (isDigit b) (λ e. rw (e, ne-eqb b 48 k, numberOf, restOf, zero-add)) (λ e. rw (e, numberOf, restOf))
 
 -- ---- the place of a fault is in the field, or at its end
 

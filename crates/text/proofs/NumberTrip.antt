@@ -4,7 +4,7 @@ use mathlib.Core.Bool.{Bool, true, false, _&&_}
 use mathlib.Core.List.{List, [], _∷_, _++_, append-nil, append-assoc}
 use Prim.Native.Nat.{ℕ, zero, suc, _+_, _*_, _-_, _/_, _%_, _≤_, _<_}
 use native.Mathlib.Omega.{arith}
-use borrow.Author.Tests.{le-leb, eq-eqb, ne-eqb}
+use borrow.Author.Tests.{leb-true, le-leb, eq-eqb, ne-eqb}
 use lib.Dec.{leb}
 use lib.ListN.{length}
 use Rattle.ground.proofs.Booleans.{both-hold, false-true, by-equal}
@@ -26,40 +26,51 @@ value-past : (t : Bool) (r : NumberRead) (at : ℕ) {m : ℕ}
 value-past true r at e = (refl, e)
 value-past false r at e = false-true (cc)
 
--- after the digits of n come those that the rest gives
-rest-back : (n i : ℕ) (s : List ℕ) (m : ℕ) → 0 < n → restOf n i s ≡ Value m → digitsOf n ++ s ≡ digitsOf m
+-- what the digits after those of n are, and that they are few enough
+rest-back : (n i : ℕ) (s : List ℕ) (m : ℕ)
+    → 0 < n
+    → n < elevenDigits
+    → restOf n i s ≡ Value m
+    → (digitsOf n ++ s ≡ digitsOf m) × (m < elevenDigits)
 unfolding restOf
-rest-back n i [] m h e =
+rest-back n i [] m h l e =
     let q : n ≡ m = cc in
-    rw (append-nil, q)
-rest-back n i (b ∷ s) m h e =
+    (rw (append-nil, q), omega arith)
+rest-back n i (b ∷ s) m h l e =
     let p = value-past (isDigit b && leb n nineDigits) _ i e in
-    let w = both-hold (isDigit b) (leb n nineDigits) (p .0) .0 in
-    let low = digit-low b w in
-    let high = digit-high b w in
+    let w = both-hold (isDigit b) (leb n nineDigits) (p .0) in
+    let low = digit-low b (w .0) in
+    let high = digit-high b (w .0) in
     let d : 48 + (b - 48) ≡ b = omega arith in
-    let ih = rest-back (10 * n + (b - 48)) (suc i) s m (omega arith) (p .1) in
-    rw (digits-push n (b - 48) h (omega arith), d, append-assoc) at ih
+    let few : 10 * n + (b - 48) < elevenDigits = omega (arith, leb-true n nineDigits (w .1)) in
+    let ih = rest-back (10 * n + (b - 48)) (suc i) s m (omega arith) few (p .1) in
+    (rw (digits-push n (b - 48) h (omega arith), d, append-assoc) at (ih .0), ih .1)
 
 zero-back : (s : List ℕ) (n : ℕ) → zeroAlone s ≡ Value n → (s ≡ []) × (n ≡ 0)
 zero-back [] n e = (refl, cc)
 zero-back (b ∷ s) n e = false-true (cc)
 
-pub read-writes : (f : List ℕ) (n : ℕ) → numberOf f ≡ Value n → f ≡ digitsOf n
+read-back : (f : List ℕ) (n : ℕ) → numberOf f ≡ Value n → (f ≡ digitsOf n) × (n < elevenDigits)
 unfolding numberOf
-read-writes [] n e = false-true (cc)
-read-writes (b ∷ s) n e =
+read-back [] n e = false-true (cc)
+read-back (b ∷ s) n e =
     let p = value-past (isDigit b) _ 0 e in
+    let low = digit-low b (p .0) in
+    let high = digit-high b (p .0) in
     by-equal b 48
     (λ k.
     let z = zero-back s n (rw (eq-eqb b 48 k) at (p .1)) in
-    rw (z .0, z .1, digits-small 0 (omega arith), k))
+    (rw (z .0, z .1, digits-small 0 (omega arith), k), omega (arith, z .1)))
     (λ k.
-    let low = digit-low b (p .0) in
-    let high = digit-high b (p .0) in
     let d : 48 + (b - 48) ≡ b = omega arith in
-    let r = rest-back (b - 48) 1 s n (omega arith) (rw (ne-eqb b 48 k) at (p .1)) in
-    rw (digits-small (b - 48) (omega arith), d) at r)
+    let r = rest-back (b - 48) 1 s n (omega arith) (omega arith) (rw (ne-eqb b 48 k) at (p .1)) in
+    (rw (digits-small (b - 48) (omega arith), d) at (r .0), r .1))
+
+pub read-writes : (f : List ℕ) (n : ℕ) → numberOf f ≡ Value n → f ≡ digitsOf n
+read-writes f n e = read-back f n e .0
+
+pub read-small : (f : List ℕ) (n : ℕ) → numberOf f ≡ Value n → n < elevenDigits
+read-small f n e = read-back f n e .1
 
 -- ---- the digits of a number give the number, with anything after them
 

@@ -6,8 +6,8 @@ use Prim.Native.Nat.{ℕ, _+_, _-_, _*_, _≤_, _<_}
 use native.Mathlib.Omega.{arith}
 use lib.Dec.{eqb}
 use lib.ListN.{length, take, drop, getD, set, drop-of-length-le}
-use Rattle.text.specs.Quoted.{tab, feed, dash}
-use Rattle.text.specs.Number.{elevenDigits, digitsOf}
+use Rattle.text.specs.Quoted.{tab, feed}
+use Rattle.text.specs.Number.{elevenDigits}
 use Rattle.text.specs.Limit.{Limit, isNone, limitsOf}
 use Rattle.text.specs.Line.{Laid, ender, entryText, numbersText}
 use Rattle.ground.proofs.Booleans.{by-test}

@@ -1,5 +1,4 @@
--- 01, The sheet, how fields and lines are parted: what a field is, and how a text begins. Assumes nothing: these are
--- definitions.
+-- 01, The sheet, how fields and lines are parted: what a field is, and how a text begins.
 use Prim.Native.Nat.{ℕ, suc}
 use mathlib.Core.Bool.{Bool, true, false, _||_}
 use mathlib.Core.List.{List, [], _∷_}

@@ -1,6 +1,6 @@
 -- What the text layer means, in the order in which 01 builds it up.
-pub mod Quoted
-pub mod Field
-pub mod Number
-pub mod Limit
-pub mod Line
+pub mod Quoted  -- a text in quotes, as its bytes
+pub mod Field  -- what a field is, and how a text begins
+pub mod Number  -- how a number is read and written
+pub mod Limit  -- what a number may be
+pub mod Line  -- how a line is read and written

@@ -1,6 +1,5 @@
 -- 01, The sheet, the table's limits of a number: a low and a high end; for some, that it is not above the number
 -- before; for some, that there may be none, written `-`. Whatever reads, writes or checks a number goes by these alone.
--- Assumes nothing: these are definitions.
 use Prim.Native.Nat.{ℕ}
 use mathlib.Core.Bool.{Bool, true, false, _&&_, _||_, cond}
 use mathlib.Core.List.{List, [], _∷_, map}

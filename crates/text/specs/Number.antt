@@ -1,6 +1,6 @@
 -- 01, The sheet, on numbers: ten digits at most, the highest first, and no `0` in front of another digit. A field that
 -- is no number has a first byte at fault: the first that no number could have at its place, or the field's end where it
--- stops too early. Assumes nothing: these are definitions.
+-- stops too early.
 use Prim.Native.Nat.{ℕ, zero, suc, _+_, _-_, _*_, _/_, _%_}
 use mathlib.Core.Bool.{Bool, true, false, _&&_}
 use mathlib.Core.List.{List, [], _∷_, _++_}

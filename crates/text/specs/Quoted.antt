@@ -1,5 +1,4 @@
--- A text in quotes, as its bytes, so that definitions can show a line as 01 prints it. Assumes nothing: these are
--- definitions.
+-- A text in quotes, as its bytes, so that definitions can show a line as 01 prints it.
 use Prim.Native.Nat.{ℕ}
 use Prim.Native.Char.{code}
 use Prim.Native.String as Str

@@ -1,4 +1,4 @@
--- `starts` meets its contract. Assumes nothing.
+-- `starts` meets its contract.
 use Rattle.text.proofs.Field.{begins-past, begins-head}
 use mathlib.Core.Path.{sym}
 use native.Mathlib.Omega.{arith}

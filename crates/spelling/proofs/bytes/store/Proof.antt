@@ -1,4 +1,4 @@
--- `store` meets its contract. Assumes nothing.
+-- `store` meets its contract.
 use mathlib.Core.Path.{sym}
 use lib.Seq.{set-out}
 use borrow.Author.Needs.{needs}

@@ -1,4 +1,4 @@
--- `alike_hold` meets its contract. Assumes nothing.
+-- `alike_hold` meets its contract.
 use mathlib.Core.Path.{sym, ap, _∙_}
 use lib.Dec.{leb}
 use Prim.Native.Nat.{ℕ}

@@ -1,4 +1,4 @@
--- `greatest` meets its contract. Assumes nothing.
+-- `greatest` meets its contract.
 use mathlib.Core.Path.{_≡_, sym, _∙_}
 use mathlib.Core.Logic.{⊎-elim}
 use mathlib.Core.List.{foldr}

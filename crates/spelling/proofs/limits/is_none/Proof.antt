@@ -1,4 +1,4 @@
--- `is_none` meets its contract. Assumes nothing.
+-- `is_none` meets its contract.
 use borrow.Author.Tests.{eq-eqb, ne-eqb}
 use borrow.Author.Needs.{needs}
 use Rattle.spelling.proofs.limits.is_none.Statement.{statement}

@@ -1,4 +1,4 @@
--- `may_stand` meets its contract. Assumes nothing.
+-- `may_stand` meets its contract.
 use borrow.Author.Needs.{needs}
 use Rattle.spelling.proofs.limits.may_stand.Statement.{statement}
 use Rattle.spelling.proofs.limits.may_stand.Tie as tie

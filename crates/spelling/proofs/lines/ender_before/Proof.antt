@@ -1,4 +1,4 @@
--- `ender_before` meets its contract. Assumes nothing.
+-- `ender_before` meets its contract.
 use borrow.Author.Tests.{eq-eqb, ne-eqb}
 use Rattle.spelling.proofs.lines.ender_before.Statement.{statement}
 use Rattle.spelling.proofs.lines.ender_before.Tie as tie

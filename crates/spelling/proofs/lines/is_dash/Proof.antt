@@ -1,4 +1,4 @@
--- `is_dash` meets its contract. Assumes nothing.
+-- `is_dash` meets its contract.
 use borrow.Author.Tests.{eq-eqb, ne-eqb}
 use borrow.Author.Needs.{needs}
 use Rattle.spelling.proofs.lines.is_dash.Statement.{statement}

@@ -1,4 +1,4 @@
--- `store_number` meets its contract. Assumes nothing.
+-- `store_number` meets its contract.
 use mathlib.Core.Path.{sym}
 use lib.Seq.{set-out}
 use borrow.Author.Needs.{needs}

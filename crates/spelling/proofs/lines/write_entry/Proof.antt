@@ -1,4 +1,4 @@
--- `write_entry` meets its contract. Assumes nothing.
+-- `write_entry` meets its contract.
 use Rattle.text.proofs.Laid.{laid-byte, laid-left}
 use Rattle.text.proofs.Number.{length-digits-ten}
 use native.Mathlib.Omega.{arith}

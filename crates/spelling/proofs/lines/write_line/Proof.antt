@@ -1,4 +1,4 @@
--- `write_line` meets its contract. Assumes nothing.
+-- `write_line` meets its contract.
 use Rattle.text.proofs.Laid.{laid-start, laid-more}
 use borrow.Author.Needs.{needs}
 use Rattle.spelling.proofs.lines.write_line.Statement.{statement}

@@ -1,4 +1,4 @@
--- `write_number` meets its contract. Assumes nothing.
+-- `write_number` meets its contract.
 use Rattle.text.proofs.Number.{length-digits-twenty}
 use Rattle.text.proofs.Laid.{laid-digit, laid-digits}
 use native.Mathlib.Omega.{arith}

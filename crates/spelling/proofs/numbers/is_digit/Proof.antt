@@ -1,4 +1,4 @@
--- `is_digit` meets its contract. Assumes nothing.
+-- `is_digit` meets its contract.
 use borrow.Author.Tests.{le-leb, lt-leb}
 use Rattle.spelling.proofs.numbers.is_digit.Statement.{statement}
 use Rattle.spelling.proofs.numbers.is_digit.Tie as tie
