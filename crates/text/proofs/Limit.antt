@@ -1,19 +1,20 @@
 -- Laws of limits: the table read three numbers at a time, one number, and many numbers.
-use mathlib.Core.Path.{_≡_, refl, ap}
+use mathlib.Core.Path.{_≡_, refl, sym, ap}
 use mathlib.Core.Logic.{_≢_}
-use mathlib.Core.Bool.{Bool, true, false, _&&_, cond, and-false}
+use mathlib.Core.Bool.{Bool, true, false, _&&_, cond, and-true, and-false}
 use mathlib.Core.List.{List, [], _∷_}
-use Prim.Native.Nat.{ℕ, suc, _+_, _≤_, _<_}
+use Prim.Native.Nat.{ℕ, zero, suc, _+_, _≤_, _<_}
 use native.Mathlib.Numerals.{add-one}
 use native.Mathlib.Omega.{arith}
-use borrow.Author.Tests.{leb-true, ltb-true, eqb-true, ne-eqb}
-use lib.Dec.{eqb, leb, ltb}
+use borrow.Author.Tests.{leb-true, ltb-true, eqb-true, le-leb, lt-ltb, ne-eqb}
+use lib.Dec.{eqb, leb, ltb, leb·zero}
 use lib.ListN.{length, drop, getD, length-map, drop-of-length-le}
 use lib.Seq.{drop-cons}
 use Rattle.ground.proofs.Booleans.{both-hold, false-true, by-test}
 use Rattle.ground.proofs.Stores.{drop-more}
 use Rattle.text.specs.Number.{elevenDigits}
-use Rattle.text.specs.Limit.{Limit, orNone, capped, isNone, within, holds, allHold, limitOf, limitsOf}
+use Rattle.text.specs.Limit.{Limit, plain, orNone, capped, limit, isNone, within, holds, allHold, limitOf}
+use Rattle.text.specs.Limit.{limitsOf, fromZero}
 
 -- ---- the table
 
@@ -70,6 +71,28 @@ pub holds-small : (l : Limit) (last n : ℕ)
 holds-small l last n w e =
     by-test (isNone l n) (λ d. omega (arith, none-zero l n d))
     (λ d. omega (arith, within-high l last n (holds-within l last n e d), ltb-true (l .high) elevenDigits w))
+
+plain-holds : (high last n : ℕ) → holds (limit 0 high plain) last n ≡ leb n high
+plain-holds high last n = rw (leb·zero n) (and-true (leb n high))
+
+or-none-holds : (low high last n : ℕ) → low ≤ 1 → holds (limit low high orNone) last n ≡ leb n high
+or-none-holds low high last zero h = sym (leb·zero high)
+or-none-holds low high last (suc n) h =
+    rw (
+      ne-eqb (suc n) 0 (λ (z : suc n ≡ 0). omega arith),
+      lt-ltb 0 (suc n) (omega arith),
+      le-leb low (suc n) (omega arith),
+    ) (and-true (leb (suc n) high))
+
+-- where low..high goes down to 0, high alone tells
+pub low-holds : (l : Limit) (last n : ℕ) → fromZero l ≡ true → holds l last n ≡ leb n (l .high)
+unfolding fromZero
+low-holds l last n f =
+    by-test (eqb (l .rule) orNone)
+    (λ e. rw (eqb-true (l .rule) orNone e) (or-none-holds (l .low) (l .high) last n (leb-true (l .low) 1 (rw e at f))))
+    (λ e.
+    let p = both-hold (eqb (l .rule) plain) (eqb (l .low) 0) (rw e at f) in
+    rw (eqb-true (l .rule) plain (p .0), eqb-true (l .low) 0 (p .1)) (plain-holds (l .high) last n))
 
 -- ---- many numbers
 

@@ -45,9 +45,8 @@ ender-left (l ∷ ls) = rw (lib.Dec.eqb·suc-zero (length ls))
 pub ender-after : (t : List (List ℕ)) (k : ℕ)
     → ender (limitsOf (drop (k + 1) t)) ≡ cond (eqb (length t - k - 1) 0) feed tab
 ender-after t k =
-    let n : length (limitsOf (drop (k + 1) t)) ≡ length t - k - 1 =
-    omega (arith, length-limits (drop (k + 1) t), length-drop (k + 1) t) in
-    ender-left (limitsOf (drop (k + 1) t)) ∙ rw n
+    let n : length t - (k + 1) ≡ length t - k - 1 = omega arith in
+    ender-left (limitsOf (drop (k + 1) t)) ∙ rw (length-limits, length-drop, n)
 
 -- what reading the numbers from place k on gives, from the byte `at` on
 abbrev pub readFrom : List (List ℕ) → List ℕ → ℕ → ℕ → ℕ → Reading
@@ -56,7 +55,6 @@ readFrom table t k last at = readNumbers (limitsOf (drop k table)) last (drop at
 -- k numbers are read, which took `at` bytes of t
 pub record State (table : List (List ℕ)) (t o₀ o : List ℕ) (k last at : ℕ) : Type 0 where
   pub so : List ℕ
-  pub k-in : k ≤ length table
   pub at-in : at ≤ length t
   pub many : length so ≡ k
   pub stored : o ≡ sets o₀ 0 so
@@ -70,22 +68,13 @@ pub record Next (table : List (List ℕ)) (t : List ℕ) (k last at e : ℕ) (r 
 
 pub start : (table : List (List ℕ)) (t o : List ℕ) → State table t o o 0 0 0
 start table t o =
-    record {
-      so = [];
-      k-in = omega arith;
-      at-in = omega arith;
-      many = refl;
-      stored = refl;
-      so-far = sym
-          (after-nothing (readNumbers (limitsOf table) 0 t));
-    }
+    record { so = []; at-in = omega arith; many = refl; stored = refl; so-far = sym (after-nothing _) }
 
 module _ {table : List (List ℕ)} {t o₀ o : List ℕ} {k last at : ℕ} (s : State table t o₀ o k last at) where
   pub done : length table ≤ k → Reads (readNumbers (limitsOf table) 0 t) o₀ (Taken at) o
   unfolding readNumbers
   done h =
-      let e : readNumbers (limitsOf table) 0 t ≡ after (s .so) at nothing =
-      s .so-far ∙ ap (λ (ls : List Limit). after (s .so) at (readNumbers ls last (drop at t))) (limits-end table k h) in
+      let e : readNumbers (limitsOf table) 0 t ≡ after (s .so) at nothing = s .so-far ∙ rw (limits-end table k h) in
       record { answer = rw (e, add-zero at); stored = s .stored ∙ rw (e, append-nil (s .so)) }
 
   module _ {e : ℕ} {r : EntryRead} (g : Next table t k last at e r) where
@@ -114,7 +103,6 @@ module _ {table : List (List ℕ)} {t o₀ o : List ℕ} {k last at : ℕ} (s : 
       let q : readFrom table t k last at ≡ after (n ∷ []) len rest = entered g ∙ rw (drop-drop len at t) in
       record {
         so = s .so ++ (n ∷ []);
-        k-in = omega (arith, g .more);
         at-in = entry-in g;
         many = omega (arith, s .many, length-append (s .so) (n ∷ []));
         stored = rw (s .stored, ← s .many) (rw zero-add at (sets-snoc o₀ 0 (s .so) n));

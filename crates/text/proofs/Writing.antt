@@ -46,14 +46,13 @@ textFrom table ns k = numbersText (limitsOf (drop k table)) (drop k ns)
 -- k numbers are laid, from start up to `at`
 pub record State (table : List (List ℕ)) (ns o₀ o : List ℕ) (start k at : ℕ) : Type 0 where
   pub so : List ℕ
-  pub k-in : k ≤ length table
   pub most : at ≤ start + 11 * k
   pub laid : Laid so o₀ start at o
   pub so-far : numbersText (limitsOf table) ns ≡ so ++ textFrom table ns k
 
 pub begin : (table : List (List ℕ)) (ns o : List ℕ) (start : ℕ) → State table ns o o start 0 start
 begin table ns o start =
-    record { so = []; k-in = omega arith; most = omega arith; laid = laid-none o start; so-far = refl }
+    record { so = []; most = omega arith; laid = laid-none o start; so-far = refl }
 
 module _ {table : List (List ℕ)} {ns o₀ o : List ℕ} {start k at : ℕ} (s : State table ns o₀ o start k at) where
   whole : textFrom table ns k ≡ [] → Laid (numbersText (limitsOf table) ns) o₀ start at o
@@ -79,7 +78,6 @@ module _ {table : List (List ℕ)} {ns o₀ o : List ℕ} {start k at : ℕ} (s 
   step {mid} {e} {o₁} h l n w p =
       record {
         so = s .so ++ (entryText (limitAt table k) (getD ns k 0) ++ (e ∷ []));
-        k-in = omega arith;
         most = omega (arith, p .end, s .most, length-entry-ten (limitAt table k) (getD ns k 0) n);
         laid = laid-more (s .laid) (laid-more p (laid-byte o₁ mid e));
         so-far = s .so-far ∙ rw (limits-more table k h, drop-more ns k l, ender-after table k, w) (simp append-assoc);
