@@ -93,3 +93,12 @@ entry-reach l last e t =
     by-test (begins e (drop 1 t)) (λ b. rw (dash-ended g b) (omega (arith, begun e t 1 b)))
     (λ b. rw (dash-unended g b) (dash-some g)))
     (λ d. entered-reach l last e t (numberOf (fieldOf t)) (record { undashed = d; field = refl; read = refl }))
+
+-- ---- what an entry gives is a number or a refusal
+
+pub by-entry : {A : Type 0} (r : EntryRead)
+    → ((n k : ℕ) → r ≡ Number n k → A)
+    → ((number at : ℕ) → r ≡ Misread number at → A)
+    → A
+by-entry (Number n k) h g = h n k refl
+by-entry (Misread number at) h g = g number at refl

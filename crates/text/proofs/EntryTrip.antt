@@ -7,9 +7,10 @@ use borrow.Author.Tests.{eq-eqb}
 use lib.Dec.{eqb}
 use lib.ListN.{length, drop, length-append}
 use lib.Seq.{drop-append-seam, drop-drop}
-use Rattle.ground.proofs.Booleans.{both-hold, false-true, by-test}
+use Rattle.ground.proofs.Booleans.{both-hold, by-test}
 use Rattle.text.specs.declared.NumberRead.{NumberRead}
 use Rattle.text.specs.declared.NumberRead.the-variants.{Value, Malformed}
+use Rattle.text.specs.declared.EntryRead.{EntryRead}
 use Rattle.text.specs.declared.EntryRead.the-variants.{Number, Misread}
 use Rattle.text.specs.Quoted.{tab, feed, dash}
 use Rattle.text.specs.Field.{fieldOf, begins}
@@ -60,19 +61,12 @@ pub record Back (l : Limit) (last e : ℕ) (t : List ℕ) (n k : ℕ) : Type 0 w
   pub led : Led (entryText l n ++ (e ∷ [])) t k
   pub held : holds l last n ≡ true
 
-back-same : {l : Limit} {last e : ℕ} {t : List ℕ} {m j n k : ℕ}
-    → Back l last e t m j
-    → Number m j ≡ Number n k
-    → Back l last e t n k
-back-same {m = m} {j} {n} {k} p e =
-    let z : m ≡ n = cc in
-    let y : j ≡ k = cc in
-    rw (← z, ← y) p
-
-misread : {A : Type 0} {number at n k : ℕ} → Misread number at ≡ Number n k → A
-misread e = false-true (cc)
-
 module _ (l : Limit) (last e : ℕ) (t : List ℕ) where
+  -- so of an entry that reads as a number
+  abbrev Returns : EntryRead → Type 0
+  Returns (Number n k) = Back l last e t n k
+  Returns (Misread number at) = Unit {0}
+
   none-back : (eqb (l .rule) orNone && begins dash t) ≡ true → begins e (drop 1 t) ≡ true → Back l last e t 0 2
   none-back d b =
       let p = both-hold (eqb (l .rule) orNone) (begins dash t) d in
@@ -99,21 +93,20 @@ module _ (l : Limit) (last e : ℕ) (t : List ℕ) where
         held = within-holds l last m i;
       }
 
-  judged-back : (r : NumberRead) (n k : ℕ)
+  judged-back : (r : NumberRead)
       → numberOf (fieldOf t) ≡ r
-      → judged r l last e (length (fieldOf t)) (drop (length (fieldOf t)) t) ≡ Number n k
-      → Back l last e t n k
-  judged-back (Malformed at) n k v w = misread w
-  judged-back (Value m) n k v w =
+      → Returns (judged r l last e (length (fieldOf t)) (drop (length (fieldOf t)) t))
+  judged-back (Malformed at) v = tt
+  judged-back (Value m) v =
       by-test (begins e (drop (length (fieldOf t)) t))
-      (λ b.
-      by-test (within l last m) (λ i. back-same (value-back m v b i) (rw (b, i) at w)) (λ i. misread (rw (b, i) at w)))
-      (λ b. misread (rw b at w))
+      (λ b. by-test (within l last m) (λ i. rw (b, i) (value-back m v b i)) (λ i. rw (b, i) tt)) (λ b. rw b tt)
+
+  returned : Returns (readEntry l last e t)
+  unfolding readEntry
+  returned =
+      by-test (eqb (l .rule) orNone && begins dash t)
+      (λ d. by-test (begins e (drop 1 t)) (λ b. rw (d, b) (none-back d b)) (λ b. rw (d, b) tt))
+      (λ d. rw d (judged-back (numberOf (fieldOf t)) refl))
 
   pub entry-back : (n k : ℕ) → readEntry l last e t ≡ Number n k → Back l last e t n k
-  unfolding readEntry
-  entry-back n k v =
-      by-test (eqb (l .rule) orNone && begins dash t)
-      (λ d.
-      by-test (begins e (drop 1 t)) (λ b. back-same (none-back d b) (rw (d, b) at v)) (λ b. misread (rw (d, b) at v)))
-      (λ d. judged-back (numberOf (fieldOf t)) n k refl (rw d at v))
+  entry-back n k v = rw v at returned

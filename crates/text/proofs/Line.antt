@@ -8,16 +8,14 @@ use borrow.Author.Tests.{eq-eqb, ne-eqb}
 use lib.ListN.{length, take, drop, length-drop}
 use Rattle.ground.proofs.Booleans.{by-equal}
 use Rattle.ground.proofs.Stores.{rest-part}
-use Rattle.text.specs.declared.EntryRead.{EntryRead}
-use Rattle.text.specs.declared.EntryRead.the-variants.{Number, Misread}
 use Rattle.text.specs.declared.LineRead.{LineRead}
 use Rattle.text.specs.declared.LineRead.the-variants.{Taken, Fault}
 use Rattle.text.specs.Limit.{Limit, limitsOf}
 use Rattle.text.specs.Field.{agreed}
-use Rattle.text.specs.Line.{Line, lineOf, Reading, Reads, shiftBy, after, refused, ender, onEntry, readEntry}
+use Rattle.text.specs.Line.{Line, lineOf, Reads, shiftBy, after, refused, ender, readEntry}
 use Rattle.text.specs.Line.{readNumbers, readLine}
 use Rattle.text.proofs.Field.{agreed-fits}
-use Rattle.text.proofs.Entry.{reach, entry-reach}
+use Rattle.text.proofs.Entry.{reach, entry-reach, by-entry}
 
 -- ---- a whole line
 
@@ -41,20 +39,16 @@ pub extent-shift : (k : ℕ) (r : LineRead) → extent (shiftBy k r) ≡ k + ext
 extent-shift k (Taken n) = refl
 extent-shift k (Fault number at) = refl
 
-entry-extent : (r : EntryRead) (rest : ℕ → List ℕ → Reading) (t : List ℕ)
-    → reach r ≤ length t
-    → ((n : ℕ) (u : List ℕ) → extent (rest n u .ended) ≤ length u)
-    → extent (onEntry r rest t .ended) ≤ length t
-entry-extent (Misread number at) rest t h ih = h
-entry-extent (Number n k) rest t h ih =
-    omega (arith, extent-shift k (rest n (drop k t) .ended), ih n (drop k t), length-drop k t)
-
 numbers-extent : (ls : List Limit) (last : ℕ) (t : List ℕ) → extent (readNumbers ls last t .ended) ≤ length t
 unfolding readNumbers
 numbers-extent [] last t = omega arith
 numbers-extent (l ∷ ls) last t =
-    entry-extent (readEntry l last (ender ls) t) (readNumbers ls) t (entry-reach l last (ender ls) t)
-    (numbers-extent ls)
+    let h = entry-reach l last (ender ls) t in
+    by-entry (readEntry l last (ender ls) t)
+    (λ n k v.
+    let s = extent-shift k (readNumbers ls n (drop k t) .ended) in
+    rw v (omega (arith, ap reach v, numbers-extent ls n (drop k t), length-drop k t)))
+    (λ number at v. rw v (omega (arith, ap reach v)))
 
 pub line-extent : (l : Line) (t : List ℕ) → extent (readLine l t .ended) ≤ length t
 line-extent l t =

@@ -8,13 +8,11 @@ use native.Mathlib.Omega.{arith}
 use lib.Dec.{ltb}
 use lib.ListN.{length, drop, length-append}
 use lib.Seq.{drop-append-seam, drop-drop}
-use Rattle.text.specs.declared.EntryRead.{EntryRead}
-use Rattle.text.specs.declared.EntryRead.the-variants.{Number, Misread}
 use Rattle.text.specs.declared.LineRead.the-variants.{Taken, Fault}
 use Rattle.text.specs.Field.{agreed}
 use Rattle.text.specs.Number.{elevenDigits}
 use Rattle.text.specs.Limit.{Limit, holds, allHold}
-use Rattle.text.specs.Line.{Line, Reading, after, ender, onEntry, readEntry, readNumbers, readLine, entryText}
+use Rattle.text.specs.Line.{Line, Reading, ender, readEntry, readNumbers, readLine, entryText}
 use Rattle.text.specs.Line.{numbersText, lineText}
 use Rattle.text.proofs.Field.{agreed-whole, agreed-self}
 use Rattle.ground.proofs.Booleans.{both-hold, false-true, by-equal}
@@ -22,6 +20,7 @@ use Rattle.text.proofs.Line.{line-tagged, line-untagged}
 use Rattle.text.proofs.Followed.{shift-taken}
 use Rattle.text.proofs.Led.{Led, led-more, led-none}
 use Rattle.text.proofs.Limit.{narrow, holds-small}
+use Rattle.text.proofs.Entry.{by-entry}
 use Rattle.text.proofs.EntryTrip.{ender-ends, entry-back, entry-forth}
 
 -- ---- numbers
@@ -40,13 +39,11 @@ numbers-forth (l ∷ ls) last (n ∷ ns) rest w h =
     let ws = both-hold (ltb (l .high) elevenDigits) (narrow ls) w in
     let x : List ℕ = entryText l n in
     let more : List ℕ = numbersText ls ns in
-    let f =
-    entry-forth l last (ender ls) n (more ++ rest) (ender-ends ls) (hs .0) (holds-small l last n (ws .0) (hs .0)) in
+    let small = holds-small l last n (ws .0) (hs .0) in
+    let f = entry-forth l last (ender ls) n (more ++ rest) (ender-ends ls) (hs .0) small in
     let d : drop (length x + 1) (x ++ (ender ls ∷ (more ++ rest))) ≡ more ++ rest =
-    sym (drop-drop 1 (length x) (x ++ (ender ls ∷ (more ++ rest))))
-    ∙ rw (drop-append-seam x (ender ls ∷ (more ++ rest))) in
-    let c : length x + 1 + length more ≡ length (x ++ (ender ls ∷ more)) =
-    omega (arith, length-append x (ender ls ∷ more)) in
+    sym (drop-drop 1 (length x) _) ∙ rw (drop-append-seam x (ender ls ∷ (more ++ rest))) in
+    let c : length x + 1 + length more ≡ length (x ++ (ender ls ∷ more)) = rw length-append (omega arith) in
     rw (append-assoc x (ender ls ∷ more) rest, f, d, numbers-forth ls n ns rest (ws .1) (hs .1), c)
 
 -- what reads as numbers is what they are written as, and each may stand where it does
@@ -54,34 +51,25 @@ pub record BackAll (ls : List Limit) (last : ℕ) (x t : List ℕ) (k : ℕ) (ns
   pub led : Led x t k
   pub held : allHold ls last ns ≡ true
 
-entered-back : (l : Limit) (ls : List Limit) (last : ℕ) (t : List ℕ) (r : EntryRead) (k : ℕ)
-    → readEntry l last (ender ls) t ≡ r
-    → ((n : ℕ) (u : List ℕ) (i : ℕ)
-    → readNumbers ls n u .ended ≡ Taken i
-    → BackAll ls n (numbersText ls (readNumbers ls n u .numbers)) u i (readNumbers ls n u .numbers))
-    → onEntry r (readNumbers ls) t .ended ≡ Taken k
-    → BackAll (l ∷ ls) last (numbersText (l ∷ ls) (onEntry r (readNumbers ls) t .numbers)) t k
-    (onEntry r (readNumbers ls) t .numbers)
-unfolding numbersText allHold
-entered-back l ls last t (Misread number at) k v ih e = false-true (cc)
-entered-back l ls last t (Number n j) k v ih e =
-    let b = entry-back l last (ender ls) t n j v in
-    let s = shift-taken j (readNumbers ls n (drop j t) .ended) k e in
-    let p = ih n (drop j t) (s .0) (s .1) in
-    record {
-      led = rw (s .2)
-          (rw (append-assoc (entryText l n) (ender ls ∷ []) (numbersText ls (readNumbers ls n (drop j t) .numbers))) at
-          (led-more (b .led) (p .led)));
-      held = rw (b .held, p .held);
-    }
-
-numbers-back : (ls : List Limit) (last : ℕ) (t : List ℕ) (k : ℕ) → readNumbers ls last t .ended ≡ Taken k
+numbers-back : (ls : List Limit) (last : ℕ) (t : List ℕ) (k : ℕ)
+    → readNumbers ls last t .ended ≡ Taken k
     → BackAll ls last (numbersText ls (readNumbers ls last t .numbers)) t k (readNumbers ls last t .numbers)
 unfolding readNumbers numbersText allHold
 numbers-back [] last t k e =
     let z : 0 ≡ k = cc in
     rw (← z) (record { led = led-none t; held = refl })
-numbers-back (l ∷ ls) last t k e = entered-back l ls last t (readEntry l last (ender ls) t) k refl (numbers-back ls) e
+numbers-back (l ∷ ls) last t k e =
+    by-entry (readEntry l last (ender ls) t)
+    (λ n j v.
+    let b = entry-back l last (ender ls) t n j v in
+    let rest : Reading = readNumbers ls n (drop j t) in
+    let s = shift-taken j (rest .ended) k (rw v at e) in
+    let p = numbers-back ls n (drop j t) (s .0) (s .1) in
+    let a = append-assoc (entryText l n) (ender ls ∷ []) (numbersText ls (rest .numbers)) in
+    rw v (record { led = rw (s .2) (rw a at (led-more (b .led) (p .led))); held = rw (b .held, p .held) }))
+    (λ number at v.
+    let f : Fault number at ≡ Taken k = rw v at e in
+    false-true (cc))
 
 -- ---- a line
 
@@ -93,9 +81,7 @@ pub line-forth : (l : Line) (ns rest : List ℕ)
 line-forth l ns rest w h =
     let x : List ℕ = numbersText (l .limits) ns in
     let t : lineText l ns ++ rest ≡ l .tag ++ (x ++ rest) = append-assoc (l .tag) x rest in
-    let r : readLine l (l .tag ++ (x ++ rest))
-    ≡ after [] (length (l .tag)) (readNumbers (l .limits) 0 (drop (length (l .tag)) (l .tag ++ (x ++ rest)))) =
-    line-tagged l (l .tag ++ (x ++ rest)) (agreed-self (l .tag) (x ++ rest)) in
+    let r = line-tagged l (l .tag ++ (x ++ rest)) (agreed-self (l .tag) (x ++ rest)) in
     rw (t, r, drop-append-seam (l .tag) (x ++ rest), numbers-forth (l .limits) 0 ns rest w h, length-append (l .tag) x)
 
 -- and what is read is what would be written
