@@ -1,4 +1,4 @@
--- What a reading of the program's input came to. No contract can say which bytes are read: only how many. Assumes nothing: these are definitions.
+-- What a reading of the program's input came to. No contract can say which bytes are read: only how many.
 use Prim.Native.Nat.{ℕ}
 use Rattle.plate.specs.declared.Reading.{Reading}
 use Rattle.plate.specs.declared.Reading.the-variants.{Bytes, Failed}

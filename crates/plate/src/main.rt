@@ -1,5 +1,5 @@
-// The plate program: a sheet and engine lines come on standard input, and plates A and C go to standard output. What is printed is the crate printing's to say;
-// here the bytes are only carried to it and from it.
+// The plate program: a sheet and engine lines come on standard input, and plates A and C go to standard output. What is
+// printed is the crate printing's to say; here the bytes are only carried to it and from it.
 ghost use mathlib.Core.Path.{_≡_};
 ghost use Prim.Native.Nat.{_≤_};
 ghost use lib.ListN.{length, take};
@@ -32,7 +32,8 @@ fn read_once(room: &mut [u8]) -> Reading
     Reading::Bytes(io::count(got, room))
 }
 
-// Fills room from its start, until it is full or the input ends. A pipe hands over what it has, if only a byte: a short piece is not the end.
+// Fills room from its start, until it is full or the input ends. A pipe hands over what it has, if only a byte: a short
+// piece is not the end.
 fn read_input(room: &mut [u8]) -> Reading
     ensures { λ r. ⌜ bytesOf r ≤ length (now (room .exit)) ⌝ }
 {
@@ -55,8 +56,8 @@ fn pass_piece() -> Reading {
     read_once(&mut piece)
 }
 
-// Reads on to the input's end, so that its writer is not cut off, and answers whether no read failed. A proved loop has to end, and nothing says that an
-// input does: the turns are counted down from a number that no run uses up.
+// Reads on to the input's end, so that its writer is not cut off, and answers whether no read failed. A proved loop has
+// to end, and nothing says that an input does: the turns are counted down from a number that no run uses up.
 fn pass_rest() -> bool {
     let mut turns = u64::MAX;
     while turns > 0 {
@@ -71,7 +72,8 @@ fn pass_rest() -> bool {
     true
 }
 
-// Lays what is printed of an input at the start of out, and answers how many bytes that is. Out has room for the longest, so there is always a count.
+// Lays what is printed of an input at the start of out, and answers how many bytes that is. Out has room for the
+// longest, so there is always a count.
 fn lay(input: &[u8], out: &mut [u8; MOST_PRINTED]) -> usize
     ensures { λ r. ⌜ Counts r (now (out .exit)) ⌝ }
     ensures { λ r. ⌜ take r (now (out .exit)) ≡ printed (now (input .entry)) ⌝ }
@@ -91,7 +93,8 @@ fn print(input: &[u8]) {
     }
 }
 
-// Reads the input to its end, and prints what is to be printed of it. After a failed read, which has been said, nothing is printed.
+// Reads the input to its end, and prints what is to be printed of it. After a failed read, which has been said, nothing
+// is printed.
 fn main() {
     let mut room = [0u8; ROOM];
     let Reading::Bytes(end) = read_input(&mut room) else {
