@@ -144,8 +144,8 @@ fn write_entry(l: Limit, n: u32, out: &mut [u8], at: usize) -> usize
 // them.
 fn write_numbers(table: &[Limit], numbers: &[u32], out: &mut [u8], start: usize) -> usize
     requires { ⌜ start < 2 ^ 63 ⌝ }
-    ensures { λ r. ⌜ Laid (numbersText (limitsOf (now (table .entry))) (now (numbers .entry))) (now (out .entry)) start r
-        (now (out .exit)) ⌝ }
+    ensures { λ r. ⌜ Laid (numbersText (limitsOf (now (table .entry))) (now (numbers .entry))) (now (out .entry))
+        start r (now (out .exit)) ⌝ }
 {
     let count = table.len();
     let mut k = 0;

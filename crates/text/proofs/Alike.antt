@@ -14,14 +14,19 @@ use Rattle.text.proofs.Limit.{low-holds}
 
 -- ---- the greatest, found number by number
 
-pub greatest-more : (ns : List ℕ) (i top next : ℕ)
-    → i < length ns
-    → next ≡ max top (getD ns i 0)
-    → max next (foldr max 0 (drop (i + 1) ns)) ≡ max top (foldr max 0 (drop i ns))
-greatest-more ns i top next h e = rw (drop-more ns i h) (omega (arith, e))
+-- top is the greatest of the first k
+pub record Topped (ns : List ℕ) (top k : ℕ) : Type 0 where
+  pub so-far : max top (foldr max 0 (drop k ns)) ≡ foldr max 0 ns
 
-pub greatest-done : (ns : List ℕ) (i top : ℕ) → length ns ≤ i → max top (foldr max 0 (drop i ns)) ≡ top
-greatest-done ns i top h = rw (drop-of-length-le ns {i = i} h) (omega arith)
+pub topped-none : (ns : List ℕ) → Topped ns 0 0
+topped-none ns = record { so-far = omega arith }
+
+module _ {ns : List ℕ} {top k : ℕ} (g : Topped ns top k) where
+  pub topped-more : {next : ℕ} → k < length ns → next ≡ max top (getD ns k 0) → Topped ns next (k + 1)
+  topped-more h e = record { so-far = omega (arith, rw (drop-more ns k h) at (g .so-far)) }
+
+  pub topped-done : length ns ≤ k → top ≡ foldr max 0 ns
+  topped-done h = omega (arith, rw (drop-of-length-le ns {i = k} h) at (g .so-far))
 
 -- ---- many numbers
 

@@ -41,13 +41,12 @@ laid-part bs o ys at r p =
     record { end = omega (arith, p .end); laid = rw e (part-sets o at bs) }
 
 -- bytes laid into what is left from `at` on, which past the end is nothing and leaves the whole as it was
-pub laid-left : (bs o ys : List ℕ) (at from r : ℕ)
+pub laid-left : {bs o ys : List ℕ} {at from r : ℕ}
     → from ≡ min at (length o)
     → Laid bs (take (length o - from) (drop from o)) 0 r ys
     → Laid bs o at (at + r) (putBack o from ys)
-laid-left bs o ys at from r e p =
-    let q = laid-part bs o ys from r p in
-    record { end = omega (arith, p .end); laid = q .laid ∙ rw (e, sets-min o at bs) }
+laid-left {bs} {o} {ys} {at} {from} {r} e p =
+    record { end = omega (arith, p .end); laid = laid-part bs o ys from r p .laid ∙ rw (e, sets-min o at bs) }
 
 -- ---- a number
 

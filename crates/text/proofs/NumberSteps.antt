@@ -36,15 +36,6 @@ unfolding numberOf
 number-zero [] h e = absurd (omega arith)
 number-zero (b ∷ s) h e = rw (digit-is b (omega arith) (omega arith), eq-eqb b 48 e, numberOf)
 
-pub number-more : (s : List ℕ)
-    → 0 < length s
-    → isDigit (getD s 0 0) ≡ true
-    → getD s 0 0 ≢ 48
-    → numberOf s ≡ restOf (getD s 0 0 - 48) 1 (drop 1 s)
-unfolding numberOf
-number-more [] h d e = absurd (omega arith)
-number-more (b ∷ s) h d e = rw (d, ne-eqb b 48 e, numberOf)
-
 pub zero-alone : (s : List ℕ) → length s ≡ 1 → zeroAlone (drop 1 s) ≡ Value 0
 zero-alone [] h = absurd (omega arith)
 zero-alone (b ∷ []) h = refl
@@ -54,12 +45,6 @@ pub zero-led : (s : List ℕ) → 0 < length s → length s ≢ 1 → zeroAlone 
 zero-led [] h k = absurd (omega arith)
 zero-led (b ∷ []) h k = absurd (k refl)
 zero-led (b ∷ d ∷ s) h k = refl
-
-pub rest-step : (n i b : ℕ) (s : List ℕ)
-    → (isDigit b && leb n nineDigits) ≡ true
-    → restOf n i (b ∷ s) ≡ restOf (10 * n + (b - 48)) (suc i) s
-unfolding restOf
-rest-step n i b s e = rw (e, restOf)
 
 -- a field that starts with no `0` reads as what is left after no digits
 pub number-rest : (s : List ℕ) → 0 < length s → getD s 0 0 ≢ 48 → numberOf s ≡ restOf 0 0 s

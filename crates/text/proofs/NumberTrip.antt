@@ -15,7 +15,7 @@ use Rattle.text.specs.Field.{fieldOf, begins}
 use Rattle.text.specs.Number.{isDigit, nineDigits, elevenDigits, restOf, zeroAlone, numberOf, digitsOf}
 use Rattle.text.proofs.Field.{field-more}
 use Rattle.text.proofs.Number.{by-digits, digits-more, digits-push, digits-small, length-digits-more}
-use Rattle.text.proofs.NumberSteps.{digit-high, digit-is, digit-low, number-more, rest-step}
+use Rattle.text.proofs.NumberSteps.{digit-high, digit-is, digit-low}
 
 -- ---- what is read is what would be written
 
@@ -81,20 +81,19 @@ forth-small : (n : ℕ) → n < 10 → Forth n
 unfolding numberOf restOf
 forth-small n m s p l =
     let e : 48 + n - 48 ≡ n = omega arith in
-    rw (digits-small n m)
-    (number-more ((48 + n) ∷ s) (omega arith) (digit-is (48 + n) (omega arith) (omega arith)) (omega arith) ∙ rw e)
+    let d = digit-is (48 + n) (omega arith) (omega arith) in
+    rw (digits-small n m, d, ne-eqb (48 + n) 48 (omega arith), numberOf, e)
 
 forth-more : (n : ℕ) → 10 ≤ n → Forth (n / 10) → Forth n
+unfolding restOf
 forth-more n m ih s p l =
     let e : 10 * (n / 10) + (48 + n % 10 - 48) ≡ n = omega arith in
     let j : suc (length (digitsOf (n / 10))) ≡ length (digitsOf n) = omega (arith, length-digits-more n m) in
-    let d : (isDigit (48 + n % 10) && leb (n / 10) nineDigits) ≡ true =
-    simp (digit-is (48 + n % 10) (omega arith) (omega arith), le-leb (n / 10) nineDigits (omega arith)) in
+    let d = digit-is (48 + n % 10) (omega arith) (omega arith) in
     ap (λ (l : List ℕ). numberOf (l ++ s)) (digits-more n m)
     ∙ ap numberOf (append-assoc (digitsOf (n / 10)) ((48 + n % 10) ∷ []) s)
     ∙ ih ((48 + n % 10) ∷ s) (omega arith) (omega arith)
-    ∙ rest-step (n / 10) (length (digitsOf (n / 10))) (48 + n % 10) s d
-    ∙ rw (e, j)
+    ∙ rw (d, le-leb (n / 10) nineDigits (omega arith), restOf, e, j)
 
 pub written-reads : (n : ℕ) → n < elevenDigits → numberOf (digitsOf n) ≡ Value n
 unfolding numberOf restOf

@@ -43,7 +43,8 @@ told c e =
 returns-3 : tie.Need-returns-3 Inv-loop μ-loop
 returns-3 c =
     let at = c .before in
-    sym (at .loop .inv .1 ∙ hold-done (table at) (numbers at) (at .loop .last) (at .loop .k) (omega arith) (omega arith))
+    let done = hold-done (table at) (numbers at) (at .loop .last) (at .loop .k) (omega arith) (omega arith) in
+    sym (at .loop .inv .1 ∙ done)
 
 pub all-hold-spec : {M : Type 1} → statement M
 all-hold-spec =

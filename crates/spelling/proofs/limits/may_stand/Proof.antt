@@ -3,11 +3,8 @@ use borrow.Author.Needs.{needs}
 use Rattle.spelling.proofs.limits.may_stand.Statement.{statement}
 use Rattle.spelling.proofs.limits.may_stand.Tie as tie
 
-returns-2 : tie.Need-returns-2
-returns-2 c = simp (← c .before .before .is-none .ensures, c .before .if1 .left, ← c .is-within .ensures)
-
 pub may-stand-spec : {M : Type 1} → statement M
 may-stand-spec =
     tie.close
     (tie.spec (λ c κs. search needs) (λ c κs. search needs) (λ c. simp (← c .before .is-none .ensures, c .if1 .taken))
-    returns-2)
+    (λ c. simp (← c .before .before .is-none .ensures, c .before .if1 .left, ← c .is-within .ensures)))

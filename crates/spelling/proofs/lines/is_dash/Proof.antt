@@ -4,10 +4,8 @@ use borrow.Author.Needs.{needs}
 use Rattle.spelling.proofs.lines.is_dash.Statement.{statement}
 use Rattle.spelling.proofs.lines.is_dash.Tie as tie
 
-returns : tie.Need-returns
-returns c = simp (eq-eqb _ _ (c .before .if1 .taken), ← c .starts .ensures)
-
 pub is-dash-spec : {M : Type 1} → statement M
 is-dash-spec =
     tie.close
-    (tie.spec (λ c. search needs) (λ c κs. search needs) returns (λ c. simp (ne-eqb _ _ (c .if1 .left))))
+    (tie.spec (λ c. search needs) (λ c κs. search needs)
+    (λ c. simp (eq-eqb _ _ (c .before .if1 .taken), ← c .starts .ensures)) (λ c. simp (ne-eqb _ _ (c .if1 .left))))

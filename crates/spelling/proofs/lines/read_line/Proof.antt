@@ -15,8 +15,9 @@ returns c =
     reads-untagged (a .tag .now) (a .table .now) (a .text .now) (a .out .now) _ (c .before .agreement .ensures)
     (c .if1 .taken)
 
-tagged : (c : tie.Else1)
-    → Tagged (start (c .before) .args .tag .now) (start (c .before) .args .table .now) (start (c .before) .args .text .now)
+tagged : (c : tie.Else1) →
+    let a = start (c .before) .args in
+    Tagged (a .tag .now) (a .table .now) (a .text .now)
 tagged c = record { whole = sym (c .before .agreement .ensures) ∙ c .if1 .left }
 
 room : tie.Need-sub-read-numbers
@@ -25,22 +26,26 @@ room c = tag-fits (tagged c)
 add-t19 : tie.Need-add-t19
 add-t19 c =
     let at = c .before .before .before .before .before in
-    omega (arith, ap extent (c .before .refusal .given .1), tagged-in (tagged (at .before .before .before)) (at .read-numbers .ensures))
+    let h = tagged-in (tagged (at .before .before .before)) (at .read-numbers .ensures) in
+    omega (arith, ap extent (c .before .refusal .given .1))
 
 add-t20 : tie.Need-add-t20
 add-t20 c =
     let at = c .before .before .before .before .before in
-    omega (arith, ap extent (c .before .len .given .1), tagged-in (tagged (at .before .before .before)) (at .read-numbers .ensures))
+    let h = tagged-in (tagged (at .before .before .before)) (at .read-numbers .ensures) in
+    omega (arith, ap extent (c .before .len .given .1))
 
 returns-2 : tie.Need-returns-2
 returns-2 c =
     let at = c .before .before .before .before .before in
-    rw (c .before .refusal .given .1) at (reads-tagged (tagged (at .before .before .before)) (at .read-numbers .ensures))
+    let h = reads-tagged (tagged (at .before .before .before)) (at .read-numbers .ensures) in
+    rw (c .before .refusal .given .1) at h
 
 returns-3 : tie.Need-returns-3
 returns-3 c =
     let at = c .before .before .before .before .before in
-    rw (c .before .len .given .1) at (reads-tagged (tagged (at .before .before .before)) (at .read-numbers .ensures))
+    let h = reads-tagged (tagged (at .before .before .before)) (at .read-numbers .ensures) in
+    rw (c .before .len .given .1) at h
 
 pub read-line-spec : {M : Type 1} → statement M
 read-line-spec =

@@ -23,10 +23,10 @@ turn c = c .before .before .before .before .before
 abbrev call : tie.After-read-entry Inv-loop μ-loop → tie.Start Inv-loop μ-loop
 call c = turn c .before .before .before
 
-next : (c : tie.After-read-entry Inv-loop μ-loop) {r : EntryRead}
-    → c .read-entry .result ≡ r
-    → Next (call c .args .table .now) (call c .args .text .now) (turn c .loop .k) (turn c .loop .last) (turn c .loop .at)
-    (c .before .before .before .ender-before .result) r
+next : (c : tie.After-read-entry Inv-loop μ-loop) {r : EntryRead} → c .read-entry .result ≡ r →
+    let a = call c .args in
+    let at = turn c .loop in
+    Next (a .table .now) (a .text .now) (at .k) (at .last) (at .at) (c .before .before .before .ender-before .result) r
 next c e =
     record {
       more = c .before .before .before .before .loop-test .taken;
@@ -54,13 +54,14 @@ read c = c .before .before .before .before .before .before .before
 
 add-at : tie.Need-add-at Inv-loop μ-loop
 add-at c =
-    let h = entry-in (turn (read c) .loop .inv) (next (read c) (c .before .before .before .before .before .n .given .1)) in
+    let n = next (read c) (c .before .before .before .before .before .n .given .1) in
+    let h = entry-in (turn (read c) .loop .inv) n in
     omega arith
 
 loop-again : tie.Need-loop-again Inv-loop μ-loop
 loop-again c =
-    rw (c .before .before .store-number .ensures)
-    (step (turn (read c) .loop .inv) (next (read c) (c .before .before .before .before .before .n .given .1)))
+    let n = next (read c) (c .before .before .before .before .before .n .given .1) in
+    rw (c .before .before .store-number .ensures) (step (turn (read c) .loop .inv) n)
 
 same-length-2 : tie.Need-same-length-2 Inv-loop μ-loop
 same-length-2 c = ap length (c .before .loop .inv .stored) ∙ simp length-sets

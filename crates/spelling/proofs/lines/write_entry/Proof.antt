@@ -8,11 +8,8 @@ use Rattle.spelling.proofs.lines.write_entry.Tie as tie
 
 returns : tie.Need-returns
 returns c =
-    let start = c .before .before .before .before .before .before .before in
-    let at-is-none = c .before .before .before .before .before in
-    let at-if1 = c .before .before .before .before in
-    simp (← at-is-none .is-none .ensures, at-if1 .if1 .taken, c .before .before .store .ensures)
-    (laid-byte (start .args .out .now) (start .args .at) 45)
+    let at = c .before .before .before .before in
+    simp (← at .before .is-none .ensures, at .if1 .taken, c .before .before .store .ensures) (laid-byte _ _ _)
 
 add-result-2 : tie.Need-add-result-2
 add-result-2 c =
@@ -22,13 +19,9 @@ add-result-2 c =
 
 returns-2 : tie.Need-returns-2
 returns-2 c =
-    let start = c .before .before .before .before .before .before .before .before in
-    let at-is-none = c .before .before .before .before .before .before in
-    let at-if1 = c .before .before .before .before .before in
-    let at-shorter = c .before .before .before .before in
-    simp (← at-is-none .is-none .ensures, at-if1 .if1 .left)
-    (laid-left _ (start .args .out .now) _ (start .args .at) _ _ (at-shorter .shorter .ensures)
-    (c .before .before .write-number .ensures))
+    let at = c .before .before .before .before in
+    simp (← at .before .before .is-none .ensures, at .before .if1 .left)
+    (laid-left (at .shorter .ensures) (c .before .before .write-number .ensures))
 
 pub write-entry-spec : {M : Type 1} → statement M
 write-entry-spec =

@@ -41,9 +41,9 @@ returns t c =
 
 returns-2 : (t : ℕ) → write-number-lts.Need-returns-2 (calls t) (write-number-at t) write-number.Post
 returns-2 t c =
-    let at-if1 = c .before .before .before .before .before .before .before .before in
-    let at-write-number = c .before .before .before .before .before .before in
-    laid-digits _ _ _ _ _ (at-if1 .if1 .left) (at-write-number .write-number .ensures) (c .before .before .store2 .ensures)
+    let at = c .before .before .before .before .before .before in
+    let e = at .write-number .ensures in
+    laid-digits _ _ _ _ _ (at .before .before .if1 .left) e (c .before .before .store2 .ensures)
 
 pub +write-number-spec : {M : Type 1} → statement M
 +write-number-spec =
