@@ -1,7 +1,7 @@
 -- Laws of limits: the table read three numbers at a time, one number, and many numbers.
 use mathlib.Core.Path.{_≡_, refl, sym, ap}
 use mathlib.Core.Logic.{_≢_}
-use mathlib.Core.Bool.{Bool, true, false, _&&_, cond, and-true, and-false}
+use mathlib.Core.Bool.{Bool, true, false, _&&_, cond, and-true}
 use mathlib.Core.List.{List, [], _∷_}
 use Prim.Native.Nat.{ℕ, zero, suc, _+_, _≤_, _<_}
 use native.Mathlib.Numerals.{add-one}
@@ -96,12 +96,16 @@ low-holds l last n f =
 
 -- ---- many numbers
 
-pub hold-uneven : (ls : List Limit) (last : ℕ) (ns : List ℕ) → length ls ≢ length ns → allHold ls last ns ≡ false
+pub hold-length : (ls : List Limit) (last : ℕ) (ns : List ℕ) → allHold ls last ns ≡ true → length ns ≡ length ls
 unfolding allHold
-hold-uneven [] last [] h = absurd (h refl)
-hold-uneven [] last (n ∷ ns) h = refl
-hold-uneven (l ∷ ls) last [] h = refl
-hold-uneven (l ∷ ls) last (n ∷ ns) h = rw (hold-uneven ls n ns (λ (e : length ls ≡ length ns). h (ap suc e)), and-false)
+hold-length [] last [] h = refl
+hold-length [] last (n ∷ ns) h = false-true h
+hold-length (l ∷ ls) last [] h = false-true h
+hold-length (l ∷ ls) last (n ∷ ns) h = ap suc (hold-length ls n ns (both-hold (holds l last n) (allHold ls n ns) h .1))
+
+pub hold-uneven : (ls : List Limit) (last : ℕ) (ns : List ℕ) → length ls ≢ length ns → allHold ls last ns ≡ false
+hold-uneven ls last ns h =
+    by-test (allHold ls last ns) (λ e. absurd (h (sym (hold-length ls last ns e)))) (λ e. e)
 
 -- whether those from place k on may stand after last
 abbrev pub heldFrom : List (List ℕ) → List ℕ → ℕ → ℕ → Bool
@@ -120,10 +124,3 @@ pub hold-done : (t : List (List ℕ)) (ns : List ℕ) (last k : ℕ)
     → heldFrom t ns last k ≡ true
 unfolding allHold
 hold-done t ns last k h l = rw (limits-end t k h, drop-of-length-le ns {i = k} l)
-
-pub hold-length : (ls : List Limit) (last : ℕ) (ns : List ℕ) → allHold ls last ns ≡ true → length ns ≡ length ls
-unfolding allHold
-hold-length [] last [] h = refl
-hold-length [] last (n ∷ ns) h = false-true h
-hold-length (l ∷ ls) last [] h = false-true h
-hold-length (l ∷ ls) last (n ∷ ns) h = ap suc (hold-length ls n ns (both-hold (holds l last n) (allHold ls n ns) h .1))
