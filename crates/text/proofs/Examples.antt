@@ -15,16 +15,13 @@ use Rattle.text.specs.Line.{readEntry}
 
 -- ---- a number: 1 to 10 digits, no leading zero but 0 itself
 
-numbers : List String
-numbers =
-    "0" ∷ "7" ∷ "4294967295" ∷ "4294967296" ∷ "9999999999" ∷ "" ∷ "00" ∷ "07" ∷ "10000000000" ∷ "12x" ∷ "-" ∷ "-1"
-    ∷ " 1" ∷ []
-
 numbers-right :
-    map (λ (s : String). numberOf (bytes s)) numbers
+    map (λ (s : String). numberOf (bytes s))
+    ("0" ∷ "7" ∷ "4294967295" ∷ "4294967296" ∷ "9999999999" ∷ "" ∷ "00" ∷ "07" ∷ "10000000000" ∷ "12x" ∷ "-" ∷ "-1"
+    ∷ " 1" ∷ [])
     ≡ Value 0 ∷ Value 7 ∷ Value 4294967295 ∷ Value 4294967296 ∷ Value 9999999999 ∷ Malformed 0 ∷ Malformed 1
     ∷ Malformed 1 ∷ Malformed 10 ∷ Malformed 2 ∷ Malformed 0 ∷ Malformed 0 ∷ Malformed 0 ∷ []
-unfolding numbers numberOf restOf
+unfolding numberOf restOf
 numbers-right = refl
 
 digits-right :
@@ -43,38 +40,36 @@ eleven-right = refl
 record Case : Type 0 where
   limit : Limit
   text : String
+  gives : EntryRead
+
+abbrev case : Limit → String → EntryRead → Case
+case limit text gives = record { limit = limit; text = text; gives = gives }
 
 -- after the number 4000, ended by a tab
-read : Case → EntryRead
-read c = readEntry (c .limit) 4000 tab (bytes (c .text))
-
 entries : List Case
 entries =
-    record { limit = ranging 1 24; text = "24\t" }
-    ∷ record { limit = ranging 1 24; text = "25\t" }
-    ∷ record { limit = ranging 1 24; text = "0\t" }
+    case (ranging 1 24) "24\t" (Number 24 3)
+    ∷ case (ranging 1 24) "25\t" (Misread 3 0)
+    ∷ case (ranging 1 24) "0\t" (Misread 3 0)
     -- out of limits and ended by the wrong byte: 2, not 3
-    ∷ record { limit = ranging 1 24; text = "25\n" }
-    ∷ record { limit = ranging 1 24; text = "25" }
-    ∷ record { limit = ranging 1 24; text = "10000000000\t" }
-    ∷ record { limit = ranging 1 24; text = "9999999999\t" }
-    ∷ record { limit = ranging 1 24; text = "4294967297\t" }
-    ∷ record { limit = ranging 1 24; text = "-\t" }
-    ∷ record { limit = rangingOrNone 1 24; text = "-\t" }
-    ∷ record { limit = rangingOrNone 1 24; text = "0\t" }
-    ∷ record { limit = rangingOrNone 0 24; text = "0\t" }
-    ∷ record { limit = rangingOrNone 1 24; text = "-\n" }
-    ∷ record { limit = rangingOrNone 1 24; text = "-5\t" }
-    ∷ record { limit = rangingCapped 2000 6000; text = "4000\t" }
-    ∷ record { limit = rangingCapped 2000 6000; text = "4001\t" }
+    ∷ case (ranging 1 24) "25\n" (Misread 2 2)
+    ∷ case (ranging 1 24) "25" (Misread 2 2)
+    ∷ case (ranging 1 24) "10000000000\t" (Misread 2 10)
+    ∷ case (ranging 1 24) "9999999999\t" (Misread 3 0)
+    ∷ case (ranging 1 24) "4294967297\t" (Misread 3 0)
+    ∷ case (ranging 1 24) "-\t" (Misread 2 0)
+    ∷ case (rangingOrNone 1 24) "-\t" (Number 0 2)
+    ∷ case (rangingOrNone 1 24) "0\t" (Misread 3 0)
+    ∷ case (rangingOrNone 0 24) "0\t" (Misread 3 0)
+    ∷ case (rangingOrNone 1 24) "-\n" (Misread 2 1)
+    ∷ case (rangingOrNone 1 24) "-5\t" (Misread 2 1)
+    ∷ case (rangingCapped 2000 6000) "4000\t" (Number 4000 5)
+    ∷ case (rangingCapped 2000 6000) "4001\t" (Misread 3 0)
     ∷ []
 
 entries-right :
-    map read entries
-    ≡ Number 24 3 ∷ Misread 3 0 ∷ Misread 3 0 ∷ Misread 2 2 ∷ Misread 2 2 ∷ Misread 2 10 ∷ Misread 3 0 ∷ Misread 3 0
-    ∷ Misread 2 0 ∷ Number 0 2 ∷ Misread 3 0 ∷ Misread 3 0 ∷ Misread 2 1 ∷ Misread 2 1 ∷ Number 4000 5 ∷ Misread 3 0
-    ∷ []
-unfolding read entries readEntry fieldOf numberOf restOf
+    map (λ (c : Case). readEntry (c .limit) 4000 tab (bytes (c .text))) entries ≡ map (λ (c : Case). c .gives) entries
+unfolding entries readEntry fieldOf numberOf restOf
 entries-right = refl
 
 -- ---- a limit as the code's tables have it: low, high, and the number of its rule; what a row lacks is 0
