@@ -12,6 +12,7 @@ use lib.ListN.{length, drop, getD, drop-of-length-le}
 use lib.Seq.{drop-cons}
 use Rattle.ground.proofs.Booleans.{second-fails, by-less}
 use Rattle.text.specs.declared.NumberRead.the-variants.{Value, Malformed}
+use Rattle.text.specs.Quoted.{digit0}
 use Rattle.text.specs.Number.{isDigit, nineDigits, restOf, numberOf, digitsIn, digitsOf}
 use Rattle.text.proofs.Number.{length-digits-small, length-digits-more, length-digits-mono, length-digits-ten}
 use Rattle.text.proofs.NumberSteps.{digit-low, digit-high, number-rest}
@@ -28,13 +29,13 @@ ten = refl
 
 -- f starts with no `0`, and its first i bytes are digits that gave n; before the first, n is 0
 pub record Digits (f : List ℕ) (n i : ℕ) : Type 0 where
-  pub led : getD f 0 0 ≢ 48
+  pub led : getD f 0 0 ≢ digit0
   pub none : i ≡ 0 → n ≡ 0
   pub some : 0 < i → 0 < n
   pub count : length (digitsOf n) ≡ max i 1
   pub rest : numberOf f ≡ restOf n i (drop i f)
 
-pub digits-none : (f : List ℕ) → 0 < length f → getD f 0 0 ≢ 48 → Digits f 0 0
+pub digits-none : (f : List ℕ) → 0 < length f → getD f 0 0 ≢ digit0 → Digits f 0 0
 digits-none f h k =
     let c = length-digits-small 0 (omega arith) in
     record { led = k; none = λ z. refl; some = λ z. absurd (omega arith); count = c; rest = number-rest f h k }
@@ -62,7 +63,10 @@ module _ {f : List ℕ} {n i : ℕ} (g : Digits f n i) where
       let z = g .none (omega arith) in
       omega (arith, length-digits-small (10 * n + d) (omega arith)))
 
-  pub digits-next : i < length f → i < 10 → isDigit (getD f i 0) ≡ true → Digits f (10 * n + (getD f i 0 - 48)) (i + 1)
+  pub digits-next : i < length f
+      → i < 10
+      → isDigit (getD f i 0) ≡ true
+      → Digits f (10 * n + (getD f i 0 - digit0)) (i + 1)
   unfolding restOf
   digits-next h l e =
       let low = digit-low (getD f i 0) e in
@@ -74,9 +78,9 @@ module _ {f : List ℕ} {n i : ℕ} (g : Digits f n i) where
             by-less 0 i (λ p. omega (arith, g .some p))
             (λ p.
             let y : i ≡ 0 = omega arith in
-            let k : getD f i 0 ≢ 48 = rw y (g .led) in
+            let k : getD f i 0 ≢ digit0 = rw y (g .led) in
             omega arith);
-        count = more-count (getD f i 0 - 48) (omega arith);
+        count = more-count (getD f i 0 - digit0) (omega arith);
         rest = g .rest ∙ rw (add-one, drop-cons f i 0, e, le-leb n nineDigits (digits-nine l), restOf);
       }
 

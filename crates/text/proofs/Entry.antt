@@ -6,6 +6,7 @@ use Prim.Native.Nat.{ℕ, _+_, _≤_, _<_}
 use native.Mathlib.Omega.{arith}
 use lib.Dec.{eqb}
 use lib.ListN.{length, drop, length-drop}
+use Rattle.answers.specs.Refusals.{brokenLine, outsideLimits}
 use Rattle.ground.proofs.Booleans.{both-hold, by-test}
 use Rattle.text.specs.declared.NumberRead.{NumberRead}
 use Rattle.text.specs.declared.NumberRead.the-variants.{Value, Malformed}
@@ -33,7 +34,7 @@ module _ {l : Limit} {last e : ℕ} {t : List ℕ} (g : Dashed l last e t) where
   unfolding readEntry
   dash-ended b = rw (g .dashed, b)
 
-  pub dash-unended : begins e (drop 1 t) ≡ false → readEntry l last e t ≡ Misread 2 1
+  pub dash-unended : begins e (drop 1 t) ≡ false → readEntry l last e t ≡ Misread brokenLine 1
   unfolding readEntry
   dash-unended b = rw (g .dashed, b)
 
@@ -44,16 +45,18 @@ pub record Entered (l : Limit) (last e : ℕ) (t f : List ℕ) (r : NumberRead) 
   pub read : numberOf f ≡ r
 
 module _ {l : Limit} {last e : ℕ} {t f : List ℕ} where
-  pub no-number : {at : ℕ} → Entered l last e t f (Malformed at) → readEntry l last e t ≡ Misread 2 at
+  pub no-number : {at : ℕ} → Entered l last e t f (Malformed at) → readEntry l last e t ≡ Misread brokenLine at
   unfolding readEntry
   no-number g = rw (g .undashed, ← g .field, g .read)
 
   module _ {n : ℕ} (g : Entered l last e t f (Value n)) where
-    pub unended : begins e (drop (length f) t) ≡ false → readEntry l last e t ≡ Misread 2 (length f)
+    pub unended : begins e (drop (length f) t) ≡ false → readEntry l last e t ≡ Misread brokenLine (length f)
     unfolding readEntry
     unended b = rw (g .undashed, ← g .field, g .read, b)
 
-    pub outside : begins e (drop (length f) t) ≡ true → within l last n ≡ false → readEntry l last e t ≡ Misread 3 0
+    pub outside : begins e (drop (length f) t) ≡ true
+        → within l last n ≡ false
+        → readEntry l last e t ≡ Misread outsideLimits 0
     unfolding readEntry
     outside b w = rw (g .undashed, ← g .field, g .read, b, w)
 

@@ -6,6 +6,7 @@ use native.Mathlib.Omega.{arith}
 use native.Mathlib.Nat.{add-zero}
 use lib.ListN.{length, take, drop, set, length-append}
 use lib.Seq.{sets}
+use Rattle.text.specs.Quoted.{digit0}
 use Rattle.text.specs.Number.{digitsOf}
 use Rattle.text.specs.Line.{Laid}
 use Rattle.ground.proofs.Stores.{putBack, sets-append, sets-min, rest-part, part-sets}
@@ -50,12 +51,12 @@ laid-left {bs} {o} {ys} {at} {from} {r} e p =
 
 -- ---- a number
 
-pub laid-digit : (n : ℕ) (o₀ o : List ℕ) → n < 10 → o ≡ set o₀ 0 (48 + n) → Laid (digitsOf n) o₀ 0 1 o
+pub laid-digit : (n : ℕ) (o₀ o : List ℕ) → n < 10 → o ≡ set o₀ 0 (digit0 + n) → Laid (digitsOf n) o₀ 0 1 o
 laid-digit n o₀ o h e = record { end = rw (digits-small n h); laid = e ∙ rw (digits-small n h) }
 
 pub laid-digits : (n : ℕ) (o₀ o₁ o : List ℕ) (mid : ℕ)
     → 10 ≤ n
     → Laid (digitsOf (n / 10)) o₀ 0 mid o₁
-    → o ≡ set o₁ mid (48 + n % 10)
+    → o ≡ set o₁ mid (digit0 + n % 10)
     → Laid (digitsOf n) o₀ 0 (mid + 1) o
-laid-digits n o₀ o₁ o mid h p e = rw (digits-more n h, e) (laid-more p (laid-byte o₁ mid (48 + n % 10)))
+laid-digits n o₀ o₁ o mid h p e = rw (digits-more n h, e) (laid-more p (laid-byte o₁ mid (digit0 + n % 10)))

@@ -6,6 +6,7 @@ use Prim.Native.Nat.{ℕ, _+_, _-_, _≤_}
 use native.Mathlib.Omega.{arith}
 use borrow.Author.Tests.{eq-eqb, ne-eqb}
 use lib.ListN.{length, take, drop, length-drop}
+use Rattle.answers.specs.Refusals.{brokenLine}
 use Rattle.ground.proofs.Booleans.{by-equal}
 use Rattle.ground.proofs.Stores.{rest-part}
 use Rattle.text.specs.declared.LineRead.{LineRead}
@@ -25,7 +26,7 @@ module _ (l : Line) (t : List ℕ) where
   unfolding readLine
   line-tagged e = rw (eq-eqb (agreed (l .tag) t) (length (l .tag)) e, readLine)
 
-  pub line-untagged : agreed (l .tag) t ≢ length (l .tag) → readLine l t ≡ refused 2 (agreed (l .tag) t)
+  pub line-untagged : agreed (l .tag) t ≢ length (l .tag) → readLine l t ≡ refused brokenLine (agreed (l .tag) t)
   unfolding readLine
   line-untagged e = rw (ne-eqb (agreed (l .tag) t) (length (l .tag)) e, readLine)
 
@@ -69,9 +70,9 @@ pub record Tagged (tag : List ℕ) (table : List (List ℕ)) (t : List ℕ) : Ty
 pub reads-untagged : (tag : List ℕ) (table : List (List ℕ)) (t o : List ℕ) (same : ℕ)
     → same ≡ agreed tag t
     → same ≢ length tag
-    → Reads (readLine (lineOf tag table) t) o (Fault 2 same) o
+    → Reads (readLine (lineOf tag table) t) o (Fault brokenLine same) o
 reads-untagged tag table t o same q n =
-    let e : readLine (lineOf tag table) t ≡ refused 2 same =
+    let e : readLine (lineOf tag table) t ≡ refused brokenLine same =
     line-untagged (lineOf tag table) t (λ (d : agreed tag t ≡ length tag). n (q ∙ d)) ∙ rw q in
     record { answer = rw e; stored = rw e }
 

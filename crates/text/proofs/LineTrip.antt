@@ -15,6 +15,7 @@ use Rattle.text.specs.Limit.{Limit, holds, allHold}
 use Rattle.text.specs.Line.{Line, Reading, ender, readEntry, readNumbers, readLine, entryText}
 use Rattle.text.specs.Line.{numbersText, lineText}
 use Rattle.text.proofs.Field.{agreed-whole, agreed-self}
+use Rattle.answers.specs.Refusals.{brokenLine}
 use Rattle.ground.proofs.Booleans.{both-hold, false-true, by-equal}
 use Rattle.text.proofs.Line.{line-tagged, line-untagged}
 use Rattle.text.proofs.Followed.{shift-taken}
@@ -98,5 +99,5 @@ line-back l t k e =
     let q : Led (l .tag) t (length (l .tag)) = record { start = agreed-whole (l .tag) t a; count = refl } in
     rw r (record { led = rw (s .2) (led-more q (p .led)); held = p .held }))
     (λ d.
-    let f : Fault 2 (agreed (l .tag) t) ≡ Taken k = rw (line-untagged l t d) at e in
+    let f : Fault brokenLine (agreed (l .tag) t) ≡ Taken k = rw (line-untagged l t d) at e in
     false-true (cc))

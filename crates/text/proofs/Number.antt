@@ -6,15 +6,16 @@ use native.Mathlib.Omega.{arith}
 use borrow.Author.Tests.{lt-ltb, le-ltb}
 use lib.ListN.{length, length-append}
 use Rattle.ground.proofs.Booleans.{by-less}
+use Rattle.text.specs.Quoted.{digit0}
 use Rattle.text.specs.Number.{elevenDigits, digitsIn, digitsOf}
 
 -- ---- one digit, or those of the quotient by ten and the last
 
-in-small : (k n : ℕ) → n < 10 → digitsIn (suc k) n ≡ (48 + n) ∷ []
+in-small : (k n : ℕ) → n < 10 → digitsIn (suc k) n ≡ (digit0 + n) ∷ []
 unfolding digitsIn
 in-small k n h = rw (lt-ltb n 10 h, digitsIn)
 
-in-more : (k n : ℕ) → 10 ≤ n → digitsIn (suc k) n ≡ digitsIn k (n / 10) ++ ((48 + n % 10) ∷ [])
+in-more : (k n : ℕ) → 10 ≤ n → digitsIn (suc k) n ≡ digitsIn k (n / 10) ++ ((digit0 + n % 10) ∷ [])
 unfolding digitsIn
 in-more k n h = rw (le-ltb n 10 h, digitsIn)
 
@@ -26,15 +27,15 @@ in-enough (suc k) (suc j) n h l =
     by-less n 10 (λ m. in-small k n m ∙ sym (in-small j n m))
     (λ m. in-more k n m ∙ rw (in-enough k j (n / 10) (omega arith) (omega arith)) (sym (in-more j n m)))
 
-pub digits-small : (n : ℕ) → n < 10 → digitsOf n ≡ (48 + n) ∷ []
+pub digits-small : (n : ℕ) → n < 10 → digitsOf n ≡ (digit0 + n) ∷ []
 unfolding digitsOf
 digits-small n h = in-small n n h
 
-pub digits-more : (n : ℕ) → 10 ≤ n → digitsOf n ≡ digitsOf (n / 10) ++ ((48 + n % 10) ∷ [])
+pub digits-more : (n : ℕ) → 10 ≤ n → digitsOf n ≡ digitsOf (n / 10) ++ ((digit0 + n % 10) ∷ [])
 unfolding digitsOf
 digits-more n h = in-more n n h ∙ rw (in-enough n (suc (n / 10)) (n / 10) (omega arith) (omega arith))
 
-pub digits-push : (n d : ℕ) → 0 < n → d < 10 → digitsOf (10 * n + d) ≡ digitsOf n ++ ((48 + d) ∷ [])
+pub digits-push : (n d : ℕ) → 0 < n → d < 10 → digitsOf (10 * n + d) ≡ digitsOf n ++ ((digit0 + d) ∷ [])
 digits-push n d h l =
     let q : (10 * n + d) / 10 ≡ n = omega arith in
     let r : (10 * n + d) % 10 ≡ d = omega arith in
@@ -55,7 +56,7 @@ pub length-digits-small : (n : ℕ) → n < 10 → length (digitsOf n) ≡ 1
 length-digits-small n h = ap length (digits-small n h)
 
 pub length-digits-more : (n : ℕ) → 10 ≤ n → length (digitsOf n) ≡ length (digitsOf (n / 10)) + 1
-length-digits-more n h = ap length (digits-more n h) ∙ length-append (digitsOf (n / 10)) ((48 + n % 10) ∷ [])
+length-digits-more n h = ap length (digits-more n h) ∙ length-append (digitsOf (n / 10)) ((digit0 + n % 10) ∷ [])
 
 -- a larger number has no fewer digits
 pub length-digits-mono : (m n : ℕ) → m ≤ n → length (digitsOf m) ≤ length (digitsOf n)

@@ -11,18 +11,19 @@ use lib.Dec.{leb}
 use lib.ListN.{length, drop, getD}
 use Rattle.ground.proofs.Booleans.{both-hold, false-true, by-test, by-equal}
 use Rattle.text.specs.declared.NumberRead.the-variants.{Value, Malformed}
+use Rattle.text.specs.Quoted.{digit0, digit9}
 use Rattle.text.specs.Number.{isDigit, nineDigits, restOf, zeroAlone, numberOf}
 
 -- ---- digits
 
-pub digit-is : (b : ℕ) → 48 ≤ b → b ≤ 57 → isDigit b ≡ true
-digit-is b h l = rw (le-leb 48 b h, le-leb b 57 l)
+pub digit-is : (b : ℕ) → digit0 ≤ b → b ≤ digit9 → isDigit b ≡ true
+digit-is b h l = rw (le-leb digit0 b h, le-leb b digit9 l)
 
-pub digit-low : (b : ℕ) → isDigit b ≡ true → 48 ≤ b
-digit-low b e = leb-true 48 b (both-hold _ _ e .0)
+pub digit-low : (b : ℕ) → isDigit b ≡ true → digit0 ≤ b
+digit-low b e = leb-true digit0 b (both-hold _ _ e .0)
 
-pub digit-high : (b : ℕ) → isDigit b ≡ true → b ≤ 57
-digit-high b e = leb-true b 57 (both-hold (leb 48 b) _ e .1)
+pub digit-high : (b : ℕ) → isDigit b ≡ true → b ≤ digit9
+digit-high b e = leb-true b digit9 (both-hold (leb digit0 b) _ e .1)
 
 -- ---- a field, read digit by digit
 
@@ -31,10 +32,10 @@ unfolding numberOf
 number-empty [] h = refl
 number-empty (b ∷ s) h = absurd (omega arith)
 
-pub number-zero : (s : List ℕ) → 0 < length s → getD s 0 0 ≡ 48 → numberOf s ≡ zeroAlone (drop 1 s)
+pub number-zero : (s : List ℕ) → 0 < length s → getD s 0 0 ≡ digit0 → numberOf s ≡ zeroAlone (drop 1 s)
 unfolding numberOf
 number-zero [] h e = absurd (omega arith)
-number-zero (b ∷ s) h e = rw (digit-is b (omega arith) (omega arith), eq-eqb b 48 e, numberOf)
+number-zero (b ∷ s) h e = rw (digit-is b (omega arith) (omega arith), eq-eqb b digit0 e, numberOf)
 
 pub zero-alone : (s : List ℕ) → length s ≡ 1 → zeroAlone (drop 1 s) ≡ Value 0
 zero-alone [] h = absurd (omega arith)
@@ -47,11 +48,11 @@ zero-led (b ∷ []) h k = absurd (k refl)
 zero-led (b ∷ d ∷ s) h k = refl
 
 -- a field that starts with no `0` reads as what is left after no digits
-pub number-rest : (s : List ℕ) → 0 < length s → getD s 0 0 ≢ 48 → numberOf s ≡ restOf 0 0 s
+pub number-rest : (s : List ℕ) → 0 < length s → getD s 0 0 ≢ digit0 → numberOf s ≡ restOf 0 0 s
 unfolding numberOf restOf
 number-rest [] h k = absurd (omega arith)
 number-rest (b ∷ s) h k =
-    by-test (isDigit b) (λ e. rw (e, ne-eqb b 48 k, numberOf, restOf, zero-add)) (λ e. rw (e, numberOf, restOf))
+    by-test (isDigit b) (λ e. rw (e, ne-eqb b digit0 k, numberOf, restOf, zero-add)) (λ e. rw (e, numberOf, restOf))
 
 -- ---- the place of a fault is in the field, or at its end
 
@@ -60,7 +61,7 @@ unfolding restOf
 rest-place n i [] at v = false-true (cc)
 rest-place n i (b ∷ s) at v =
     by-test (isDigit b && leb n nineDigits)
-    (λ u. omega (arith, rest-place (10 * n + (b - 48)) (suc i) s at (rw (u, restOf) at v)))
+    (λ u. omega (arith, rest-place (10 * n + (b - digit0)) (suc i) s at (rw (u, restOf) at v)))
     (λ u.
     let w : Malformed i ≡ Malformed at = rw (u, restOf) at v in
     let z : i ≡ at = cc in
@@ -74,5 +75,5 @@ pub number-place : (f : List ℕ) (at : ℕ) → numberOf f ≡ Malformed at →
 unfolding numberOf
 number-place [] at v = let z : 0 ≡ at = cc in omega arith
 number-place (b ∷ s) at v =
-    by-equal b 48 (λ e. zero-place s at (sym (number-zero (b ∷ s) (omega arith) e) ∙ v))
+    by-equal b digit0 (λ e. zero-place s at (sym (number-zero (b ∷ s) (omega arith) e) ∙ v))
     (λ e. omega (arith, rest-place 0 0 (b ∷ s) at (sym (number-rest (b ∷ s) (omega arith) e) ∙ v)))

@@ -10,7 +10,7 @@ use lib.ListN.{length}
 use Rattle.ground.proofs.Booleans.{both-hold, false-true, by-equal}
 use Rattle.text.specs.declared.NumberRead.{NumberRead}
 use Rattle.text.specs.declared.NumberRead.the-variants.{Value, Malformed}
-use Rattle.text.specs.Quoted.{tab, feed, dash}
+use Rattle.text.specs.Quoted.{tab, feed, dash, digit0}
 use Rattle.text.specs.Field.{fieldOf, begins}
 use Rattle.text.specs.Number.{isDigit, nineDigits, elevenDigits, restOf, zeroAlone, numberOf, digitsOf}
 use Rattle.text.proofs.Field.{field-more}
@@ -41,10 +41,10 @@ rest-back n i (b ∷ s) m h l e =
     let w = both-hold (isDigit b) (leb n nineDigits) (p .0) in
     let low = digit-low b (w .0) in
     let high = digit-high b (w .0) in
-    let d : 48 + (b - 48) ≡ b = omega arith in
-    let few : 10 * n + (b - 48) < elevenDigits = omega (arith, leb-true n nineDigits (w .1)) in
-    let ih = rest-back (10 * n + (b - 48)) (suc i) s m (omega arith) few (p .1) in
-    (rw (digits-push n (b - 48) h (omega arith), d, append-assoc) at (ih .0), ih .1)
+    let d : digit0 + (b - digit0) ≡ b = omega arith in
+    let few : 10 * n + (b - digit0) < elevenDigits = omega (arith, leb-true n nineDigits (w .1)) in
+    let ih = rest-back (10 * n + (b - digit0)) (suc i) s m (omega arith) few (p .1) in
+    (rw (digits-push n (b - digit0) h (omega arith), d, append-assoc) at (ih .0), ih .1)
 
 zero-back : (s : List ℕ) (n : ℕ) → zeroAlone s ≡ Value n → (s ≡ []) × (n ≡ 0)
 zero-back [] n e = (refl, cc)
@@ -57,14 +57,14 @@ read-back (b ∷ s) n e =
     let p = value-past (isDigit b) _ 0 e in
     let low = digit-low b (p .0) in
     let high = digit-high b (p .0) in
-    by-equal b 48
+    by-equal b digit0
     (λ k.
-    let z = zero-back s n (rw (eq-eqb b 48 k) at (p .1)) in
+    let z = zero-back s n (rw (eq-eqb b digit0 k) at (p .1)) in
     (rw (z .0, z .1, digits-small 0 (omega arith), k), omega (arith, z .1)))
     (λ k.
-    let d : 48 + (b - 48) ≡ b = omega arith in
-    let r = rest-back (b - 48) 1 s n (omega arith) (omega arith) (rw (ne-eqb b 48 k) at (p .1)) in
-    (rw (digits-small (b - 48) (omega arith), d) at (r .0), r .1))
+    let d : digit0 + (b - digit0) ≡ b = omega arith in
+    let r = rest-back (b - digit0) 1 s n (omega arith) (omega arith) (rw (ne-eqb b digit0 k) at (p .1)) in
+    (rw (digits-small (b - digit0) (omega arith), d) at (r .0), r .1))
 
 pub read-writes : (f : List ℕ) (n : ℕ) → numberOf f ≡ Value n → f ≡ digitsOf n
 read-writes f n e = read-back f n e .0
@@ -80,19 +80,19 @@ Forth n = (s : List ℕ) → 0 < n → n < elevenDigits → numberOf (digitsOf n
 forth-small : (n : ℕ) → n < 10 → Forth n
 unfolding numberOf restOf
 forth-small n m s p l =
-    let e : 48 + n - 48 ≡ n = omega arith in
-    let d = digit-is (48 + n) (omega arith) (omega arith) in
-    rw (digits-small n m, d, ne-eqb (48 + n) 48 (omega arith), numberOf, e)
+    let e : digit0 + n - digit0 ≡ n = omega arith in
+    let d = digit-is (digit0 + n) (omega arith) (omega arith) in
+    rw (digits-small n m, d, ne-eqb (digit0 + n) digit0 (omega arith), numberOf, e)
 
 forth-more : (n : ℕ) → 10 ≤ n → Forth (n / 10) → Forth n
 unfolding restOf
 forth-more n m ih s p l =
-    let e : 10 * (n / 10) + (48 + n % 10 - 48) ≡ n = omega arith in
+    let e : 10 * (n / 10) + (digit0 + n % 10 - digit0) ≡ n = omega arith in
     let j : suc (length (digitsOf (n / 10))) ≡ length (digitsOf n) = omega (arith, length-digits-more n m) in
-    let d = digit-is (48 + n % 10) (omega arith) (omega arith) in
+    let d = digit-is (digit0 + n % 10) (omega arith) (omega arith) in
     ap (λ (l : List ℕ). numberOf (l ++ s)) (digits-more n m)
-    ∙ ap numberOf (append-assoc (digitsOf (n / 10)) ((48 + n % 10) ∷ []) s)
-    ∙ ih ((48 + n % 10) ∷ s) (omega arith) (omega arith)
+    ∙ ap numberOf (append-assoc (digitsOf (n / 10)) ((digit0 + n % 10) ∷ []) s)
+    ∙ ih ((digit0 + n % 10) ∷ s) (omega arith) (omega arith)
     ∙ rw (d, le-leb (n / 10) nineDigits (omega arith), restOf, e, j)
 
 pub written-reads : (n : ℕ) → n < elevenDigits → numberOf (digitsOf n) ≡ Value n
@@ -104,18 +104,19 @@ written-reads (suc n) h =
 
 -- ---- digits hold no tab, no line feed and no dash
 
-field-digit : (d : ℕ) (r : List ℕ) → 48 ≤ d → fieldOf (d ∷ r) ≡ d ∷ fieldOf r
+field-digit : (d : ℕ) (r : List ℕ) → digit0 ≤ d → fieldOf (d ∷ r) ≡ d ∷ fieldOf r
 field-digit d r h = field-more d r (rw (ne-eqb d tab (omega arith), ne-eqb d feed (omega arith)))
 
 pub field-digits : (n : ℕ) (r : List ℕ) → fieldOf (digitsOf n ++ r) ≡ digitsOf n ++ fieldOf r
 field-digits =
     by-digits (λ n. (r : List ℕ) → fieldOf (digitsOf n ++ r) ≡ digitsOf n ++ fieldOf r)
-    (λ n m r. rw (digits-small n m) (field-digit (48 + n) r (omega arith)))
+    (λ n m r. rw (digits-small n m) (field-digit (digit0 + n) r (omega arith)))
     (λ n m ih r.
-    rw (digits-more n m) (simp append-assoc (ih ((48 + n % 10) ∷ r) ∙ rw (field-digit (48 + n % 10) r (omega arith)))))
+    let d : ℕ = digit0 + n % 10 in
+    rw (digits-more n m) (simp append-assoc (ih (d ∷ r) ∙ rw (field-digit d r (omega arith)))))
 
 pub no-dash : (n : ℕ) (r : List ℕ) → begins dash (digitsOf n ++ r) ≡ false
 no-dash =
     by-digits (λ n. (r : List ℕ) → begins dash (digitsOf n ++ r) ≡ false)
-    (λ n m r. rw (digits-small n m) (ne-eqb (48 + n) dash (omega arith)))
-    (λ n m ih r. rw (digits-more n m, append-assoc) (ih ((48 + n % 10) ∷ r)))
+    (λ n m r. rw (digits-small n m) (ne-eqb (digit0 + n) dash (omega arith)))
+    (λ n m ih r. rw (digits-more n m, append-assoc) (ih ((digit0 + n % 10) ∷ r)))
