@@ -1,6 +1,7 @@
 -- The laws of sheets and engine rows, a file for each concept.
 pub mod Table
 pub mod Lines
+pub mod WellMade  -- both forms are well made
 pub mod Fits
 pub mod Whole
 pub mod Held
