@@ -5,6 +5,8 @@ pub mod WellMade  -- both forms are well made
 pub mod Fits
 pub mod Whole
 pub mod Held
+pub mod Weights  -- FIT rows and the weights on the fitting lines
+pub mod WeightLimits  -- with the same limits
 pub mod Written
 pub mod Most
 pub mod Words

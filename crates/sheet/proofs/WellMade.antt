@@ -5,7 +5,8 @@ use Rattle.text.specs.Number.{digitsIn, digitsOf}
 use Rattle.text.proofs.EntryTrip.{narrow}
 use Rattle.form.specs.Parts.{kindOf}
 use Rattle.form.proofs.Letters.{lineMade, kindsMade}
-use Rattle.form.proofs.Most.{numbersMost, kindsMost, partsMost}
+use Rattle.text.proofs.Most.{numbersMost}
+use Rattle.form.proofs.Most.{kindsMost, partsMost}
 use Rattle.form.proofs.Made.{disjoint, apart, partsMade, wellMade}
 use Rattle.sheet.specs.SheetText.{sheetForm}
 use Rattle.sheet.specs.EngineText.{engineForm}

@@ -14,9 +14,13 @@ unfoldable pub limitsOn : List Line → List Limit
 limitsOn [] = []
 limitsOn (l ∷ ls) = l .limits ++ limitsOn ls
 
+-- the limits of the weight on a fitting line: a FIT line's, or none
+abbrev pub weightLimit : Limit
+weightLimit = rangingOrNone 1 fittingHigh
+
 -- the limits of a sheet's numbers: those of its lines, and a weight or none for each fitting
 unfoldable pub sheetLimits : List Limit
-sheetLimits = limitsOn lines ++ replicate fittings (rangingOrNone 1 fittingHigh)
+sheetLimits = limitsOn lines ++ replicate fittings weightLimit
 
 -- the same as the code's tables have them, three numbers a limit
 unfoldable pub limitRows : List (List ℕ)

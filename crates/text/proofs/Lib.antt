@@ -14,4 +14,7 @@ pub mod Writing
 pub mod Led
 pub mod EntryTrip
 pub mod LineTrip
+pub mod Two  -- a line of two numbers
+pub mod Most  -- the greatest length of a line
+pub mod Faults  -- a line is refused with 2 or 3 alone
 pub mod Examples
