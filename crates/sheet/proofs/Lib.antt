@@ -7,6 +7,9 @@ pub mod Whole
 pub mod Held
 pub mod Weights  -- FIT rows and the weights on the fitting lines
 pub mod WeightLimits  -- with the same limits
+pub mod SheetRows  -- a sheet's numbers and the rows of its text
+pub mod SheetText  -- the single text of a sheet, both ways; 2 or 3 alone
+pub mod EngineText  -- the single text of engine rows, both ways; their columns; 2 or 3 alone
 pub mod Written
 pub mod Most
 pub mod Words

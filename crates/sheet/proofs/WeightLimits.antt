@@ -11,14 +11,14 @@ use Rattle.text.specs.Limit.{Limit, isNone, allHold, holds}
 use Rattle.ground.proofs.Booleans.{both-hold}
 use Rattle.text.proofs.Limit.{within-high}
 use Rattle.text.proofs.EntryTrip.{holds-within}
-use Rattle.text.proofs.Two.{numbers-two}
-use Rattle.form.specs.Parts.{Rows, kindOf, nextAfter}
+use Rattle.form.proofs.Pairs.{pair-ok}
+use Rattle.form.specs.Parts.{Rows, nextAfter}
 use Rattle.form.specs.Writing.{rowOk, rowsOk}
-use Rattle.sheet.specs.Lines.{fittings, fittingHigh}
+use Rattle.sheet.specs.Lines.{fittings, fittingHigh, fitLine}
 use Rattle.sheet.specs.Sheet.{weightLimit}
 use Rattle.sheet.specs.SheetText.{fitPart, weightsFrom, fitRows}
 use Rattle.sheet.proofs.Held.{hold-join}
-use Rattle.sheet.proofs.Weights.{fitRow, row-none, row-some, Fitted, fitted}
+use Rattle.sheet.proofs.Weights.{row-none, row-some, Fitted, fitted}
 
 -- a weight that may stand is none or at most the highest
 pub weight-most : (last w : ℕ) → holds weightLimit last w ≡ true → w ≤ fittingHigh
@@ -27,11 +27,6 @@ weight-most last w h = go (isNone weightLimit w) refl
     go : (u : Bool) → isNone weightLimit w ≡ u → w ≤ fittingHigh
     go true e = let z = eqb-true w 0 e in omega arith
     go false e = within-high weightLimit last w (holds-within weightLimit last w h e)
-
-fit-ok : (next n w : ℕ) → next ≤ n → 1 ≤ n → n ≤ fittings → 1 ≤ w → w ≤ fittingHigh
-    → rowOk fitPart next (fitRow n w) ≡ true
-unfolding kindOf
-fit-ok next n w a b c d e = numbers-two (max 1 next) fittings 1 fittingHigh n w (omega arith) c d e
 
 -- the weights on the lines from n on
 pub fits-ok : (ws : List ℕ) (next n last : ℕ) → next ≤ n → 1 ≤ n → n + length ws ≡ suc fittings
@@ -50,7 +45,9 @@ fits-ok (w ∷ ws) next n last a b c h =
     go true e k skip take = rw (row-none n w ws e) skip
     go false e k skip take =
         let z = eqb-false w 0 e in
-        rw (row-some n w ws e, fit-ok next n w a b (omega arith) (omega arith) (weight-most last w k)) take
+        let high = weight-most last w k in
+        let ok = pair-ok (fitLine 1 .tag) 1 fittings 1 fittingHigh 0 fittings next n w a b (omega arith) (omega arith) high in
+        rw (row-some n w ws e, ok) take
 
 zeros-held : (j m : ℕ) → allHold (replicate j weightLimit) m (replicate j 0) ≡ true
 unfolding allHold
@@ -64,22 +61,23 @@ weights-held [] next n m a b h = zeros-held (suc fittings - n) m
 weights-held (r ∷ rs) next n m a b h =
     let hs = both-hold (rowOk fitPart next r) (rowsOk fitPart (nextAfter r) rs) h in
     let f = fitted next n r a (hs .0) in
-    let last : nextAfter r ≤ suc fittings = rw (f .is) (omega (arith, f .at-high)) in
+    let last : nextAfter r ≤ suc fittings = rw (f .is) (omega (arith, f .n-high)) in
     go f (λ (i : ℕ). weights-held rs (nextAfter r) (nextAfter r) i (omega arith) last (hs .1))
   where
     go : Fitted n r
-        → ((i : ℕ) → allHold (replicate (suc fittings - nextAfter r) weightLimit) i (weightsFrom (nextAfter r) rs) ≡ true)
+        → ((i : ℕ)
+        → allHold (replicate (suc fittings - nextAfter r) weightLimit) i (weightsFrom (nextAfter r) rs) ≡ true)
         → allHold (replicate (suc fittings - n) weightLimit) m (weightsFrom n (r ∷ rs)) ≡ true
     go f ih =
-        let ws : List ℕ = weightsFrom (suc (f .at)) rs in
-        let gap : ℕ = f .at - n in
-        let left : ℕ = suc (suc fittings - suc (f .at)) in
-        let k : suc fittings - n ≡ gap + left = omega (arith, f .at-low, f .at-high) in
-        let none = ne-eqb (f .weight) 0 (omega (arith, f .weight-low)) in
-        let low = le-leb 1 (f .weight) (f .weight-low) in
-        let high = le-leb (f .weight) fittingHigh (f .weight-high) in
-        let rest : (i : ℕ) → allHold (replicate left weightLimit) i (f .weight ∷ ws) ≡ true =
-        λ (i : ℕ). rw (none, low, high) (rw (f .is) at (ih (f .weight))) in
+        let ws : List ℕ = weightsFrom (suc (f .n)) rs in
+        let gap : ℕ = f .n - n in
+        let left : ℕ = suc (suc fittings - suc (f .n)) in
+        let k : suc fittings - n ≡ gap + left = omega (arith, f .n-low, f .n-high) in
+        let none = ne-eqb (f .w) 0 (omega (arith, f .w-low)) in
+        let low = le-leb 1 (f .w) (f .w-low) in
+        let high = le-leb (f .w) fittingHigh (f .w-high) in
+        let rest : (i : ℕ) → allHold (replicate left weightLimit) i (f .w ∷ ws) ≡ true =
+        λ (i : ℕ). rw (none, low, high) (rw (f .is) at (ih (f .w))) in
         rw (f .is, k, ← replicate-append-replicate {A = Limit} gap left weightLimit)
-        (hold-join (replicate gap weightLimit) (replicate left weightLimit) m (replicate gap 0) (f .weight ∷ ws)
+        (hold-join (replicate gap weightLimit) (replicate left weightLimit) m (replicate gap 0) (f .w ∷ ws)
         (zeros-held gap m) rest)

@@ -9,15 +9,14 @@ use borrow.Author.Tests.{ne-eqb, eqb-true}
 use lib.Dec.{eqb}
 use lib.ListN.{length, replicate}
 use Rattle.ground.proofs.Booleans.{both-hold}
-use Rattle.text.proofs.Two.{two-numbers}
-use Rattle.form.specs.Parts.{Row, Rows, lineRow, letterOf, nextAfter}
+use Rattle.form.specs.Parts.{Row, Rows, nextAfter}
 use Rattle.form.specs.Writing.{rowOk, rowsOk}
-use Rattle.form.proofs.Held.{only-held}
+use Rattle.form.proofs.Pairs.{Pair, pairRow, pair}
 use Rattle.sheet.specs.Lines.{fittings, fittingHigh, fitLine}
 use Rattle.sheet.specs.SheetText.{fitPart, weightsFrom, fitRows}
 
 abbrev pub fitRow : ℕ → ℕ → Row
-fitRow n w = lineRow (letterOf (fitLine 1)) (n ∷ w ∷ [])
+fitRow n w = pairRow (fitLine 1 .tag) 1 fittings 1 fittingHigh n w
 
 -- ---- an empty line has no row, and a weight has one
 
@@ -62,32 +61,12 @@ weights-rows ws e = weights-from ws 1 1 (omega arith) (omega arith)
 
 -- ---- from rows to weights and back
 
--- a FIT row is a letter, a line number from n on and a weight
-pub record Fitted (n : ℕ) (r : Row) : Type 0 where
-  pub at : ℕ
-  pub weight : ℕ
-  pub is : r ≡ fitRow at weight
-  pub at-low : n ≤ at
-  pub at-high : at ≤ fittings
-  pub weight-low : 1 ≤ weight
-  pub weight-high : weight ≤ fittingHigh
+-- a FIT row has a line number from n on and a weight
+abbrev pub Fitted : ℕ → Row → Type 0
+Fitted n r = Pair (fitLine 1 .tag) 1 fittings 1 fittingHigh n r
 
 pub fitted : (next n : ℕ) (r : Row) → max 1 next ≡ n → rowOk fitPart next r ≡ true → Fitted n r
-fitted next n r m h =
-    let o = only-held fitPart (fitLine 1) next r refl h in
-    let t = two-numbers n fittings 1 fittingHigh (r .numbers) (rw m at (o .1)) in
-    record {
-      at = t .n;
-      weight = t .w;
-      is = same (r .letter) (r .numbers) (t .n ∷ t .w ∷ []) (o .0) (t .are);
-      at-low = t .n-low;
-      at-high = t .n-high;
-      weight-low = t .w-low;
-      weight-high = t .w-high;
-    }
-  where
-    same : (b : ℕ) (ns ms : List ℕ) → b ≡ letterOf (fitLine 1) → ns ≡ ms → lineRow b ns ≡ lineRow (letterOf (fitLine 1)) ms
-    same b ns ms e f = rw (e, f)
+fitted next n r m h = pair (fitLine 1 .tag) 1 fittings 1 fittingHigh 0 fittings next n r m h
 
 zeros-rows : (j n : ℕ) (ws : List ℕ) → fitRows n (replicate j 0 ++ ws) ≡ fitRows (n + j) ws
 zeros-rows zero n ws = rw (add-zero n)
@@ -95,7 +74,8 @@ zeros-rows (suc j) n ws =
     let e : n + suc j ≡ suc n + j = omega arith in
     rw e (row-none n 0 (replicate j 0 ++ ws) refl ∙ zeros-rows j (suc n) ws)
 
-rows-from : (rs : Rows) (next n : ℕ) → max 1 next ≡ n → rowsOk fitPart next rs ≡ true → fitRows n (weightsFrom n rs) ≡ rs
+rows-from : (rs : Rows) (next n : ℕ) → max 1 next ≡ n → rowsOk fitPart next rs ≡ true
+    → fitRows n (weightsFrom n rs) ≡ rs
 unfolding weightsFrom rowsOk fitRows
 rows-from [] next n m h =
     ap (fitRows n) (sym (append-nil (replicate (suc fittings - n) 0))) ∙ zeros-rows (suc fittings - n) n []
@@ -103,25 +83,26 @@ rows-from (r ∷ rs) next n m h =
     let hs = both-hold (rowOk fitPart next r) (rowsOk fitPart (nextAfter r) rs) h in
     go (fitted next n r m (hs .0)) (rows-from rs (nextAfter r) (nextAfter r) (omega arith) (hs .1))
   where
-    go : Fitted n r → fitRows (nextAfter r) (weightsFrom (nextAfter r) rs) ≡ rs → fitRows n (weightsFrom n (r ∷ rs)) ≡ r ∷ rs
+    go : Fitted n r → fitRows (nextAfter r) (weightsFrom (nextAfter r) rs) ≡ rs
+        → fitRows n (weightsFrom n (r ∷ rs)) ≡ r ∷ rs
     go f ih =
-        let ws : List ℕ = weightsFrom (suc (f .at)) rs in
-        let e : n + (f .at - n) ≡ f .at = omega (arith, f .at-low) in
+        let ws : List ℕ = weightsFrom (suc (f .n)) rs in
+        let e : n + (f .n - n) ≡ f .n = omega (arith, f .n-low) in
         let ih' = rw (f .is) at ih in
-        let some = row-some (f .at) (f .weight) ws (ne-eqb (f .weight) 0 (omega (arith, f .weight-low))) in
-        rw (f .is) (zeros-rows (f .at - n) n (f .weight ∷ ws) ∙ rw e (some ∙ rw ih'))
+        let some = row-some (f .n) (f .w) ws (ne-eqb (f .w) 0 (omega (arith, f .w-low))) in
+        rw (f .is) (zeros-rows (f .n - n) n (f .w ∷ ws) ∙ rw e (some ∙ rw ih'))
 
 -- FIT rows that may stand, as weights, are those rows
 pub rows-weights : (rs : Rows) → rowsOk fitPart 0 rs ≡ true → fitRows 1 (weightsFrom 1 rs) ≡ rs
 rows-weights rs h = rows-from rs 0 1 refl h
 
--- ---- weights within the limits, as rows
-
+-- no more rows than weights
 pub fits-few : (n : ℕ) (ws : List ℕ) → length (fitRows n ws) ≤ length ws
 unfolding fitRows
 fits-few n [] = omega arith
 fits-few n (w ∷ ws) = go (eqb w 0) refl (fits-few (suc n) ws)
   where
-    go : (u : Bool) → eqb w 0 ≡ u → length (fitRows (suc n) ws) ≤ length ws → length (fitRows n (w ∷ ws)) ≤ suc (length ws)
+    go : (u : Bool) → eqb w 0 ≡ u → length (fitRows (suc n) ws) ≤ length ws
+        → length (fitRows n (w ∷ ws)) ≤ suc (length ws)
     go true e ih = rw (row-none n w ws e) (omega arith)
     go false e ih = rw (row-some n w ws e) (omega arith)
