@@ -10,6 +10,8 @@ pub mod WeightLimits  -- with the same limits
 pub mod SheetRows  -- a sheet's numbers and the rows of its text
 pub mod SheetText  -- the single text of a sheet, both ways; 2 or 3 alone
 pub mod EngineText  -- the single text of engine rows, both ways; their columns; 2 or 3 alone
+pub mod Writing  -- a sheet's text, line by line
+pub mod Longest  -- 610 bytes, and the sheet that reaches them
 pub mod Written
 pub mod Most
 pub mod Words

@@ -31,8 +31,8 @@ pub record Written (t : List ℕ) (k : ℕ) (s : List ℕ) : Type 0 where
   pub within : sheetOk s ≡ true
   pub count : k ≡ length t
 
--- for every text that reads as a sheet, writing that sheet gives the same bytes; and the sheet is within the limits, so it
--- can be written
+-- for every text that reads as a sheet, writing that sheet gives the same bytes; and the sheet is within the limits,
+-- so it can be written
 pub reads-written : (t : List ℕ) (k : ℕ) (s : List ℕ) → readSheet t ≡ took k s → Written t k s
 unfolding readSheet sheetText
 reads-written t k s e = go (readForm sheetForm t) refl e
