@@ -68,7 +68,8 @@ rows-plain p (suc left) need next t = go (kindAt (p .kinds) t) (rows-plain p lef
         → Plain {A = Rows} (elim o [ none ↦ noMore need | some l ↦ chained (readRow (p .rising) next l t) rest t ])
     go none ih = none-plain need
     go (some l) ih =
-        chained-plain (readRow (p .rising) next l t) rest t (row-plain (p .rising) next l t) (λ (r : Row). ih (nextAfter r))
+        chained-plain (readRow (p .rising) next l t) rest t (row-plain (p .rising) next l t)
+        (λ (r : Row). ih (nextAfter r))
 
 parts-plain : (ps : List Part) (t : List ℕ) → Plain (readParts ps t)
 unfolding readParts

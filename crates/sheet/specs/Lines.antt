@@ -1,5 +1,5 @@
 -- 01, The sheet: the table of lines, with the limits of each number, in its order. There is no other table of limits: a text is read and written, and
--- a register judged, by this one. FIT and ENG lines rise: their first number starts at `next`, one above the last line's. Assumes nothing: these are definitions.
+-- a register judged, by this one. FIT and ENG lines rise: their first number starts at `next`, one above the last line's.
 use Prim.Native.Nat.{ℕ}
 use Prim.Native.String.{String}
 use mathlib.Core.List.{List, [], _∷_}

@@ -1,5 +1,5 @@
 -- What a sheet is: 69 numbers in the order of its text, the HULL number and then the 68 words that the register holds. The words of the lines HULL to
--- SEAT come first, then the weight on each fitting line 1..24, 0 for an empty line; tested persons 0 stands for `-`. Its one text. Assumes nothing: these are definitions.
+-- SEAT come first, then the weight on each fitting line 1..24, 0 for an empty line; tested persons 0 stands for `-`. Its one text.
 use Prim.Native.Nat.{ℕ, suc, _+_}
 use mathlib.Core.Bool.{Bool, true, false}
 use mathlib.Core.List.{List, [], _∷_, _++_, map}

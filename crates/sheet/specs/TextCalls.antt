@@ -34,7 +34,8 @@ writeAnswer s room =
     (Refused outsideLimits)
 
 abbrev pub writeInto : List ℕ → List ℕ → List ℕ
-writeInto s before = cond (sheetOk s && leb (length (sheetText s)) (length before)) (putFirst (sheetText s) before) before
+writeInto s before =
+    cond (sheetOk s && leb (length (sheetText s)) (length before)) (putFirst (sheetText s) before) before
 
 -- ---- read engine rows
 
