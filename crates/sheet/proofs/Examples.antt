@@ -1,19 +1,21 @@
--- Worked texts, computed: 01's own sheet, the places where a reader slips, and the engine rows of docs/ENGINES.md. Assumes nothing.
+-- Worked texts, computed: 01's own sheet, the places where a reader slips, and the engine rows of docs/ENGINES.md.
 use mathlib.Core.Path.{_≡_, refl}
 use mathlib.Core.List.{List, [], _∷_, _++_, map}
 use Prim.Native.Nat.{ℕ, suc}
 use Prim.Native.String.{String}
 use lib.ListN.{replicate}
-use Rattle.text.specs.declared.LineRead.the-variants.{Taken, Fault}
 use Rattle.text.specs.Quoted.{bytes}
 use Rattle.text.specs.Field.{fieldOf, agreed}
 use Rattle.text.specs.Number.{restOf, numberOf, digitsIn, digitsOf}
 use Rattle.text.specs.Line.{readEntry, readNumbers, readLine, numbersText}
-use Rattle.text.proofs.LineTrip.{got}
-use Rattle.sheet.specs.Sheet.{fitText, fitsText, sheetText, linesText, limitsOn}
-use Rattle.sheet.specs.Reading.{readLines, readFits, readEnd, readRest, readSheet}
-use Rattle.sheet.specs.Engines.{readRows, readEngines}
-use Rattle.sheet.specs.Calls.{columnsInto}
+use Rattle.form.specs.Parts.{kindOf, numbersOf}
+use Rattle.form.specs.Outcome.{Found, took, lost, mapped}
+use Rattle.form.specs.Reading.{readRows, readParts, readForm}
+use Rattle.form.specs.Writing.{rowsText, partsText}
+use Rattle.sheet.specs.SheetText.{sheetForm, weightsFrom, fitRows, fitsOf, numbersOn, rowsOn, readSheet, sheetText}
+use Rattle.sheet.specs.EngineText.{engineForm, engineRows, readEngines, enginesText}
+use Rattle.sheet.specs.TextCalls.{columnsInto}
+use Rattle.sheet.proofs.Writing.{fitsText}
 
 -- ---- a sheet with some of its lines given
 
@@ -49,15 +51,25 @@ numbers : List ℕ
 numbers =
     0 ∷ 4500 ∷ 4000 ∷ 1200 ∷ 500 ∷ 0 ∷ 1 ∷ (station ++ (station ++ (station ++ (station ++ (0 ∷ 0 ∷ 0 ∷ 200000 ∷ 0 ∷ 0 ∷ 1 ∷ 20000 ∷ 5 ∷ 3 ∷ 3334 ∷ replicate 23 0)))))
 
-sample-reads : readSheet sample ≡ got 237 numbers
-unfolding sample withRest sheet stations station numbers readSheet readLines readLine agreed readNumbers readEntry fieldOf numberOf restOf readRest readFits readEnd
+sample-reads : readSheet sample ≡ took 237 numbers
+unfolding sample withRest sheet stations station numbers readSheet sheetForm numbersOn numbersOf fitsOf weightsFrom
+    readForm readParts readRows kindOf readLine agreed readNumbers readEntry fieldOf numberOf restOf
 sample-reads = refl
 
 sample-written : sheetText numbers ≡ sample
-unfolding sample withRest sheet stations station numbers sheetText linesText limitsOn fitsText fitText numbersText digitsOf digitsIn
+unfolding sample withRest sheet stations station numbers sheetText sheetForm rowsOn fitRows
+    partsText rowsText kindOf numbersText digitsOf digitsIn
 sample-written = refl
 
 -- ---- where a reader slips: each text, and how its reading must end
+
+-- how a reading ended, whatever it found
+ended : {A : Type 0} → Found A → Found ℕ
+ended (took k a) = took k 0
+ended (lost number at) = lost number at
+
+taken : ℕ → Found ℕ
+taken k = took k 0
 
 allFits : List ℕ
 allFits = fitsText 1 (replicate 24 5)
@@ -84,18 +96,20 @@ texts =
     ∷ []
 
 texts-right :
-    map (λ (t : List ℕ). readSheet t .ended) texts
-    ≡ Fault 2 0 ∷ Fault 2 233 ∷ Fault 2 236 ∷ Fault 2 237
-    ∷ Fault 3 5 ∷ Taken 227
-    ∷ Fault 3 12
-    ∷ Fault 3 17 ∷ Fault 2 21 ∷ Fault 2 16
-    ∷ Fault 3 220 ∷ Taken 226 ∷ Fault 2 218
-    ∷ Fault 3 207 ∷ Fault 3 207 ∷ Fault 2 217
-    ∷ Taken 226 ∷ Fault 3 226 ∷ Fault 3 228 ∷ Fault 3 234 ∷ Fault 3 243 ∷ Fault 3 226
-    ∷ Taken 433 ∷ Fault 2 429 ∷ Fault 2 224
-    ∷ Fault 2 6 ∷ Fault 2 0
+    map (λ (t : List ℕ). ended (readSheet t)) texts
+    ≡ lost 2 0 ∷ lost 2 233 ∷ lost 2 236 ∷ lost 2 237
+    ∷ lost 3 5 ∷ taken 227
+    ∷ lost 3 12
+    ∷ lost 3 17 ∷ lost 2 21 ∷ lost 2 16
+    ∷ lost 3 220 ∷ taken 226 ∷ lost 2 218
+    ∷ lost 3 207 ∷ lost 3 207 ∷ lost 2 217
+    ∷ taken 226 ∷ lost 3 226 ∷ lost 3 228 ∷ lost 3 234 ∷ lost 3 243 ∷ lost 3 226
+    ∷ taken 433 ∷ lost 2 429 ∷ lost 2 224
+    ∷ lost 2 6 ∷ lost 2 0
     ∷ []
-unfolding texts allFits withRest sheet stations readSheet readLines readLine agreed readNumbers readEntry fieldOf numberOf restOf readRest readFits readEnd fitsText fitText numbersText digitsOf digitsIn
+unfolding ended taken texts allFits withRest sheet stations readSheet sheetForm
+    readForm readParts readRows kindOf readLine agreed readNumbers readEntry fieldOf numberOf restOf
+    fitRows rowsText numbersText digitsOf digitsIn
 texts-right = refl
 
 -- ---- engine rows
@@ -115,9 +129,10 @@ engineTexts =
     ∷ []
 
 engines-right :
-    map (λ (t : List ℕ). readEngines t .ended) engineTexts
-    ≡ Fault 2 0 ∷ Taken 8 ∷ Taken 19 ∷ Fault 2 7 ∷ Fault 3 4 ∷ Fault 3 12 ∷ Fault 3 4 ∷ Fault 3 6 ∷ Fault 2 10 ∷ Taken 351 ∷ Fault 2 351 ∷ Fault 2 1 ∷ Fault 2 0 ∷ []
-unfolding engineTexts rows readEngines readRows readLine agreed readNumbers readEntry fieldOf numberOf restOf digitsOf digitsIn
+    map (λ (t : List ℕ). ended (readEngines t)) engineTexts
+    ≡ lost 2 0 ∷ taken 8 ∷ taken 19 ∷ lost 2 7 ∷ lost 3 4 ∷ lost 3 12 ∷ lost 3 4 ∷ lost 3 6 ∷ lost 2 10 ∷ taken 351 ∷ lost 2 351 ∷ lost 2 1 ∷ lost 2 0 ∷ []
+unfolding ended taken engineTexts rows readEngines engineForm digitsOf digitsIn
+    readForm readParts readRows kindOf readLine agreed readNumbers readEntry fieldOf numberOf restOf
 engines-right = refl
 
 -- the totals of Table 4-2, as examples/engines.txt has them
@@ -125,13 +140,28 @@ table : List ℕ
 table = bytes "ENG\t1500\t15000\nENG\t2900\t20000\nENG\t5100\t43000\nENG\t8100\t84000\nENG\t17100\t106000\nENG\t26000\t159000\nENG\t48400\t208000\nENG\t70700\t285000\nENG\t78200\t294000\nENG\t108000\t328000\nENG\t145300\t346000\nENG\t156500\t391000\nENG\t200000\t415000\n"
 
 table-reads :
-    readEngines table
-    ≡ got 217
+    mapped numbersOf (readEngines table)
+    ≡ took 217
     (1500 ∷ 15000 ∷ 2900 ∷ 20000 ∷ 5100 ∷ 43000 ∷ 8100 ∷ 84000 ∷ 17100 ∷ 106000 ∷ 26000 ∷ 159000 ∷ 48400 ∷ 208000 ∷ 70700 ∷ 285000 ∷ 78200 ∷ 294000 ∷ 108000 ∷ 328000 ∷ 145300 ∷ 346000 ∷ 156500 ∷ 391000 ∷ 200000 ∷ 415000 ∷ [])
-unfolding table readEngines readRows readLine agreed readNumbers readEntry fieldOf numberOf restOf
+unfolding table readEngines engineForm numbersOf
+    readForm readParts readRows kindOf readLine agreed readNumbers readEntry fieldOf numberOf restOf
 table-reads = refl
+
+-- and they are written so
+powers : List ℕ
+powers =
+    1500 ∷ 2900 ∷ 5100 ∷ 8100 ∷ 17100 ∷ 26000 ∷ 48400 ∷ 70700 ∷ 78200 ∷ 108000 ∷ 145300 ∷ 156500 ∷ 200000 ∷ []
+
+weights : List ℕ
+weights =
+    15000 ∷ 20000 ∷ 43000 ∷ 84000 ∷ 106000 ∷ 159000 ∷ 208000 ∷ 285000 ∷ 294000 ∷ 328000 ∷ 346000 ∷ 391000 ∷ 415000 ∷ []
+
+table-written : enginesText powers weights ≡ table
+unfolding powers weights table enginesText engineForm engineRows partsText rowsText kindOf numbersText digitsOf digitsIn
+table-written = refl
 
 -- the columns of two rows at the start of longer slices
 columns-right : columnsInto (readEngines (bytes "ENG\t1\t5\nENG\t2\t6\n")) (7 ∷ 7 ∷ 7 ∷ []) (8 ∷ 8 ∷ 8 ∷ []) ≡ (1 ∷ 2 ∷ 7 ∷ [], 5 ∷ 6 ∷ 8 ∷ [])
-unfolding readEngines readRows readLine agreed readNumbers readEntry fieldOf numberOf restOf
+unfolding readEngines engineForm
+    readForm readParts readRows kindOf readLine agreed readNumbers readEntry fieldOf numberOf restOf
 columns-right = refl
