@@ -1,5 +1,6 @@
--- 01's table of limits once more, written apart from `lines`: of each number of a sheet its place and the two ends of its limits. Computed of each: both ends are taken and
--- what is one beside is refused with 3, in a text and among the numbers.
+-- 01's table of limits once more, written apart from `lines`: of each number of a sheet its place and the two ends of
+-- its limits. Computed of each: both ends are taken and what is one beside is refused with 3, in a text and among the
+-- numbers.
 use mathlib.Core.Path.{_≡_, refl}
 use mathlib.Core.Bool.{Bool, true, false, not, _&&_, _||_, cond}
 use mathlib.Core.List.{List, [], _∷_, _++_, map}
@@ -15,7 +16,7 @@ use Rattle.text.specs.Line.{readEntry, readNumbers, readLine}
 use Rattle.answers.specs.declared.Answer.{Answer}
 use Rattle.answers.specs.declared.Answer.the-variants.{Refused, Done, Count, Plate}
 use Rattle.sheet.specs.Sheet.{limitsOn, sheetLimits, sheetOk, wordsOk}
-use Rattle.form.specs.Parts.{kindOf, numbersOf}
+use Rattle.form.specs.Parts.{kindOf}
 use Rattle.form.specs.Reading.{readRows, readParts, readForm}
 use Rattle.sheet.specs.SheetText.{sheetForm, readSheet}
 use Rattle.sheet.specs.TextCalls.{readAnswer}
@@ -93,7 +94,8 @@ is-outside Done = false
 is-outside (Count n) = false
 is-outside (Plate a b) = false
 
--- both ends: all numbers low; all high; and high by turns, so that a number held to the one before it would show. The length is high but for the first
+-- both ends: all numbers low; all high; and high by turns, so that a number held to the one before it would show. The
+-- length is high but for the first
 lows : List ℕ
 lows = map (λ (r : Row). r .low) rows
 

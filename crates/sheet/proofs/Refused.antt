@@ -18,7 +18,8 @@ use Rattle.sheet.specs.EngineText.{readEngines, powersOf, weightsOf}
 use Rattle.sheet.specs.TextCalls.{readAnswer, readInto, writeAnswer, writeInto}
 use Rattle.sheet.specs.TextCalls.{rowsFit, enginesAnswer, columnsInto}
 
-pub read-refused : (t before : List ℕ) → isRefusal (readAnswer (readSheet t)) ≡ true → readInto (readSheet t) before ≡ before
+pub read-refused : (t before : List ℕ) → isRefusal (readAnswer (readSheet t)) ≡ true
+    → readInto (readSheet t) before ≡ before
 read-refused t before = go (readSheet t)
   where
     go : (q : Found (List ℕ)) → isRefusal (readAnswer q) ≡ true → readInto q before ≡ before
@@ -40,7 +41,8 @@ pub engines-refused : (t powers weights : List ℕ)
     → columnsInto (readEngines t) powers weights ≡ (powers, weights)
 engines-refused t powers weights = go (readEngines t)
   where
-    fits : (rows : Rows) (x : List ℕ × List ℕ) (b : Bool) → isRefusal (cond b (Count (length rows)) (Refused noRoom)) ≡ true
+    fits : (rows : Rows) (x : List ℕ × List ℕ) (b : Bool)
+        → isRefusal (cond b (Count (length rows)) (Refused noRoom)) ≡ true
         → cond b x (powers, weights) ≡ (powers, weights)
     fits rows x true e = false-true e
     fits rows x false e = refl

@@ -15,7 +15,7 @@ use Rattle.form.specs.Writing.{partOk, partsOk, formOk}
 use Rattle.form.proofs.Held.{part-held, held-part}
 use Rattle.form.proofs.Single.{single, single-ok}
 use Rattle.sheet.specs.Lines.{lines, fittings, endLine}
-use Rattle.sheet.specs.Sheet.{limitsOn, weightLimit, sheetLimits, sheetOk}
+use Rattle.sheet.specs.Sheet.{limitsOn, fitLimit, sheetLimits, sheetOk}
 use Rattle.sheet.specs.SheetText.{fitPart, eachOnce, sheetForm, fitRows, fitsOf}
 use Rattle.sheet.specs.SheetText.{numbersOn, sheetOf, rowsOn, rowsOf}
 use Rattle.sheet.proofs.Held.{opens, linesOpen, hold-free, hold-join, lines-split}
@@ -26,8 +26,8 @@ use Rattle.sheet.proofs.WeightLimits.{fits-ok, weights-held}
 abbrev pub lastParts : List Part
 lastParts = fitPart ∷ oneLine endLine ∷ []
 
-abbrev pub weightLimits : List Limit
-weightLimits = replicate fittings weightLimit
+abbrev pub fitLimits : List Limit
+fitLimits = replicate fittings fitLimit
 
 pub lines-open : linesOpen lines ≡ true
 unfolding linesOpen opens
@@ -48,7 +48,7 @@ numbers-on (l ∷ ls) s h =
 -- a sheet within the limits, as rows, is that sheet
 pub sheet-rows : (s : List ℕ) → sheetOk s ≡ true → sheetOf (rowsOf s) ≡ s
 unfolding sheetLimits
-sheet-rows s h = numbers-on lines s (hold-length sheetLimits 0 s h ∙ length-append (limitsOn lines) weightLimits)
+sheet-rows s h = numbers-on lines s (hold-length sheetLimits 0 s h ∙ length-append (limitsOn lines) fitLimits)
 
 rows-last : (v : List Rows) → partsOk lastParts v ≡ true → rowsOn [] (numbersOn [] v) ≡ v
 unfolding numbersOn rowsOn fitsOf partsOk allHold
@@ -88,16 +88,16 @@ rows-sheet v h = rows-on lines v h
 -- ---- the same limits
 
 ok-on : (ls : List Line) (last : ℕ) (s : List ℕ) → linesOpen ls ≡ true
-    → allHold (limitsOn ls ++ weightLimits) last s ≡ true
+    → allHold (limitsOn ls ++ fitLimits) last s ≡ true
     → partsOk (eachOnce ls lastParts) (rowsOn ls s) ≡ true
 unfolding partsOk rowsOn limitsOn linesOpen allHold
 ok-on [] last s o h =
-    let n : length s ≡ fittings = hold-length weightLimits last s h in
+    let n : length s ≡ fittings = hold-length fitLimits last s h in
     let ok = fits-ok s 0 1 last (omega arith) (omega arith) (omega arith) (rw n h) in
     let f = held-part fitPart (fitRows 1 s) (omega arith) (omega (arith, fits-few 1 s)) ok in
     rw (f, single-ok endLine [] refl)
 ok-on (l ∷ ls) last s o h =
-    let p = lines-split l ls weightLimits last s o h in
+    let p = lines-split l ls fitLimits last s o h in
     rw (single-ok l (take (length (l .limits)) s) (p .first))
     (ok-on ls (p .seam) (drop (length (l .limits)) s) (both-hold (opens (l .limits)) (linesOpen ls) o .1) (p .rest))
 
@@ -106,7 +106,7 @@ unfolding sheetForm sheetLimits
 rows-ok s h = ok-on lines 0 s lines-open h
 
 held-on : (ls : List Line) (m : ℕ) (v : List Rows) → linesOpen ls ≡ true → partsOk (eachOnce ls lastParts) v ≡ true
-    → allHold (limitsOn ls ++ weightLimits) m (numbersOn ls v) ≡ true
+    → allHold (limitsOn ls ++ fitLimits) m (numbersOn ls v) ≡ true
 unfolding partsOk numbersOn fitsOf limitsOn linesOpen numbersOf
 held-on [] m [] o h = absurd (true≢false (sym h))
 held-on [] m (rs ∷ v) o h =
@@ -118,8 +118,8 @@ held-on (l ∷ ls) m (rs ∷ v) o h =
     let hs = both-hold (partOk (oneLine l) rs) (partsOk (eachOnce ls lastParts) v) h in
     let e = single l rs (hs .0) in
     let first = hold-free (l .limits) m 0 (e .ns) (os .0) ∙ e .held in
-    rw (append-assoc (l .limits) (limitsOn ls) weightLimits, e .is, append-nil (e .ns))
-    (hold-join (l .limits) (limitsOn ls ++ weightLimits) m (e .ns) (numbersOn ls v) first
+    rw (append-assoc (l .limits) (limitsOn ls) fitLimits, e .is, append-nil (e .ns))
+    (hold-join (l .limits) (limitsOn ls ++ fitLimits) m (e .ns) (numbersOn ls v) first
     (λ (i : ℕ). held-on ls i v (os .1) (hs .1)))
 
 pub sheet-ok : (v : List Rows) → formOk sheetForm v ≡ true → sheetOk (sheetOf v) ≡ true

@@ -12,9 +12,11 @@ use Rattle.sheet.specs.SheetText.{sheetForm}
 use Rattle.sheet.specs.EngineText.{engineForm}
 
 pub sheet-made : wellMade sheetForm ≡ true
-unfolding wellMade partsMade apart disjoint kindsMade lineMade narrow kindOf partsMost kindsMost numbersMost digitsOf digitsIn sheetForm
+unfolding wellMade partsMade apart disjoint kindsMade lineMade narrow kindOf
+    partsMost kindsMost numbersMost digitsOf digitsIn sheetForm
 sheet-made = refl
 
 pub engines-made : wellMade engineForm ≡ true
-unfolding wellMade partsMade apart disjoint kindsMade lineMade narrow kindOf partsMost kindsMost numbersMost digitsOf digitsIn engineForm
+unfolding wellMade partsMade apart disjoint kindsMade lineMade narrow kindOf
+    partsMost kindsMost numbersMost digitsOf digitsIn engineForm
 engines-made = refl

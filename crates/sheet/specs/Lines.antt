@@ -1,5 +1,6 @@
--- 01, The sheet: the table of lines, with the limits of each number, in its order. There is no other table of limits: a text is read and written, and
--- a register judged, by this one. FIT and ENG lines rise: their first number starts at `next`, one above the last line's.
+-- 01, The sheet: the table of lines, with the limits of each number, in its order. There is no other table of limits:
+-- a text is read and written, and a register judged, by this one. FIT and ENG lines rise: their first number starts at
+-- `next`, one above the last line's.
 use Prim.Native.Nat.{ℕ}
 use Prim.Native.String.{String}
 use mathlib.Core.List.{List, [], _∷_}
@@ -13,7 +14,8 @@ line tag limits = record { tag = bytes tag; limits = limits }
 
 -- length; reference length, not above length; transom width; transom height; flat bottom; remote steering
 abbrev formLimits : List Limit
-formLimits = ranging 2000 6000 ∷ rangingCapped 2000 6000 ∷ ranging 500 3000 ∷ ranging 200 900 ∷ ranging 0 1 ∷ ranging 0 1 ∷ []
+formLimits =
+    ranging 2000 6000 ∷ rangingCapped 2000 6000 ∷ ranging 500 3000 ∷ ranging 200 900 ∷ ranging 0 1 ∷ ranging 0 1 ∷ []
 
 -- B, then q r s t u v
 abbrev stationLimits : List Limit

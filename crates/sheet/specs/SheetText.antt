@@ -1,4 +1,5 @@
--- 01, The sheet, as a form of text: ten lines, up to 24 FIT lines whose line numbers rise, END. What a sheet's text says as the sheet's numbers, and the one text of a sheet.
+-- 01, The sheet, as a form of text: ten lines, up to 24 FIT lines whose line numbers rise, END. What a sheet's text
+-- says as the sheet's numbers, and the one text of a sheet.
 use Prim.Native.Nat.{ℕ, suc, _-_}
 use mathlib.Core.Bool.{true, false}
 use mathlib.Core.List.{List, [], _∷_, _++_}
