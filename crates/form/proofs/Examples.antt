@@ -1,4 +1,5 @@
--- A form of samples, and texts of it that are read and written, computed: crates of two kinds, shelves that rise, an end.
+-- A form of samples, and texts of it that are read and written, computed: crates of two kinds, shelves that rise, an
+-- end.
 use mathlib.Core.Path.{_≡_, refl}
 use mathlib.Core.Bool.{true}
 use mathlib.Core.List.{List, [], _∷_, map}

@@ -68,7 +68,7 @@ apart-none kinds (p ∷ ps) ([] ∷ v) m a h =
     let hs = both-hold (partOk p []) (partsOk ps v) h in
     let n = le-ltb 0 (p .least) (part-held p [] (hs .0) .many) in
     let b = both-hold (disjoint kinds (p .kinds)) (ltb 0 (p .least) || apart kinds ps) a in
-    let ms = both-hold (leb (p .most) (p .least) || apart (p .kinds) ps) (partsMade ps) (k .1) in
+    let ms = both-hold _ (partsMade ps) (k .1) in
     apart-none kinds ps v (ms .1) (rw n at (b .1)) (hs .1)
 apart-none kinds (p ∷ ps) ((r ∷ rs) ∷ v) m a h =
     let hs = both-hold (partOk p (r ∷ rs)) (partsOk ps v) h in

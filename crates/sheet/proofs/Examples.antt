@@ -1,7 +1,7 @@
 -- Worked texts of sheets, computed: 01's own sheet, and the places where a reader slips.
 use mathlib.Core.Path.{_≡_, refl}
 use mathlib.Core.List.{List, [], _∷_, _++_, map}
-use Prim.Native.Nat.{ℕ}
+use Prim.Native.Nat.{ℕ, suc}
 use Prim.Native.String.{String}
 use lib.ListN.{replicate}
 use Rattle.text.specs.Quoted.{bytes}
@@ -14,7 +14,6 @@ use Rattle.form.specs.Reading.{readRows, readParts, readForm}
 use Rattle.form.specs.Writing.{rowsText, partsText}
 use Rattle.sheet.specs.SheetText.{sheetForm, weightsFrom, fitRows, fitsOf, numbersOn, rowsOn}
 use Rattle.sheet.specs.SheetText.{readSheet, sheetText}
-use Rattle.sheet.proofs.Writing.{fitsText}
 
 -- ---- a sheet with some of its lines given
 
@@ -88,8 +87,12 @@ withSeats : String → List ℕ
 withSeats line = sheet hull form power line (bytes "END\n")
 
 -- all 24 FIT lines
+fits : ℕ → List ℕ → List ℕ
+fits n [] = []
+fits n (k ∷ ks) = bytes "FIT\t" ++ (digitsOf n ++ (bytes "\t5\n" ++ fits (suc n) ks))
+
 withFits : String → List ℕ
-withFits rest = sheet hull form power seats (fitsText 1 (replicate 24 5) ++ bytes rest)
+withFits rest = sheet hull form power seats (fits 1 (replicate 24 0) ++ bytes rest)
 
 texts : List (List ℕ)
 texts =
@@ -128,7 +131,7 @@ texts-right :
     ∷ taken 433 ∷ lost 2 429 ∷ lost 2 224
     ∷ lost 2 6 ∷ lost 2 0
     ∷ []
-unfolding ended taken texts withHull withForm withPower withSeats withFits withRest sheet stations readSheet sheetForm
+unfolding ended taken texts withHull withForm withPower withSeats withFits fits withRest sheet stations
+    readSheet sheetForm digitsOf digitsIn
     readForm readParts readRows kindOf readLine agreed readNumbers readEntry fieldOf numberOf restOf
-    fitRows rowsText numbersText digitsOf digitsIn
 texts-right = refl
