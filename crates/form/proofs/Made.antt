@@ -27,9 +27,13 @@ unfoldable pub apart : List Line → List Part → Bool
 apart kinds [] = true
 apart kinds (p ∷ ps) = disjoint kinds (p .kinds) && (ltb 0 (p .least) || apart kinds ps)
 
+-- a part whose lines are so many and no others, or are told from what follows
+unfoldable pub told : Part → List Part → Bool
+told p ps = leb (p .most) (p .least) || apart (p .kinds) ps
+
 unfoldable pub partsMade : List Part → Bool
 partsMade [] = true
-partsMade (p ∷ ps) = kindsMade (p .kinds) && ((leb (p .most) (p .least) || apart (p .kinds) ps) && partsMade ps)
+partsMade (p ∷ ps) = kindsMade (p .kinds) && (told p ps && partsMade ps)
 
 unfoldable pub wellMade : Form → Bool
 wellMade f = partsMade (f .parts) && leb (partsMost (f .parts)) (f .room)
@@ -68,7 +72,7 @@ apart-none kinds (p ∷ ps) ([] ∷ v) m a h =
     let hs = both-hold (partOk p []) (partsOk ps v) h in
     let n = le-ltb 0 (p .least) (part-held p [] (hs .0) .many) in
     let b = both-hold (disjoint kinds (p .kinds)) (ltb 0 (p .least) || apart kinds ps) a in
-    let ms = both-hold _ (partsMade ps) (k .1) in
+    let ms = both-hold (told p ps) (partsMade ps) (k .1) in
     apart-none kinds ps v (ms .1) (rw n at (b .1)) (hs .1)
 apart-none kinds (p ∷ ps) ((r ∷ rs) ∷ v) m a h =
     let hs = both-hold (partOk p (r ∷ rs)) (partsOk ps v) h in

@@ -1,6 +1,6 @@
 -- The single text, of every form: what is written reads back as itself, and what reads is what would be written.
 use mathlib.Core.Path.{_≡_, refl, sym, ap, _∙_}
-use mathlib.Core.Bool.{Bool, true, false, true≢false, _&&_, _||_}
+use mathlib.Core.Bool.{Bool, true, false, true≢false, _&&_}
 use mathlib.Core.List.{List, [], _∷_, _++_}
 use Prim.Native.Nat.{ℕ, _+_, _<_}
 use mathlib.Core.Option.{none}
@@ -17,11 +17,16 @@ use Rattle.form.proofs.Chain.{lost-not-found, chain-forth, chain-back}
 use Rattle.form.proofs.Letters.{kindsMade}
 use Rattle.form.proofs.Held.{part-held, held-part}
 use Rattle.form.proofs.Most.{partsMost, parts-most}
-use Rattle.form.proofs.Made.{apart, apart-none, partsMade, wellMade}
+use Rattle.form.proofs.Made.{apart, apart-none, told, partsMade, wellMade}
 use Rattle.form.proofs.RowsTrip.{rows-forth}
 use Rattle.form.proofs.RowsBack.{RowsBack, rows-back}
 
 -- ---- what is written reads back
+
+-- where a part has a choice, it is told from what follows
+told-apart : (p : Part) (ps : List Part) → p .least < p .most → told p ps ≡ true → apart (p .kinds) ps ≡ true
+unfolding told
+told-apart p ps k h = rw (lt-leb (p .most) (p .least) k) at h
 
 parts-forth : (ps : List Part) (v : List Rows) → partsMade ps ≡ true
     → partsOk ps v ≡ true
@@ -31,19 +36,18 @@ parts-forth [] [] m h = refl
 parts-forth [] (rs ∷ v) m h = absurd (true≢false (sym h))
 parts-forth (p ∷ ps) [] m h = absurd (true≢false (sym h))
 parts-forth (p ∷ ps) (rs ∷ v) m h =
-    let ms = both-hold (kindsMade (p .kinds)) ((leb (p .most) (p .least) || apart (p .kinds) ps) && partsMade ps) m in
-    let ns = both-hold (leb (p .most) (p .least) || apart (p .kinds) ps) (partsMade ps) (ms .1) in
+    let ms = both-hold (kindsMade (p .kinds)) (told p ps && partsMade ps) m in
+    let ns = both-hold (told p ps) (partsMade ps) (ms .1) in
     let hs = both-hold (partOk p rs) (partsOk ps v) h in
     let a = part-held p rs (hs .0) in
     let x : List ℕ = rowsText (p .kinds) rs in
     let y : List ℕ = partsText ps v in
-    let told : length rs < p .most → kindAt (p .kinds) y ≡ none =
+    let away : length rs < p .most → kindAt (p .kinds) y ≡ none =
     λ (k : length rs < p .most).
-    let choice = lt-leb (p .most) (p .least) (omega (arith, a .many)) in
-    apart-none (p .kinds) ps v (ns .1) (rw choice at (ns .0)) (hs .1) in
+    apart-none (p .kinds) ps v (ns .1) (told-apart p ps (omega (arith, a .many)) (ns .0)) (hs .1) in
     rw (length-append x y)
     (chain-forth (readRows p (p .most) (p .least) 0 (x ++ y)) (λ (rs : Rows). readParts ps) x y rs v (length y)
-    (rows-forth p rs (p .most) (p .least) 0 y (ms .0) (a .held) (a .many) (a .few) told)
+    (rows-forth p rs (p .most) (p .least) 0 y (ms .0) (a .held) (a .many) (a .few) away)
     (parts-forth ps v (ns .1) (hs .1)))
 
 -- of every well-made form, the text of rows within the limits gives those rows

@@ -11,7 +11,7 @@ use Rattle.text.proofs.Most.{numbersMost}
 use Rattle.form.specs.Parts.{Form, someLines, risingLines, oneLine, maybeLine, kindOf}
 use Rattle.form.proofs.Letters.{lineMade, kindsMade}
 use Rattle.form.proofs.Most.{kindsMost, partsMost}
-use Rattle.form.proofs.Made.{disjoint, apart, partsMade, wellMade}
+use Rattle.form.proofs.Made.{disjoint, apart, told, partsMade, wellMade}
 use Rattle.form.proofs.Examples.{roundLine, squareLine, shelfLine, noteLine, endLine, store}
 
 -- begins as a shelf's line does
@@ -40,6 +40,6 @@ forms =
 
 forms-right : map wellMade forms ≡ true ∷ false ∷ false ∷ false ∷ false ∷ false ∷ false ∷ []
 unfolding forms otherLine untagged wide store roundLine squareLine shelfLine noteLine endLine
-    wellMade partsMade apart disjoint kindsMade lineMade narrow kindOf
+    wellMade partsMade told apart disjoint kindsMade lineMade narrow kindOf
     partsMost kindsMost numbersMost digitsOf digitsIn
 forms-right = refl

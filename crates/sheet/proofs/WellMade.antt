@@ -7,16 +7,16 @@ use Rattle.form.specs.Parts.{kindOf}
 use Rattle.form.proofs.Letters.{lineMade, kindsMade}
 use Rattle.text.proofs.Most.{numbersMost}
 use Rattle.form.proofs.Most.{kindsMost, partsMost}
-use Rattle.form.proofs.Made.{disjoint, apart, partsMade, wellMade}
+use Rattle.form.proofs.Made.{disjoint, apart, told, partsMade, wellMade}
 use Rattle.sheet.specs.SheetText.{sheetForm}
 use Rattle.sheet.specs.EngineText.{engineForm}
 
 pub sheet-made : wellMade sheetForm ≡ true
-unfolding wellMade partsMade apart disjoint kindsMade lineMade narrow kindOf
+unfolding wellMade partsMade told apart disjoint kindsMade lineMade narrow kindOf
     partsMost kindsMost numbersMost digitsOf digitsIn sheetForm
 sheet-made = refl
 
 pub engines-made : wellMade engineForm ≡ true
-unfolding wellMade partsMade apart disjoint kindsMade lineMade narrow kindOf
+unfolding wellMade partsMade told apart disjoint kindsMade lineMade narrow kindOf
     partsMost kindsMost numbersMost digitsOf digitsIn engineForm
 engines-made = refl
