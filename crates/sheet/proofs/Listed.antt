@@ -1,5 +1,6 @@
 -- 01, Refusal numbers: a call on texts refuses by a number of the list, 1 to 17, and so never by 0.
 use mathlib.Core.Path.{_≡_, refl}
+use mathlib.Core.Bool.{Bool, true, false}
 use mathlib.Core.List.{List}
 use Prim.Native.Nat.{ℕ}
 use lib.Dec.{leb}
@@ -23,7 +24,13 @@ read-listed t = go (readSheet t) refl
     go (lost number at) e = text-listed (sheet-fault t number at e)
 
 pub write-listed : (s : List ℕ) (room : ℕ) → OfList (writeAnswer s room)
-write-listed s room = either OfList (sheetOk s) (either OfList (leb (length (sheetText s)) room) refl refl) refl
+write-listed s room = go (sheetOk s) (leb (length (sheetText s)) room) refl refl
+  where
+    go : (a b : Bool) → sheetOk s ≡ a → leb (length (sheetText s)) room ≡ b → OfList (writeAnswer s room)
+    go true true e f = rw (e, f) refl
+    go true false e f = rw (e, f) refl
+    go false true e f = rw (e, f) refl
+    go false false e f = rw (e, f) refl
 
 pub engines-listed : (t : List ℕ) (a b : ℕ) → OfList (enginesAnswer (readEngines t) a b)
 engines-listed t a b = go (readEngines t) refl

@@ -1,4 +1,4 @@
--- A refused call on texts leaves every lent byte as it stood; and which refusal comes first.
+-- Which refusal of a call on texts comes first; and a refused call leaves every lent byte as it stood.
 use mathlib.Core.Path.{_≡_, refl}
 use mathlib.Core.Bool.{Bool, true, false, _&&_, cond}
 use mathlib.Core.List.{List}
@@ -14,9 +14,21 @@ use Rattle.form.specs.Parts.{Rows}
 use Rattle.form.specs.Outcome.{Found, took, lost}
 use Rattle.sheet.specs.Sheet.{sheetOk}
 use Rattle.sheet.specs.SheetText.{readSheet, sheetText}
-use Rattle.sheet.specs.EngineText.{readEngines, powersOf, weightsOf}
+use Rattle.sheet.specs.EngineText.{readEngines}
 use Rattle.sheet.specs.TextCalls.{readAnswer, readInto, writeAnswer, writeInto}
 use Rattle.sheet.specs.TextCalls.{rowsFit, enginesAnswer, columnsInto}
+
+-- ---- which refusal comes first
+
+-- a sheet outside the limits is told before a lent output that is too short, and a text at fault before slices that are
+pub outside-first : (s : List ℕ) (room : ℕ) → sheetOk s ≡ false → writeAnswer s room ≡ Refused outsideLimits
+outside-first s room e = rw e refl
+
+pub fault-first : (t : List ℕ) (a b number at : ℕ) → readEngines t ≡ lost number at
+    → enginesAnswer (readEngines t) a b ≡ Refused number
+fault-first t a b number at e = rw e refl
+
+-- ---- a refused call leaves what was lent
 
 pub read-refused : (t before : List ℕ) → isRefusal (readAnswer (readSheet t)) ≡ true
     → readInto (readSheet t) before ≡ before
@@ -50,14 +62,5 @@ engines-refused t powers weights = go (readEngines t)
     go : (q : Found Rows) → isRefusal (enginesAnswer q (length powers) (length weights)) ≡ true
         → columnsInto q powers weights ≡ (powers, weights)
     go (took k rows) e =
-        fits rows (putFirst (powersOf rows) powers, putFirst (weightsOf rows) weights)
-        (rowsFit rows (length powers) (length weights)) e
+        fits rows _ (rowsFit rows (length powers) (length weights)) e
     go (lost number at) e = refl
-
--- a sheet outside the limits is told before a lent output that is too short, and a text at fault before slices that are
-pub outside-first : (s : List ℕ) (room : ℕ) → sheetOk s ≡ false → writeAnswer s room ≡ Refused outsideLimits
-outside-first s room e = rw e refl
-
-pub fault-first : (t : List ℕ) (a b number at : ℕ) → readEngines t ≡ lost number at
-    → enginesAnswer (readEngines t) a b ≡ Refused number
-fault-first t a b number at e = rw e refl
