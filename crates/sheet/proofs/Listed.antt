@@ -27,10 +27,10 @@ pub write-listed : (s : List ℕ) (room : ℕ) → OfList (writeAnswer s room)
 write-listed s room = go (sheetOk s) (leb (length (sheetText s)) room) refl refl
   where
     go : (a b : Bool) → sheetOk s ≡ a → leb (length (sheetText s)) room ≡ b → OfList (writeAnswer s room)
-    go true true e f = rw (e, f) refl
-    go true false e f = rw (e, f) refl
-    go false true e f = rw (e, f) refl
-    go false false e f = rw (e, f) refl
+    go true true e f = simp (e, f)
+    go true false e f = simp (e, f)
+    go false true e f = simp (e, f)
+    go false false e f = simp (e, f)
 
 pub engines-listed : (t : List ℕ) (a b : ℕ) → OfList (enginesAnswer (readEngines t) a b)
 engines-listed t a b = go (readEngines t) refl
