@@ -14,8 +14,8 @@ use Rattle.form.specs.Outcome.{Found, took, lost, outcome, mapped, ahead, chain
 use Rattle.form.specs.Reading.{readRows}
 use Rattle.form.proofs.Letters.{kind-here, kind-away}
 use Rattle.form.proofs.RowsTrip.{rows-none, rows-more}
-use Rattle.sheet.specs.Lines.{fitLine}
 use Rattle.sheet.specs.SheetText.{fitPart, weightsFrom}
+use Rattle.former.specs.Lines.{fitLine}
 use Rattle.former.specs.Reading as old
 use Rattle.former.specs.Reading.{fitByte, onFit, readFits}
 use Rattle.former.proofs.Followed.{onward, outcome-after}

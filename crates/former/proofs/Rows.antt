@@ -20,9 +20,10 @@ use Rattle.form.specs.Writing.{rowOk, rowsOk}
 use Rattle.form.proofs.Letters.{kind-here, kind-away}
 use Rattle.form.proofs.RowsTrip.{rows-none, rows-more}
 use Rattle.form.proofs.OneLine.{line-else}
-use Rattle.sheet.specs.Lines.{engineLine, mostBytes}
+use Rattle.sheet.specs.Lines.{mostBytes}
 use Rattle.sheet.specs.EngineText.{enginePart, engineForm, onlyRows, powersOf, weightsOf, readEngines}
 use Rattle.sheet.proofs.EngineText.{engine}
+use Rattle.former.specs.Lines.{engineLine}
 use Rattle.former.specs.Engines as old
 use Rattle.former.specs.Engines.{orStop, onRow}
 use Rattle.former.proofs.Followed.{onward, outcome-after}

@@ -7,10 +7,11 @@ use lib.Dec.{eqb}
 use lib.ListN.{length, drop, length-append}
 use lib.Seq.{drop-drop}
 use Rattle.text.specs.Line.{Line, numbersText, lineText}
-use Rattle.sheet.specs.Lines.{lines, fitLine, endLine}
+use Rattle.sheet.specs.Lines.{lines, endLine}
 use Rattle.sheet.specs.Sheet.{limitsOn}
 use Rattle.sheet.specs.SheetText.{sheetText}
 use Rattle.sheet.proofs.Writing.{textOn, text-whole, text-line, fitsText, text-fits, fits-none, fits-empty, fits-line}
+use Rattle.former.specs.Lines.{fitLine}
 use Rattle.former.specs.Writing as old
 use Rattle.former.specs.Writing.{linesText, fitText}
 

@@ -8,7 +8,8 @@ use lib.ListN.{length, drop, getD}
 use Rattle.answers.specs.Refusals.{brokenLine}
 use Rattle.text.specs.declared.LineRead.the-variants.{Taken, Fault}
 use Rattle.text.specs.Line.{Reading, nothing, refused, after, readLine}
-use Rattle.sheet.specs.Lines.{engineLine, mostRows, mostBytes}
+use Rattle.sheet.specs.Lines.{mostRows, mostBytes}
+use Rattle.former.specs.Lines.{engineLine}
 
 -- after a row the text stops, or there is another
 abbrev pub orStop : (List ℕ → Reading) → List ℕ → Reading

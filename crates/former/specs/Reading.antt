@@ -9,7 +9,8 @@ use Rattle.answers.specs.Refusals.{brokenLine}
 use Rattle.text.specs.declared.LineRead.the-variants.{Taken, Fault}
 use Rattle.text.specs.Field.{begins}
 use Rattle.text.specs.Line.{Line, Reading, nothing, refused, after, followed, readLine}
-use Rattle.sheet.specs.Lines.{lines, fittings, fitLine, endLine, mostBytes}
+use Rattle.sheet.specs.Lines.{lines, fittings, endLine, mostBytes}
+use Rattle.former.specs.Lines.{fitLine}
 
 unfoldable pub readLines : List Line → List ℕ → Reading
 readLines [] t = nothing

@@ -5,8 +5,9 @@ use mathlib.Core.List.{List, [], _∷_, _++_}
 use lib.Dec.{eqb}
 use lib.ListN.{length, drop}
 use Rattle.text.specs.Line.{Line, lineText}
-use Rattle.sheet.specs.Lines.{lines, fitLine, endLine}
+use Rattle.sheet.specs.Lines.{lines, endLine}
 use Rattle.sheet.specs.Sheet.{limitsOn}
+use Rattle.former.specs.Lines.{fitLine}
 
 -- the text of the numbers on ls
 unfoldable pub linesText : List Line → List ℕ → List ℕ

@@ -45,10 +45,10 @@ weights-columns (p ∷ ps) (w ∷ ws) e = ap (λ (l : List ℕ). w ∷ l) (weigh
 
 -- an ENG row has a power from next on and a weight
 abbrev pub Engine : ℕ → Row → Type 0
-Engine next r = Pair (engineLine 1 .tag) 1 enginePowerHigh 0 engineWeightHigh next r
+Engine next r = Pair (engineLine .tag) 1 enginePowerHigh 0 engineWeightHigh next r
 
 pub engine : (next n : ℕ) (r : Row) → max 1 next ≡ n → rowOk enginePart next r ≡ true → Engine n r
-engine next n r m h = pair (engineLine 1 .tag) 1 enginePowerHigh 0 engineWeightHigh 1 mostRows next n r m h
+engine next n r m h = pair (engineLine .tag) 1 enginePowerHigh 0 engineWeightHigh 1 mostRows next n r m h
 
 rows-columns : (rs : Rows) (next : ℕ) → rowsOk enginePart next rs ≡ true → engineRows (powersOf rs) (weightsOf rs) ≡ rs
 unfolding rowsOk engineRows
@@ -58,7 +58,7 @@ rows-columns (r ∷ rs) next h =
     let f = engine next (max 1 next) r refl (hs .0) in
     go (f .n) (f .w) (f .is) (rows-columns rs (nextAfter r) (hs .1))
   where
-    go : (p w : ℕ) → r ≡ pairRow (engineLine 1 .tag) 1 enginePowerHigh 0 engineWeightHigh p w
+    go : (p w : ℕ) → r ≡ pairRow (engineLine .tag) 1 enginePowerHigh 0 engineWeightHigh p w
         → engineRows (powersOf rs) (weightsOf rs) ≡ rs
         → engineRows (powersOf (r ∷ rs)) (weightsOf (r ∷ rs)) ≡ r ∷ rs
     go p w e ih = rw e (rw ih)

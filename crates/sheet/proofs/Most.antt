@@ -31,9 +31,9 @@ use Rattle.sheet.proofs.Writing.{fitsText, text-fits, fits-none, fits-e
 
 -- the line of a fitting whose number is n
 abbrev fitLineOf : ℕ → Line
-fitLineOf n = pairLine (fitLine 1 .tag) n n 1 fittingHigh
+fitLineOf n = pairLine (fitLine .tag) n n 1 fittingHigh
 
-fit-most : (n w : ℕ) → 1 ≤ w → w ≤ fittingHigh → length (lineText (fitLine 1) (n ∷ w ∷ [])) ≤ lineMost (fitLineOf n)
+fit-most : (n w : ℕ) → 1 ≤ w → w ≤ fittingHigh → length (lineText fitLine (n ∷ w ∷ [])) ≤ lineMost (fitLineOf n)
 unfolding numbersText
 fit-most n w a b =
     let h = numbers-two n n 1 fittingHigh n w (omega arith) (omega arith) a b in
@@ -57,7 +57,7 @@ fits-most (w ∷ ws) n last h =
     go true e h ih = rw (fits-empty n w ws e) (omega arith)
     go false e h ih =
         let z = eqb-false w 0 e in
-        let m = length-append (lineText (fitLine 1) (n ∷ w ∷ [])) (fitsText (suc n) ws) in
+        let m = length-append (lineText fitLine (n ∷ w ∷ [])) (fitsText (suc n) ws) in
         rw (fits-line n w ws e) (omega (arith, m, fit-most n w (omega arith) h))
 
 -- ---- a whole sheet

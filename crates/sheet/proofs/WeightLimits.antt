@@ -45,7 +45,7 @@ fits-ok (w ∷ ws) next n last a b c h =
     go true e k skip take = rw (row-none n w ws e) skip
     go false e k skip take =
         let z = eqb-false w 0 e in
-        let l = fitLine 1 .tag in
+        let l = fitLine .tag in
         let high = weight-most last w k in
         let ok = pair-ok l 1 fittings 1 fittingHigh 0 fittings next n w a b (omega arith) (omega arith) high in
         rw (row-some n w ws e, ok) take

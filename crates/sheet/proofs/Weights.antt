@@ -16,7 +16,7 @@ use Rattle.sheet.specs.Lines.{fittings, fittingHigh, fitLine}
 use Rattle.sheet.specs.SheetText.{fitPart, weightsFrom, fitRows}
 
 abbrev pub fitRow : ℕ → ℕ → Row
-fitRow n w = pairRow (fitLine 1 .tag) 1 fittings 1 fittingHigh n w
+fitRow n w = pairRow (fitLine .tag) 1 fittings 1 fittingHigh n w
 
 -- ---- an empty line has no row, and a weight has one
 
@@ -63,10 +63,10 @@ weights-rows ws e = weights-from ws 1 1 (omega arith) (omega arith)
 
 -- a FIT row has a line number from n on and a weight
 abbrev pub Fitted : ℕ → Row → Type 0
-Fitted n r = Pair (fitLine 1 .tag) 1 fittings 1 fittingHigh n r
+Fitted n r = Pair (fitLine .tag) 1 fittings 1 fittingHigh n r
 
 pub fitted : (next n : ℕ) (r : Row) → max 1 next ≡ n → rowOk fitPart next r ≡ true → Fitted n r
-fitted next n r m h = pair (fitLine 1 .tag) 1 fittings 1 fittingHigh 0 fittings next n r m h
+fitted next n r m h = pair (fitLine .tag) 1 fittings 1 fittingHigh 0 fittings next n r m h
 
 zeros-rows : (j n : ℕ) (ws : List ℕ) → fitRows n (replicate j 0 ++ ws) ≡ fitRows (n + j) ws
 zeros-rows zero n ws = rw (add-zero n)

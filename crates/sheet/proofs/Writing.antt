@@ -49,6 +49,6 @@ pub fits-empty : (n w : ℕ) (ws : List ℕ) → eqb w 0 ≡ true → fitsText n
 fits-empty n w ws e = rw (row-none n w ws e)
 
 pub fits-line : (n w : ℕ) (ws : List ℕ) → eqb w 0 ≡ false
-    → fitsText n (w ∷ ws) ≡ lineText (fitLine 1) (n ∷ w ∷ []) ++ fitsText (suc n) ws
+    → fitsText n (w ∷ ws) ≡ lineText fitLine (n ∷ w ∷ []) ++ fitsText (suc n) ws
 unfolding rowsText kindOf
 fits-line n w ws e = rw (row-some n w ws e, rowsText)

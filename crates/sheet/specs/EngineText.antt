@@ -10,7 +10,7 @@ use Rattle.form.specs.Writing.{formOk, formText}
 use Rattle.sheet.specs.Lines.{engineLine, mostRows, mostBytes}
 
 abbrev pub enginePart : Part
-enginePart = risingLines 1 mostRows (engineLine 1)
+enginePart = risingLines 1 mostRows engineLine
 
 unfoldable pub engineForm : Form
 engineForm = record { parts = enginePart ∷ []; room = mostBytes }
@@ -32,7 +32,7 @@ weightsOf rs = map (λ (r : Row). getD (r .numbers) 1 0) rs
 unfoldable pub engineRows : List ℕ → List ℕ → Rows
 engineRows [] ws = []
 engineRows (p ∷ ps) [] = []
-engineRows (p ∷ ps) (w ∷ ws) = lineRow (letterOf (engineLine 1)) (p ∷ w ∷ []) ∷ engineRows ps ws
+engineRows (p ∷ ps) (w ∷ ws) = lineRow (letterOf engineLine) (p ∷ w ∷ []) ∷ engineRows ps ws
 
 -- ---- reading and writing
 

@@ -15,7 +15,7 @@ use Rattle.sheet.specs.Lines.{lines, fittings, fitLine, endLine, mostByt
 -- ---- the form
 
 abbrev pub fitPart : Part
-fitPart = risingLines 0 fittings (fitLine 1)
+fitPart = risingLines 0 fittings fitLine
 
 -- a part for each of the lines, one line each, and then ps
 abbrev pub eachOnce : List Line → List Part → List Part
@@ -40,7 +40,7 @@ fitRows n [] = []
 fitRows n (w ∷ ws) =
     elim (eqb w 0) [
       | true ↦ fitRows (suc n) ws
-      | false ↦ lineRow (letterOf (fitLine 1)) (n ∷ w ∷ []) ∷ fitRows (suc n) ws
+      | false ↦ lineRow (letterOf fitLine) (n ∷ w ∷ []) ∷ fitRows (suc n) ws
     ]
 
 -- ---- a sheet's rows and its numbers

@@ -15,7 +15,9 @@ pub laid-none : (o : List ℕ) (at : ℕ) → Laid [] o at at o
 laid-none o at = record { end = sym (add-zero at); laid = refl }
 
 -- a piece after a piece
-pub laid-more : {bs ds o₀ o₁ o : List ℕ} {at mid r : ℕ} → Laid bs o₀ at mid o₁ → Laid ds o₁ mid r o → Laid (bs ++ ds) o₀ at r o
+pub laid-more : {bs ds o₀ o₁ o : List ℕ} {at mid r : ℕ} → Laid bs o₀ at mid o₁
+    → Laid ds o₁ mid r o
+    → Laid (bs ++ ds) o₀ at r o
 laid-more {bs} {ds} {o₀} {o₁} {o} {at} {mid} {r} p q =
     record {
       end = omega (arith, p .end, q .end, length-append bs ds);
@@ -30,13 +32,16 @@ pub laid-start : (bs o o₁ : List ℕ) → o₁ ≡ sets o 0 bs → Laid bs o 0
 laid-start bs o o₁ e = record { end = omega arith; laid = e }
 
 -- bytes laid into the part from `at` on, seen from the whole
-pub laid-part : (bs o ys : List ℕ) (at r : ℕ) → Laid bs (take (length o - at) (drop at o)) 0 r ys → Laid bs o at (at + r) (putBack o at ys)
+pub laid-part : (bs o ys : List ℕ) (at r : ℕ) → Laid bs (take (length o - at) (drop at o)) 0 r ys
+    → Laid bs o at (at + r) (putBack o at ys)
 laid-part bs o ys at r p =
     let e : ys ≡ sets (drop at o) 0 bs = p .laid ∙ rw (rest-part o at) in
     record { end = omega (arith, p .end); laid = rw e (part-sets o at bs) }
 
 -- bytes laid into what is left from `at` on, which past the end is nothing and leaves the whole as it was
-pub laid-left : (bs o ys : List ℕ) (at from r : ℕ) → from ≡ min at (length o) → Laid bs (take (length o - from) (drop from o)) 0 r ys → Laid bs o at (at + r) (putBack o from ys)
+pub laid-left : (bs o ys : List ℕ) (at from r : ℕ) → from ≡ min at (length o)
+    → Laid bs (take (length o - from) (drop from o)) 0 r ys
+    → Laid bs o at (at + r) (putBack o from ys)
 laid-left bs o ys at from r e p =
     let q = laid-part bs o ys from r p in
     record { end = omega (arith, p .end); laid = q .laid ∙ rw (e, sets-min o at bs) }
@@ -46,7 +51,10 @@ laid-left bs o ys at from r e p =
 pub laid-digit : (n : ℕ) (o₀ o : List ℕ) → n < 10 → o ≡ set o₀ 0 (48 + n) → Laid (digitsOf n) o₀ 0 1 o
 laid-digit n o₀ o h e = record { end = rw (digits-small n h); laid = e ∙ rw (digits-small n h) }
 
-pub laid-digits : (n : ℕ) (o₀ o₁ o : List ℕ) (mid : ℕ) → 10 ≤ n → Laid (digitsOf (n / 10)) o₀ 0 mid o₁ → o ≡ set o₁ mid (48 + n % 10) → Laid (digitsOf n) o₀ 0 (mid + 1) o
+pub laid-digits : (n : ℕ) (o₀ o₁ o : List ℕ) (mid : ℕ) → 10 ≤ n
+    → Laid (digitsOf (n / 10)) o₀ 0 mid o₁
+    → o ≡ set o₁ mid (48 + n % 10)
+    → Laid (digitsOf n) o₀ 0 (mid + 1) o
 laid-digits n o₀ o₁ o mid h p e = rw (digits-more n h, e) (laid-more p (laid-byte o₁ mid (48 + n % 10)))
 
 -- what is laid keeps the length
