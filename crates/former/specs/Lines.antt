@@ -10,4 +10,5 @@ abbrev pub fitLine : ℕ → Line
 fitLine next = record { tag = bytes "FIT\t"; limits = ranging next fittings ∷ ranging 1 fittingHigh ∷ [] }
 
 abbrev pub engineLine : ℕ → Line
-engineLine next = record { tag = bytes "ENG\t"; limits = ranging next enginePowerHigh ∷ ranging 0 engineWeightHigh ∷ [] }
+engineLine next =
+    record { tag = bytes "ENG\t"; limits = ranging next enginePowerHigh ∷ ranging 0 engineWeightHigh ∷ [] }
