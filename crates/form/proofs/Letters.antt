@@ -4,7 +4,7 @@ use mathlib.Core.Bool.{Bool, true, false, true≢false, _&&_}
 use mathlib.Core.List.{List, [], _∷_, _++_}
 use mathlib.Core.Option.{Option, none, some, Option·none-ne-some, Option·some-injective}
 use Prim.Native.Nat.{ℕ}
-use borrow.Author.Tests.{eq-eqb, eqb-true}
+use borrow.Author.Tests.{eqb-true}
 use lib.Dec.{eqb, ltb}
 use lib.ListN.{length, getD}
 use Rattle.text.specs.Field.{begins}
@@ -52,23 +52,6 @@ kind-made (m ∷ ls) b l h e =
         → lineMade l ≡ true
     go true d h ih = rw (Option·some-injective m l (rw (d, kindOf) at e)) at h
     go false d h ih = ih (rw (d, kindOf) at e)
-
--- every kind is told by its letter
-pub kind-told : (ms : List Line) (l : Line) (ls : List Line) → kindsMade (ms ++ (l ∷ ls)) ≡ true
-    → kindOf (ms ++ (l ∷ ls)) (letterOf l) ≡ some l
-unfolding kindOf kindsMade
-kind-told [] l ls h = rw (eq-eqb (letterOf l) (letterOf l) refl, kindOf)
-kind-told (m ∷ ms) l ls h =
-    let p = both-hold (lineMade m && absent (kindOf (ms ++ (l ∷ ls)) (letterOf m))) (kindsMade (ms ++ (l ∷ ls))) h in
-    let q = both-hold (lineMade m) (absent (kindOf (ms ++ (l ∷ ls)) (letterOf m))) (p .0) in
-    go (eqb (letterOf l) (letterOf m)) refl (q .1) (kind-told ms l ls (p .1))
-  where
-    go : (u : Bool) → eqb (letterOf l) (letterOf m) ≡ u
-        → absent (kindOf (ms ++ (l ∷ ls)) (letterOf m)) ≡ true
-        → kindOf (ms ++ (l ∷ ls)) (letterOf l) ≡ some l
-        → kindOf (m ∷ (ms ++ (l ∷ ls))) (letterOf l) ≡ some l
-    go true d a ih = absurd (true≢false (sym (rw (← eqb-true (letterOf l) (letterOf m) d, ih) at a)))
-    go false d a ih = rw (d, kindOf) ih
 
 tag-at : (kinds : List Line) (tag x rest : List ℕ) → ltb 0 (length tag) ≡ true
     → kindAt kinds ((tag ++ x) ++ rest) ≡ kindOf kinds (getD tag 0 0)

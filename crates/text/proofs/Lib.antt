@@ -8,7 +8,6 @@ pub mod Alike
 pub mod Entry
 pub mod Reading
 pub mod Line
-pub mod Followed
 pub mod Laid
 pub mod Writing
 pub mod Led
