@@ -1,53 +1,43 @@
--- Engine rows that were read from a text are right: plate C never refuses them with 10. Assumes nothing.
-use mathlib.Core.Path.{_≡_, refl, sym, ap, _∙_}
-use mathlib.Core.Bool.{Bool, true, false, _&&_, true≢false}
+-- Engine rows that were read from a text are right: plate C never refuses them with 10.
+use mathlib.Core.Path.{_≡_, refl, sym, _∙_}
+use mathlib.Core.Bool.{true}
 use mathlib.Core.List.{List, [], _∷_}
-use Prim.Native.Nat.{ℕ, suc, _≤_, _<_}
+use Prim.Native.Nat.{ℕ, max}
 use native.Mathlib.Numerals.{add-one}
 use native.Mathlib.Omega.{arith}
-use lib.Dec.{leb}
-use lib.ListN.{length}
-use Rattle.text.specs.declared.LineRead.the-variants.{Taken}
-use Rattle.text.specs.Limit.{allHold}
+use borrow.Author.Tests.{le-leb}
 use Rattle.ground.proofs.Booleans.{both-hold}
-use Rattle.sheet.specs.Lines.{enginePowerHigh, engineWeightHigh, engineLine}
-use Rattle.sheet.specs.Engines.{readEngines, powersOf, weightsOf, rowsOk}
-use Rattle.sheet.proofs.EngineTrip.{reads-written}
-use Rattle.capacity.specs.PlateC.{rowFits, rising, leastRows, rowsRight}
+use Rattle.form.specs.Parts.{Rows, nextAfter}
+use Rattle.form.specs.Outcome.{took}
+use Rattle.form.specs.Writing.{rowOk, rowsOk}
+use Rattle.sheet.specs.Lines.{enginePowerHigh, engineWeightHigh}
+use Rattle.sheet.specs.EngineText.{enginePart, powersOf, weightsOf, readEngines}
+use Rattle.sheet.proofs.EngineText.{Engine, engine, powers-length, weights-length, engines-held, reads-written}
+use Rattle.capacity.specs.PlateC.{rising, rowsRight}
 use Rattle.capacity.proofs.Engines.{rows-judged}
 
-row-fits : (next p w : ℕ) → allHold (engineLine next .limits) 0 (p ∷ w ∷ []) ≡ true → rowFits next p w ≡ true
-unfolding allHold
-row-fits next p w e = go (leb next p) (leb p enginePowerHigh) (leb w engineWeightHigh) e
-  where
-    go : (a b c : Bool) → ((a && (b && true)) && ((leb 0 w && (c && true)) && true)) ≡ true → (a && (b && c)) ≡ true
-    go true true c f = let x = both-hold (leb 0 w && (c && true)) true f .0 in let y = both-hold (leb 0 w) (c && true) x .1 in both-hold c true y .0
-    go true false c f = absurd (true≢false (sym f))
-    go false b c f = absurd (true≢false (sym f))
-
--- what the limits of a row's line and `rowsOk` say of rows in one list, `rising` says of the two lists
-pub rows-rise : (next : ℕ) (rows : List ℕ) → rowsOk next rows ≡ true → rising next (powersOf rows) (weightsOf rows) ≡ true
+-- what the limits of a row's line say of rows, `rising` says of the two columns
+pub rows-rise : (rs : Rows) (next n : ℕ) → max 1 next ≡ n → rowsOk enginePart next rs ≡ true
+    → rising n (powersOf rs) (weightsOf rs) ≡ true
 unfolding rowsOk rising
-rows-rise next [] e = refl
-rows-rise next (p ∷ []) e = absurd (true≢false (sym e))
-rows-rise next (p ∷ w ∷ rows) e =
-    let h = both-hold (allHold (engineLine next .limits) 0 (p ∷ w ∷ [])) (rowsOk (suc p) rows) e in
-    rw (row-fits next p w (h .0), add-one p) (rows-rise (suc p) rows (h .1))
+rows-rise [] next n m h = refl
+rows-rise (r ∷ rs) next n m h =
+    let hs = both-hold (rowOk enginePart next r) (rowsOk enginePart (nextAfter r) rs) h in
+    go (engine next n r m (hs .0)) (rows-rise rs (nextAfter r) (nextAfter r) (omega arith) (hs .1))
+  where
+    go : Engine n r → rising (nextAfter r) (powersOf rs) (weightsOf rs) ≡ true
+        → rising n (powersOf (r ∷ rs)) (weightsOf (r ∷ rs)) ≡ true
+    go f ih =
+        let ih' = rw (f .is) at ih in
+        let low = le-leb n (f .n) (f .n-low) in
+        let high = le-leb (f .n) enginePowerHigh (f .n-high) in
+        rw (f .is, low, high, le-leb (f .w) engineWeightHigh (f .w-high), add-one (f .n)) ih'
 
-rows-even : (next : ℕ) (rows : List ℕ) → rowsOk next rows ≡ true → length (powersOf rows) ≡ length (weightsOf rows)
-unfolding rowsOk
-rows-even next [] e = refl
-rows-even next (p ∷ []) e = absurd (true≢false (sym e))
-rows-even next (p ∷ w ∷ rows) e = ap suc (rows-even (suc p) rows (both-hold (allHold (engineLine next .limits) 0 (p ∷ w ∷ [])) (rowsOk (suc p) rows) e .1))
-
-rows-some : (next : ℕ) (rows : List ℕ) → rowsOk next rows ≡ true → 0 < length rows → leastRows ≤ length (powersOf rows)
-unfolding rowsOk
-rows-some next [] e h = absurd (omega arith)
-rows-some next (p ∷ []) e h = absurd (true≢false (sym e))
-rows-some next (p ∷ w ∷ rows) e h = omega arith
-
-pub read-right : (t : List ℕ) (k : ℕ) → readEngines t .ended ≡ Taken k → rowsRight (powersOf (readEngines t .numbers)) (weightsOf (readEngines t .numbers)) ≡ true
-read-right t k e =
-    let w = reads-written t k e in
-    let rows : List ℕ = readEngines t .numbers in
-    sym (rows-judged (powersOf rows) (weightsOf rows) (rows-even 1 rows (w .within)) (rows-some 1 rows (w .within) (w .some)) (w .few)) ∙ rows-rise 1 rows (w .within)
+pub read-right : (t : List ℕ) (k : ℕ) (rs : Rows) → readEngines t ≡ took k rs
+    → rowsRight (powersOf rs) (weightsOf rs) ≡ true
+read-right t k rs e =
+    let p = engines-held rs (reads-written t k rs e .within) in
+    let a = powers-length rs in
+    let even = a ∙ sym (weights-length rs) in
+    sym (rows-judged (powersOf rs) (weightsOf rs) even (omega (arith, p .many)) (omega (arith, p .few)))
+    ∙ rows-rise rs 0 1 refl (p .held)

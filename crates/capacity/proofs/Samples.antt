@@ -12,8 +12,11 @@ use Rattle.text.specs.Limit.{allHold}
 use Rattle.text.specs.Line.{readEntry, readNumbers, readLine}
 use Rattle.text.proofs.Examples.{upFrom}
 use Rattle.answers.specs.declared.Answer.the-variants.{Refused}
+use Rattle.form.specs.Parts.{kindOf, numbersOf}
+use Rattle.form.specs.Outcome.{took}
+use Rattle.form.specs.Reading.{readRows, readParts, readForm}
 use Rattle.sheet.specs.Sheet.{limitsOn, sheetLimits}
-use Rattle.sheet.specs.Reading.{readLines, readFits, readEnd, readRest, readSheet}
+use Rattle.sheet.specs.SheetText.{sheetForm, weightsFrom, fitsOf, numbersOn, readSheet}
 use Rattle.capacity.specs.Words.{hullLength, reference, transomWidth, transomHeight, flatBottom, remote, station, aft, well, flooding, bare, fuel, machinery, outboard, declared, positions, tested, fittingsOf}
 use Rattle.capacity.specs.Volume.{stationProduct, summed, volumeN, netZ}
 use Rattle.capacity.specs.Weights.{addedUp, boatM}
@@ -74,8 +77,9 @@ printed =
     bytes "HULL\t0\nFORM\t4500\t4000\t1200\t500\t0\t1\nSTN\tQ\t1000\t500\t500\t500\t500\t500\t500\nSTN\tR\t1000\t500\t500\t500\t500\t500\t500\nSTN\tS\t1000\t500\t500\t500\t500\t500\t500\nSTN\tT\t1000\t500\t500\t500\t500\t500\t500\n"
     ++ bytes "VOL\t0\t0\t0\nMASS\t200000\t0\t0\nPWR\t1\t20000\nSEAT\t5\t3\nFIT\t1\t3334\nEND\n"
 
-base-right : readSheet printed .numbers ≡ 0 ∷ seated 3 20000 200000 3334
-unfolding printed seated words readSheet readLines readLine agreed readNumbers readEntry fieldOf numberOf restOf readRest readFits readEnd
+base-right : readSheet printed ≡ took 237 (0 ∷ seated 3 20000 200000 3334)
+unfolding printed seated words readSheet sheetForm numbersOn numbersOf fitsOf weightsFrom
+    readForm readParts readRows kindOf readLine agreed readNumbers readEntry fieldOf numberOf restOf
 base-right = refl
 
 -- ---- ours

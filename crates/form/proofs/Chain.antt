@@ -12,7 +12,10 @@ lost-not-found e = let z : _≡_ {A = ℕ} 0 1 = cc in absurd (omega arith)
 
 module _ {A : Type 0} where
   -- the text x gave a, and the text after it gives the rest
-  pub chain-forth : (p : Found A) (next : A → List ℕ → Found (List A)) (x rest : List ℕ) (a : A) (xs : List A) (j : ℕ) → p ≡ took (length x) a → next a rest ≡ took j xs → chained p next (x ++ rest) ≡ took (length x + j) (a ∷ xs)
+  pub chain-forth : (p : Found A) (next : A → List ℕ → Found (List A)) (x rest : List ℕ) (a : A) (xs : List A) (j : ℕ)
+      → p ≡ took (length x) a
+      → next a rest ≡ took j xs
+      → chained p next (x ++ rest) ≡ took (length x + j) (a ∷ xs)
   chain-forth p next x rest a xs j e f = rw (e, drop-append-seam x rest, f)
 
   -- the two pieces of what was found
@@ -26,10 +29,13 @@ module _ {A : Type 0} where
     pub both : k ≡ first + rest
     pub all : xs ≡ a ∷ more
 
-  pub chain-back : (p : Found A) (next : A → List ℕ → Found (List A)) (t : List ℕ) (k : ℕ) (xs : List A) → chained p next t ≡ took k xs → Pieces p next t k xs
+  pub chain-back : (p : Found A) (next : A → List ℕ → Found (List A)) (t : List ℕ) (k : ℕ) (xs : List A)
+      → chained p next t ≡ took k xs
+      → Pieces p next t k xs
   chain-back (lost number at) next t k xs e = absurd (lost-not-found e)
   chain-back (took j a) next t k xs e = go (next a (drop j t)) refl e
     where
       go : (q : Found (List A)) → next a (drop j t) ≡ q → ahead j a q ≡ took k xs → Pieces (took j a) next t k xs
-      go (took i ys) f d = record { first = j; rest = i; a = a; more = ys; first-found = refl; rest-found = f; both = cc; all = cc }
+      go (took i ys) f d =
+          record { first = j; rest = i; a = a; more = ys; first-found = refl; rest-found = f; both = cc; all = cc }
       go (lost number at) f d = absurd (lost-not-found d)

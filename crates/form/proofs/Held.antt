@@ -13,15 +13,19 @@ use Rattle.ground.proofs.Booleans.{both-hold}
 use Rattle.form.specs.Parts.{Part, Row, Rows, letterOf, kindOf, risen}
 use Rattle.form.specs.Writing.{rowOk, rowsOk, partOk}
 
-pub row-held : (p : Part) (next : ℕ) (r : Row) (l : Line) → kindOf (p .kinds) (r .letter) ≡ some l → rowOk p next r ≡ allHold (risen (p .rising) next (l .limits)) 0 (r .numbers)
+pub row-held : (p : Part) (next : ℕ) (r : Row) (l : Line) → kindOf (p .kinds) (r .letter) ≡ some l
+    → rowOk p next r ≡ allHold (risen (p .rising) next (l .limits)) 0 (r .numbers)
 row-held p next r l e = rw (e, rowOk)
 
 -- a row of a part that has one kind
-pub only-held : (p : Part) (l : Line) (next : ℕ) (r : Row) → p .kinds ≡ l ∷ [] → rowOk p next r ≡ true → (r .letter ≡ letterOf l) × (allHold (risen (p .rising) next (l .limits)) 0 (r .numbers) ≡ true)
+pub only-held : (p : Part) (l : Line) (next : ℕ) (r : Row) → p .kinds ≡ l ∷ []
+    → rowOk p next r ≡ true
+    → (r .letter ≡ letterOf l) × (allHold (risen (p .rising) next (l .limits)) 0 (r .numbers) ≡ true)
 unfolding kindOf
 only-held p l next r q h = go (eqb (r .letter) (letterOf l)) refl
   where
-    go : (u : Bool) → eqb (r .letter) (letterOf l) ≡ u → (r .letter ≡ letterOf l) × (allHold (risen (p .rising) next (l .limits)) 0 (r .numbers) ≡ true)
+    go : (u : Bool) → eqb (r .letter) (letterOf l) ≡ u
+        → (r .letter ≡ letterOf l) × (allHold (risen (p .rising) next (l .limits)) 0 (r .numbers) ≡ true)
     go true e =
         let k : kindOf (p .kinds) (r .letter) ≡ some l = rw (q, e, kindOf) in
         (eqb-true (r .letter) (letterOf l) e, sym (row-held p next r l k) ∙ h)

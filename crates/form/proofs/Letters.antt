@@ -4,9 +4,10 @@ use mathlib.Core.Bool.{Bool, true, false, true≢false, _&&_}
 use mathlib.Core.List.{List, [], _∷_, _++_}
 use mathlib.Core.Option.{Option, none, some, Option·none-ne-some, Option·some-injective}
 use Prim.Native.Nat.{ℕ}
-use borrow.Author.Tests.{eq-eqb, eqb-true}
+use borrow.Author.Tests.{eqb-true}
 use lib.Dec.{eqb, ltb}
 use lib.ListN.{length, getD}
+use Rattle.text.specs.Field.{begins}
 use Rattle.text.specs.Limit.{Limit}
 use Rattle.text.specs.Line.{Line, numbersText, lineText}
 use Rattle.ground.proofs.Booleans.{both-hold}
@@ -40,36 +41,35 @@ kindsMade (l ∷ ls) = (lineMade l && absent (kindOf ls (letterOf l))) && kindsM
 pub kind-made : (ls : List Line) (b : ℕ) (l : Line) → kindsMade ls ≡ true → kindOf ls b ≡ some l → lineMade l ≡ true
 unfolding kindOf kindsMade
 kind-made [] b l h e = absurd (Option·none-ne-some l e)
-kind-made (m ∷ ls) b l h e = let p = both-hold (lineMade m && absent (kindOf ls (letterOf m))) (kindsMade ls) h in go (eqb b (letterOf m)) refl (both-hold (lineMade m) (absent (kindOf ls (letterOf m))) (p .0) .0) (kind-made ls b l (p .1))
+kind-made (m ∷ ls) b l h e =
+    let p = both-hold (lineMade m && absent (kindOf ls (letterOf m))) (kindsMade ls) h in
+    let q = both-hold (lineMade m) (absent (kindOf ls (letterOf m))) (p .0) in
+    go (eqb b (letterOf m)) refl (q .0) (kind-made ls b l (p .1))
   where
-    go : (u : Bool) → eqb b (letterOf m) ≡ u → lineMade m ≡ true → (kindOf ls b ≡ some l → lineMade l ≡ true) → lineMade l ≡ true
+    go : (u : Bool) → eqb b (letterOf m) ≡ u
+        → lineMade m ≡ true
+        → (kindOf ls b ≡ some l → lineMade l ≡ true)
+        → lineMade l ≡ true
     go true d h ih = rw (Option·some-injective m l (rw (d, kindOf) at e)) at h
     go false d h ih = ih (rw (d, kindOf) at e)
 
--- every kind is told by its letter
-pub kind-told : (ms : List Line) (l : Line) (ls : List Line) → kindsMade (ms ++ (l ∷ ls)) ≡ true → kindOf (ms ++ (l ∷ ls)) (letterOf l) ≡ some l
-unfolding kindOf kindsMade
-kind-told [] l ls h = rw (eq-eqb (letterOf l) (letterOf l) refl, kindOf)
-kind-told (m ∷ ms) l ls h =
-    let p = both-hold (lineMade m && absent (kindOf (ms ++ (l ∷ ls)) (letterOf m))) (kindsMade (ms ++ (l ∷ ls))) h in
-    go (eqb (letterOf l) (letterOf m)) refl (both-hold (lineMade m) (absent (kindOf (ms ++ (l ∷ ls)) (letterOf m))) (p .0) .1) (kind-told ms l ls (p .1))
-  where
-    go : (u : Bool) → eqb (letterOf l) (letterOf m) ≡ u → absent (kindOf (ms ++ (l ∷ ls)) (letterOf m)) ≡ true → kindOf (ms ++ (l ∷ ls)) (letterOf l) ≡ some l → kindOf (m ∷ (ms ++ (l ∷ ls))) (letterOf l) ≡ some l
-    go true d a ih = absurd (true≢false (sym (rw (← eqb-true (letterOf l) (letterOf m) d, ih) at a)))
-    go false d a ih = rw (d, kindOf) ih
-
-tag-at : (kinds : List Line) (tag x rest : List ℕ) → ltb 0 (length tag) ≡ true → kindAt kinds ((tag ++ x) ++ rest) ≡ kindOf kinds (getD tag 0 0)
+tag-at : (kinds : List Line) (tag x rest : List ℕ) → ltb 0 (length tag) ≡ true
+    → kindAt kinds ((tag ++ x) ++ rest) ≡ kindOf kinds (getD tag 0 0)
 tag-at kinds [] x rest h = absurd (true≢false (sym h))
 tag-at kinds (b ∷ tag) x rest h = refl
 
 -- a line's text begins as the line's kind
-pub line-at : (kinds : List Line) (l : Line) (ns rest : List ℕ) → lineMade l ≡ true → kindAt kinds (lineText l ns ++ rest) ≡ kindOf kinds (letterOf l)
+pub line-at : (kinds : List Line) (l : Line) (ns rest : List ℕ) → lineMade l ≡ true
+    → kindAt kinds (lineText l ns ++ rest) ≡ kindOf kinds (letterOf l)
 unfolding lineMade
-line-at kinds l ns rest h = tag-at kinds (l .tag) (numbersText (l .limits) ns) rest (both-hold (ltb 0 (length (l .tag))) (narrow (l .limits)) h .0)
+line-at kinds l ns rest h =
+    tag-at kinds (l .tag) (numbersText (l .limits) ns) rest
+    (both-hold (ltb 0 (length (l .tag))) (narrow (l .limits)) h .0)
 
 -- ---- a raised line
 
-risen-text : (up : Bool) (next : ℕ) (ls : List Limit) (ns : List ℕ) → numbersText (risen up next ls) ns ≡ numbersText ls ns
+risen-text : (up : Bool) (next : ℕ) (ls : List Limit) (ns : List ℕ)
+    → numbersText (risen up next ls) ns ≡ numbersText ls ns
 unfolding numbersText
 risen-text false next ls ns = refl
 risen-text true next [] ns = refl
@@ -87,4 +87,17 @@ risen-narrow true next (l ∷ ls) = refl
 
 pub raised-narrow : (up : Bool) (next : ℕ) (l : Line) → lineMade l ≡ true → narrow (raised up next l .limits) ≡ true
 unfolding lineMade
-raised-narrow up next l h = risen-narrow up next (l .limits) ∙ both-hold (ltb 0 (length (l .tag))) (narrow (l .limits)) h .1
+raised-narrow up next l h =
+    risen-narrow up next (l .limits) ∙ both-hold (ltb 0 (length (l .tag))) (narrow (l .limits)) h .1
+
+-- ---- a text that begins as a line of one kind, or does not
+
+pub kind-here : (l : Line) (t : List ℕ) → begins (letterOf l) t ≡ true → kindAt (l ∷ []) t ≡ some l
+unfolding kindOf
+kind-here l [] e = absurd (true≢false (sym e))
+kind-here l (b ∷ t) e = rw (e, kindOf)
+
+pub kind-away : (l : Line) (t : List ℕ) → begins (letterOf l) t ≡ false → kindAt (l ∷ []) t ≡ none
+unfolding kindOf
+kind-away l [] e = refl
+kind-away l (b ∷ t) e = rw (e, kindOf)

@@ -8,7 +8,8 @@ use lib.ListN.{getD}
 use Rattle.text.specs.Limit.{Limit, limit}
 use Rattle.text.specs.Line.{Line}
 
--- from least to most lines, each of one of the kinds, told by its first byte; where they rise, each line's first number is above the one of the line before
+-- from least to most lines, each of one of the kinds, told by its first byte; where they rise, each line's first number
+-- is above the one of the line before
 pub record Part : Type 0 where
   pub least : ℕ
   pub most : ℕ

@@ -1,4 +1,5 @@
--- Reading a text of any form: part after part from the top, and of each part as many lines as there are, but no more than may be; then nothing.
+-- Reading a text of any form: part after part from the top, and of each part as many lines as there are, but no more
+-- than may be; then nothing.
 use Prim.Native.Nat.{ℕ, zero, suc, _-_}
 use mathlib.Core.Bool.{Bool, cond}
 use mathlib.Core.List.{List, [], _∷_}

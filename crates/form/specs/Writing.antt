@@ -12,7 +12,11 @@ use Rattle.form.specs.Parts.{Part, Form, Row, Rows, kindOf, risen, nextA
 -- ---- which rows
 
 abbrev pub rowOk : Part → ℕ → Row → Bool
-rowOk p next r = elim (kindOf (p .kinds) (r .letter)) [ none ↦ false | some l ↦ allHold (risen (p .rising) next (l .limits)) 0 (r .numbers) ]
+rowOk p next r =
+    elim (kindOf (p .kinds) (r .letter)) [
+      | none ↦ false
+      | some l ↦ allHold (risen (p .rising) next (l .limits)) 0 (r .numbers)
+    ]
 
 unfoldable pub rowsOk : Part → ℕ → Rows → Bool
 rowsOk p next [] = true

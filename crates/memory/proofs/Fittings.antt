@@ -13,10 +13,9 @@ use Rattle.text.specs.Limit.{Limit, holds, allHold}
 use Rattle.ground.proofs.Booleans.{both-hold}
 use Rattle.text.proofs.Limit.{hold-length}
 use Rattle.sheet.specs.Lines.{lines, fittings, fittingHigh}
-use Rattle.sheet.specs.Sheet.{limitsOn, sheetLimits, wordsOk}
+use Rattle.sheet.specs.Sheet.{limitsOn, fitLimit, sheetLimits, wordsOk}
 use Rattle.sheet.specs.Places.{sheetWords}
 use Rattle.sheet.proofs.Held.{opens, hold-free}
-use Rattle.sheet.proofs.Most.{fitLimit}
 
 -- ---- one number changed among many
 

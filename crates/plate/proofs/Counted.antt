@@ -16,7 +16,7 @@ use Rattle.answers.specs.declared.Answer.{Answer}
 use Rattle.answers.specs.declared.Answer.the-variants.{Count}
 use Rattle.answers.proofs.Answer as answer
 use Rattle.printout.specs.Printed.{printed, printAnswer, printInto}
-use Rattle.printout.proofs.Printed.{mostPrinted, printed-most}
+use Rattle.printout.proofs.Most.{mostPrinted, printed-most}
 use Rattle.printout.proofs.PrintCall.{room-enough}
 
 module _ (t o : List ℕ) (room : mostPrinted ≤ length o) where

@@ -1,4 +1,4 @@
--- Worked inputs, computed: 01's printed sample, and the inputs where a program slips. Assumes nothing.
+-- Worked inputs, computed: 01's printed sample, and the inputs where a program slips.
 use mathlib.Core.Path.{_≡_, refl}
 use mathlib.Core.List.{List, [], _∷_, _++_, map}
 use mathlib.Core.Bool.{true}
@@ -9,11 +9,14 @@ use Rattle.text.specs.Quoted.{bytes}
 use Rattle.text.specs.Field.{fieldOf, agreed}
 use Rattle.text.specs.Number.{restOf, numberOf, digitsIn, digitsOf}
 use Rattle.text.specs.Line.{readEntry, readNumbers, readLine, numbersText}
-use Rattle.sheet.specs.Reading.{readLines, readFits, readEnd, readRest, readSheet}
-use Rattle.sheet.specs.Engines.{readRows, readEngines}
+use Rattle.form.specs.Parts.{kindOf, numbersOf}
+use Rattle.form.specs.Reading.{readRows, readParts, readForm}
+use Rattle.sheet.specs.SheetText.{sheetForm, weightsFrom, fitsOf, numbersOn, readSheet}
+use Rattle.sheet.specs.EngineText.{engineForm, readEngines}
 use Rattle.capacity.specs.Volume.{stationProduct, volumeN, netZ}
 use Rattle.capacity.specs.Weights.{addedUp, boatM}
-use Rattle.capacity.specs.PlateC.{exactX, markedC, rising, rowsRight, rowFor, noRow, engineWeight, liveLoad, persons, untested, plateC}
+use Rattle.capacity.specs.PlateC.{exactX, markedC, rising, rowsRight, rowFor, noRow, engineWeight}
+use Rattle.capacity.specs.PlateC.{liveLoad, persons, untested, plateC}
 use Rattle.capacity.specs.PlateA.{inboardX, loadX, markedA, formulaWatts, powerA, plateA}
 use Rattle.printout.specs.Input.{sheetBytes}
 use Rattle.printout.specs.Printed.{platesText, rowsPrinted, printed}
@@ -21,8 +24,10 @@ use Rattle.printout.specs.Printed.{platesText, rowsPrinted, printed}
 -- 01's sheet with another FORM line and another boat, and then engine lines
 withForm : String → String → String → List ℕ
 withForm form mass engines =
-    bytes "HULL\t0\n" ++ (bytes form ++ (bytes "STN\tQ\t1000\t500\t500\t500\t500\t500\t500\nSTN\tR\t1000\t500\t500\t500\t500\t500\t500\nSTN\tS\t1000\t500\t500\t500\t500\t500\t500\nSTN\tT\t1000\t500\t500\t500\t500\t500\t500\nVOL\t0\t0\t0\n"
-    ++ (bytes mass ++ (bytes "PWR\t1\t20000\nSEAT\t5\t3\nFIT\t1\t3334\nEND\n" ++ bytes engines))))
+    bytes "HULL\t0\n" ++ (bytes form
+    ++ (bytes "STN\tQ\t1000\t500\t500\t500\t500\t500\t500\nSTN\tR\t1000\t500\t500\t500\t500\t500\t500\n"
+    ++ (bytes "STN\tS\t1000\t500\t500\t500\t500\t500\t500\nSTN\tT\t1000\t500\t500\t500\t500\t500\t500\nVOL\t0\t0\t0\n"
+    ++ (bytes mass ++ (bytes "PWR\t1\t20000\nSEAT\t5\t3\nFIT\t1\t3334\nEND\n" ++ bytes engines)))))
 
 withBoat : String → String → List ℕ
 withBoat = withForm "FORM\t4500\t4000\t1200\t500\t0\t1\n"
@@ -62,13 +67,18 @@ inputs-right :
     ∷ bytes "INPUT\t2\n" ∷ bytes "INPUT\t3\n"
     ∷ bytes "INPUT\t3\n" ∷ bytes "INPUT\t2\n"
     ∷ []
-unfolding inputs withForm withBoat printed rowsPrinted platesText sheetBytes readSheet readLines readLine agreed readNumbers readEntry fieldOf numberOf restOf readRest readFits readEnd readEngines readRows numbersText digitsOf digitsIn stationProduct volumeN netZ addedUp boatM exactX markedC rising rowsRight rowFor noRow engineWeight liveLoad persons untested plateC inboardX loadX markedA formulaWatts powerA plateA
+unfolding inputs withForm withBoat printed rowsPrinted platesText sheetBytes numbersText digitsOf digitsIn
+    readSheet sheetForm numbersOn numbersOf fitsOf weightsFrom readEngines engineForm
+    readForm readParts readRows kindOf readLine agreed readNumbers readEntry fieldOf numberOf restOf
+    stationProduct volumeN netZ addedUp boatM exactX markedC rising rowsRight rowFor noRow engineWeight liveLoad persons
+    untested plateC inboardX loadX markedA formulaWatts powerA plateA
 inputs-right = refl
 
 -- ---- where the sheet ends
 
 starts : List (List ℕ)
-starts = bytes "END\nEND\n" ∷ bytes "FIT\t1\t5\nEND\nENG" ∷ bytes "xEND\nEND\n" ∷ bytes "END \nEND\n" ∷ bytes "END" ∷ [] ∷ []
+starts =
+    bytes "END\nEND\n" ∷ bytes "FIT\t1\t5\nEND\nENG" ∷ bytes "xEND\nEND\n" ∷ bytes "END \nEND\n" ∷ bytes "END" ∷ [] ∷ []
 
 ends-right : map (sheetBytes true) starts ≡ 4 ∷ 12 ∷ 9 ∷ 9 ∷ 3 ∷ 0 ∷ []
 unfolding starts sheetBytes agreed

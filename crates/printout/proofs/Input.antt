@@ -1,4 +1,4 @@
--- Laws of where the sheet in an input ends: byte by byte, and within the input. Assumes nothing.
+-- Laws of where the sheet in an input ends: byte by byte, and within the input.
 use mathlib.Core.Path.{_≡_, refl, sym, ap, _∙_}
 use mathlib.Core.Bool.{Bool, true, false, true≢false, _&&_}
 use mathlib.Core.List.{List, [], _∷_}
@@ -25,7 +25,8 @@ ends-first : (starting : Bool) (b : ℕ) (t : List ℕ) → ends starting (b ∷
 unfolding sheetBytes
 ends-first starting b t e = rw (e, sheetBytes) refl
 
-ends-later : (starting : Bool) (b : ℕ) (t : List ℕ) → ends starting (b ∷ t) ≡ false → sheetBytes starting (b ∷ t) ≡ suc (sheetBytes (eqb b feed) t)
+ends-later : (starting : Bool) (b : ℕ) (t : List ℕ) → ends starting (b ∷ t) ≡ false
+    → sheetBytes starting (b ∷ t) ≡ suc (sheetBytes (eqb b feed) t)
 unfolding sheetBytes
 ends-later starting b t e = rw (e, sheetBytes) refl
 
@@ -53,7 +54,9 @@ module _ (starting : Bool) (t : List ℕ) (i : ℕ) (h : i < length t) where
     alike = q ∙ ap (agreed (endLine .tag)) (rest-part t i)
 
     pub bytes-other : (same ≡ 4 → ⊥) → sheetBytes starting (drop i t) ≡ suc later
-    bytes-other n = more (second-fails starting (ne-eqb (agreed (endLine .tag) (drop i t)) 4 (λ (e : agreed (endLine .tag) (drop i t) ≡ 4). n (alike ∙ e))))
+    bytes-other n =
+        let k : ℕ = agreed (endLine .tag) (drop i t) in
+        more (second-fails starting (ne-eqb k 4 (λ (e : k ≡ 4). n (alike ∙ e))))
 
     pub end-in : same ≡ 4 → i + 4 ≤ length t
     end-in e = omega (arith, alike, agreed-fits (endLine .tag) (drop i t), length-drop i t)
@@ -75,6 +78,8 @@ unfolding sheetBytes
 bytes-most starting [] = omega arith
 bytes-most starting (b ∷ t) = go (ends starting (b ∷ t)) refl (bytes-most (eqb b feed) t)
   where
-    go : (u : Bool) → ends starting (b ∷ t) ≡ u → sheetBytes (eqb b feed) t ≤ length t → sheetBytes starting (b ∷ t) ≤ suc (length t)
+    go : (u : Bool) → ends starting (b ∷ t) ≡ u
+        → sheetBytes (eqb b feed) t ≤ length t
+        → sheetBytes starting (b ∷ t) ≤ suc (length t)
     go true e ih = omega (arith, ends-first starting b t e, ends-fits starting (b ∷ t) e)
     go false e ih = omega (arith, ends-later starting b t e)

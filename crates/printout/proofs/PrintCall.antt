@@ -1,4 +1,4 @@
--- What the call that prints answers and leaves. Assumes nothing.
+-- What the call that prints answers and leaves.
 use mathlib.Core.Path.{_≡_, refl, sym, ap, _∙_}
 use mathlib.Core.Bool.{Bool, true, false, cond}
 use mathlib.Core.List.{List, _++_}
@@ -18,9 +18,9 @@ use Rattle.answers.specs.Refusals.{noRoom}
 use Rattle.answers.proofs.Outcomes.{one-outcome}
 use Rattle.ground.proofs.Booleans.{false-true}
 use Rattle.answers.specs.Values.{isRefusal}
-use Rattle.sheet.proofs.Written.{laid-length}
+use Rattle.text.proofs.Laid.{laid-length}
 use Rattle.printout.specs.Printed.{printed, printAnswer, printInto}
-use Rattle.printout.proofs.Printed.{mostPrinted, printed-most}
+use Rattle.printout.proofs.Most.{mostPrinted, printed-most}
 
 module _ (t o : List ℕ) {zeros bs : List ℕ} {len : ℕ} (p : Laid (printed t) zeros 0 len bs) where
   counted : len ≡ length (printed t)
@@ -29,10 +29,11 @@ module _ (t o : List ℕ) {zeros bs : List ℕ} {len : ℕ} (p : Laid (printed t
   pub print-most : len ≤ mostPrinted
   print-most = omega (arith, counted, printed-most t)
 
-  pub settled-short : length o < len → Settled (printAnswer t (length o)) (printInto t o) (Refused 16) o
+  pub settled-short : length o < len → Settled (printAnswer t (length o)) (printInto t o) (Refused noRoom) o
   unfolding printAnswer printInto
   settled-short h =
-      let n : leb (length (printed t)) (length o) ≡ false = lt-leb (length (printed t)) (length o) (omega (arith, counted)) in
+      let m : ℕ = length (printed t) in
+      let n : leb m (length o) ≡ false = lt-leb m (length o) (omega (arith, counted)) in
       record { answered = rw n; kept = rw n }
 
   module _ (r : length zeros ≡ mostPrinted) where
@@ -41,13 +42,19 @@ module _ (t o : List ℕ) {zeros bs : List ℕ} {len : ℕ} (p : Laid (printed t
 
     -- the first bytes that were laid are the print
     first-laid : take len bs ≡ printed t
-    first-laid = ap (take len) (p .laid ∙ sets-start zeros (printed t) (omega (arith, printed-most t))) ∙ take-at (printed t) (drop (length (printed t)) zeros) len (sym counted)
+    first-laid =
+        ap (take len) (p .laid ∙ sets-start zeros (printed t) (omega (arith, printed-most t)))
+        ∙ take-at (printed t) (drop (length (printed t)) zeros) len (sym counted)
 
-    pub settled-print : {o₁ : List ℕ} → len ≤ length o → o₁ ≡ sets o 0 (take len bs) → Settled (printAnswer t (length o)) (printInto t o) (Count len) o₁
+    pub settled-print : {o₁ : List ℕ} → len ≤ length o
+        → o₁ ≡ sets o 0 (take len bs)
+        → Settled (printAnswer t (length o)) (printInto t o) (Count len) o₁
     unfolding printAnswer printInto
     settled-print {o₁} h w =
-        let n : leb (length (printed t)) (length o) ≡ true = le-leb (length (printed t)) (length o) (omega (arith, counted)) in
-        let q : o₁ ≡ printed t ++ drop (length (printed t)) o = w ∙ ap (sets o 0) first-laid ∙ sets-start o (printed t) (omega (arith, counted)) in
+        let m : ℕ = length (printed t) in
+        let n : leb m (length o) ≡ true = le-leb m (length o) (omega (arith, counted)) in
+        let q : o₁ ≡ printed t ++ drop m o =
+        w ∙ ap (sets o 0) first-laid ∙ sets-start o (printed t) (omega (arith, counted)) in
         record { answered = rw (n, counted); kept = rw n q }
 
 -- room for the longest print is room for any
@@ -60,10 +67,14 @@ pub print-refused : (t out : List ℕ) → isRefusal (printAnswer t (length out)
 unfolding printAnswer printInto
 print-refused t out = go (leb (length (printed t)) (length out))
   where
-    go : (b : Bool) → isRefusal (cond b (Count (length (printed t))) (Refused noRoom)) ≡ true → cond b (putFirst (printed t) out) out ≡ out
+    go : (b : Bool) → isRefusal (cond b (Count (length (printed t))) (Refused noRoom)) ≡ true
+        → cond b (putFirst (printed t) out) out ≡ out
     go true e = false-true e
     go false e = refl
 
 -- two outcomes that the call's promise allows are equal
-pub one-print-plates : (t o : List ℕ) {r q : Answer} {x y : List ℕ} → Settled (printAnswer t (length o)) (printInto t o) r x → Settled (printAnswer t (length o)) (printInto t o) q y → (r ≡ q) × (x ≡ y)
+pub one-print-plates : (t o : List ℕ) {r q : Answer} {x y : List ℕ}
+    → Settled (printAnswer t (length o)) (printInto t o) r x
+    → Settled (printAnswer t (length o)) (printInto t o) q y
+    → (r ≡ q) × (x ≡ y)
 one-print-plates t o = one-outcome

@@ -1,47 +1,27 @@
--- What is printed, path by path; and it is never longer than 60 bytes, two lines of two figures of ten digits each. Assumes nothing.
+-- What is printed, path by path.
 use mathlib.Core.Path.{_≡_, refl}
-use mathlib.Core.Bool.{Bool, true, false, not}
-use mathlib.Core.Logic.{_⊎_, inl, inr}
-use mathlib.Core.List.{List, [], _∷_, _++_}
-use Prim.Native.Nat.{ℕ, _+_, _≤_, _<_}
-use native.Mathlib.Omega.{arith}
-use borrow.Author.Tests.{lt-ltb, le-ltb, ltb-true, ltb-false}
-use lib.Dec.{ltb}
-use lib.ListN.{length, drop, length-append}
-use Rattle.text.specs.declared.LineRead.{LineRead}
-use Rattle.text.specs.declared.LineRead.the-variants.{Taken, Fault}
-use Rattle.text.specs.Quoted.{bytes}
-use Rattle.text.specs.Number.{elevenDigits, digitsOf}
-use Rattle.text.specs.Line.{numbersText, lineText}
-use Rattle.text.proofs.Number.{length-digits-ten}
-use Rattle.ground.proofs.Booleans.{either}
-use Rattle.answers.specs.declared.Answer.{Answer}
-use Rattle.answers.specs.declared.Answer.the-variants.{Refused, Done, Count, Plate}
-use Rattle.sheet.specs.Reading.{readSheet}
-use Rattle.sheet.specs.Engines.{readEngines, powersOf, weightsOf}
+use mathlib.Core.List.{List}
+use Prim.Native.Nat.{ℕ, _≤_, _<_}
+use borrow.Author.Tests.{lt-ltb, le-ltb}
+use lib.ListN.{length, drop}
+use Rattle.form.specs.Parts.{Rows}
+use Rattle.form.specs.Outcome.{took, lost}
+use Rattle.sheet.specs.SheetText.{readSheet}
+use Rattle.sheet.specs.EngineText.{readEngines, powersOf, weightsOf}
 use Rattle.sheet.proofs.Words.{words-of}
-use Rattle.sheet.proofs.SheetTrip.{reads-written}
-use Rattle.sheet.proofs.Faults.{sheet-fault}
-use Rattle.sheet.proofs.EngineFaults.{engines-fault}
-use Rattle.capacity.specs.Whole.{isBelow}
-use Rattle.capacity.specs.PlateA.{markedA, noPower, plateA}
-use Rattle.capacity.specs.PlateC.{markedC, rowsRight, noRow, liveLoad, untested, persons, plateC}
+use Rattle.sheet.proofs.SheetText.{reads-written}
 use Rattle.capacity.specs.Bounds.{Bounds}
 use Rattle.capacity.proofs.Within.{within-bounds}
-use Rattle.capacity.proofs.Loads.{marked-most, c-most}
-use Rattle.capacity.proofs.Power.{power-most}
-use Rattle.capacity.proofs.Persons.{persons-most}
 use Rattle.printout.specs.Input.{mostInput, sheetPart, enginePart}
-use Rattle.printout.specs.Printed.{figures, inputText, plateText, platesText, rowsPrinted, printed}
-
--- ---- path by path
+use Rattle.printout.specs.Printed.{inputText, platesText, rowsPrinted, printed}
 
 module _ (s t : List ℕ) where
-  pub rows-fault : {number at : ℕ} → readEngines t .ended ≡ Fault number at → rowsPrinted s t ≡ inputText number
+  pub rows-fault : {number at : ℕ} → readEngines t ≡ lost number at → rowsPrinted s t ≡ inputText number
   unfolding rowsPrinted
   rows-fault e = rw (e, rowsPrinted) refl
 
-  pub rows-plates : {k : ℕ} → readEngines t .ended ≡ Taken k → rowsPrinted s t ≡ platesText s (powersOf (readEngines t .numbers)) (weightsOf (readEngines t .numbers))
+  pub rows-plates : {k : ℕ} {rows : Rows} → readEngines t ≡ took k rows
+      → rowsPrinted s t ≡ platesText s (powersOf rows) (weightsOf rows)
   unfolding rowsPrinted
   rows-plates e = rw (e, rowsPrinted) refl
 
@@ -50,95 +30,15 @@ unfolding printed
 printed-long t h = rw (lt-ltb mostInput (length t) h) refl
 
 module _ (t : List ℕ) (h : length t ≤ mostInput) where
-  pub printed-fault : {number at : ℕ} → readSheet (sheetPart t) .ended ≡ Fault number at → printed t ≡ inputText number
+  pub printed-fault : {number at : ℕ} → readSheet (sheetPart t) ≡ lost number at → printed t ≡ inputText number
   unfolding printed
   printed-fault e = rw (le-ltb mostInput (length t) h, e) refl
 
-  pub printed-rows : {k : ℕ} → readSheet (sheetPart t) .ended ≡ Taken k → printed t ≡ rowsPrinted (drop 1 (readSheet (sheetPart t) .numbers)) (enginePart t)
+  pub printed-rows : {k : ℕ} {s : List ℕ} → readSheet (sheetPart t) ≡ took k s
+      → printed t ≡ rowsPrinted (drop 1 s) (enginePart t)
   unfolding printed
   printed-rows e = rw (le-ltb mostInput (length t) h, e) refl
 
 -- the words of a sheet that was read keep to the plates' bounds
-pub read-bounds : (t : List ℕ) (k : ℕ) → readSheet t .ended ≡ Taken k → Bounds (drop 1 (readSheet t .numbers))
-read-bounds t k e = within-bounds (drop 1 (readSheet t .numbers)) (words-of (readSheet t .numbers) (reads-written t k e .within))
-
--- ---- lengths
-
-abbrev pub mostPrinted : ℕ
-mostPrinted = 60
-
-one-length : (tag : List ℕ) (n : ℕ) → length (lineText (figures tag 1) (n ∷ [])) ≡ length tag + (length (digitsOf n) + 1)
-unfolding numbersText
-one-length tag n = omega (arith, length-append tag (digitsOf n ++ (10 ∷ [])), length-append (digitsOf n) (10 ∷ []))
-
-two-length : (tag : List ℕ) (a b : ℕ) → length (lineText (figures tag 2) (a ∷ b ∷ [])) ≡ length tag + (length (digitsOf a) + (length (digitsOf b) + 2))
-unfolding numbersText
-two-length tag a b =
-    let rest : List ℕ = digitsOf b ++ (10 ∷ []) in
-    omega (arith, length-append tag (digitsOf a ++ (9 ∷ rest)), length-append (digitsOf a) (9 ∷ rest), length-append (digitsOf b) (10 ∷ []))
-
--- a text's refusal is 2 or 3
-low : {number : ℕ} → (number ≡ 2) ⊎ (number ≡ 3) → number ≤ 3
-low (inl e) = omega arith
-low (inr e) = omega arith
-
-input-most : (number : ℕ) → number ≤ 3 → length (inputText number) ≤ mostPrinted
-input-most number h = omega (arith, one-length (bytes "INPUT\t") number, length-digits-ten number (omega arith))
-
--- a plate's figures together, or its refusal
-abbrev sumOf : Answer → ℕ
-sumOf (Refused number) = number
-sumOf Done = 0
-sumOf (Count n) = 0
-sumOf (Plate load figure) = load + figure
-
--- a plate's line, of any letters
-plate-most : (l k : ℕ) (a : Answer) → sumOf a < elevenDigits → length (plateText (bytes "PLATE\t" ++ (l ∷ 9 ∷ [])) (bytes "REFUSED\t" ++ (k ∷ 9 ∷ [])) a) ≤ 30
-plate-most l k (Refused number) h = omega (arith, one-length (bytes "REFUSED\t" ++ (k ∷ 9 ∷ [])) number, length-digits-ten number h)
-plate-most l k Done h = omega arith
-plate-most l k (Count n) h = omega arith
-plate-most l k (Plate a b) h = omega (arith, two-length (bytes "PLATE\t" ++ (l ∷ 9 ∷ [])) a b, length-digits-ten a (omega arith), length-digits-ten b (omega arith))
-
-both-most : (a b : ℕ) → a ≤ 30 → b ≤ 30 → a + b ≤ mostPrinted
-both-most a b h k = omega arith
-
-abbrev Low : Answer → Type 0
-Low a = sumOf a ≤ 320000
-
-module _ (s : List ℕ) (b : Bounds s) where
-  a-small : Low (plateA s)
-  unfolding plateA
-  a-small = either Low (isBelow (markedA s) 1) (omega arith) (either Low (noPower s) (omega arith) (omega (arith, marked-most s b, power-most s b)))
-
-  c-small : (ps ws : List ℕ) → Low (plateC s ps ws)
-  unfolding plateC
-  c-small ps ws =
-      either Low (not (rowsRight ps ws)) (omega arith)
-      (either Low (isBelow (markedC s) 1) (omega arith)
-      (either Low (noRow s ps) (omega arith)
-      (either Low (untested s (liveLoad s ps ws)) (omega arith)
-      (either Low (isBelow (persons s (liveLoad s ps ws)) 1) (omega arith) (omega (arith, c-most s b, persons-most s (liveLoad s ps ws) b))))))
-
-  plates-most : (ps ws : List ℕ) → length (platesText s ps ws) ≤ mostPrinted
-  unfolding platesText
-  plates-most ps ws =
-      rw length-append (both-most _ _ (plate-most _ _ (plateA s) (omega (arith, a-small))) (plate-most _ _ (plateC s ps ws) (omega (arith, c-small ps ws))))
-
-  rows-most : (t : List ℕ) → length (rowsPrinted s t) ≤ mostPrinted
-  rows-most t = go (readEngines t .ended) refl
-    where
-      go : (r : LineRead) → readEngines t .ended ≡ r → length (rowsPrinted s t) ≤ mostPrinted
-      go (Taken k) e = rw (rows-plates s t e) (plates-most (powersOf (readEngines t .numbers)) (weightsOf (readEngines t .numbers)))
-      go (Fault number at) e = rw (rows-fault s t e) (input-most number (low (engines-fault t number at e)))
-
--- of any input
-pub printed-most : (t : List ℕ) → length (printed t) ≤ mostPrinted
-printed-most t = go (ltb mostInput (length t)) refl
-  where
-    sheet : length t ≤ mostInput → (r : LineRead) → readSheet (sheetPart t) .ended ≡ r → length (printed t) ≤ mostPrinted
-    sheet h (Taken k) e = rw (printed-rows t h e) (rows-most (drop 1 (readSheet (sheetPart t) .numbers)) (read-bounds (sheetPart t) k e) (enginePart t))
-    sheet h (Fault number at) e = rw (printed-fault t h e) (input-most number (low (sheet-fault (sheetPart t) number at e)))
-
-    go : (u : Bool) → ltb mostInput (length t) ≡ u → length (printed t) ≤ mostPrinted
-    go true e = rw (printed-long t (ltb-true mostInput (length t) e)) (input-most 2 (omega arith))
-    go false e = sheet (ltb-false mostInput (length t) e) (readSheet (sheetPart t) .ended) refl
+pub read-bounds : (t : List ℕ) (k : ℕ) (s : List ℕ) → readSheet t ≡ took k s → Bounds (drop 1 s)
+read-bounds t k s e = within-bounds (drop 1 s) (words-of s (reads-written t k s e .within))

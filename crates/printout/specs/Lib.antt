@@ -1,3 +1,3 @@
 -- What the plate program prints.
-pub mod Input
-pub mod Printed
+pub mod Input  -- where the sheet in an input ends
+pub mod Printed  -- what is printed of an input

@@ -1,20 +1,19 @@
--- 01, Sample sheets, on what the program prints: a line for plate A and one for plate C, or one line for an input at fault, of the sheet before the engine rows.
--- As in a sheet, tabs part the fields and a line feed ends the line.
--- Assumes nothing: these are definitions.
+-- 01, Sample sheets, on what the program prints: a line for plate A and one for plate C, or one line for an input at
+-- fault, of the sheet before the engine rows. As in a sheet, tabs part the fields and a line feed ends the line.
 use Prim.Native.Nat.{ℕ}
 use mathlib.Core.Bool.{cond}
 use mathlib.Core.List.{List, [], _∷_, _++_}
 use lib.Dec.{leb, ltb}
 use lib.ListN.{length, drop, replicate}
-use Rattle.text.specs.declared.LineRead.the-variants.{Taken, Fault}
 use Rattle.text.specs.Quoted.{bytes}
 use Rattle.text.specs.Limit.{ranging}
 use Rattle.text.specs.Line.{Line, lineText}
 use Rattle.answers.specs.Refusals.{brokenLine, noRoom}
 use Rattle.answers.specs.declared.Answer.{Answer}
 use Rattle.answers.specs.declared.Answer.the-variants.{Refused, Done, Count, Plate}
-use Rattle.sheet.specs.Reading.{readSheet}
-use Rattle.sheet.specs.Engines.{readEngines, powersOf, weightsOf}
+use Rattle.form.specs.Outcome.{took, lost}
+use Rattle.sheet.specs.SheetText.{readSheet}
+use Rattle.sheet.specs.EngineText.{readEngines, powersOf, weightsOf}
 use Rattle.ground.specs.Lists.{putFirst}
 use Rattle.capacity.specs.PlateA.{plateA}
 use Rattle.capacity.specs.PlateC.{plateC}
@@ -35,20 +34,26 @@ plateText marked refused Done = []
 plateText marked refused (Count n) = []
 
 unfoldable pub platesText : List ℕ → List ℕ → List ℕ → List ℕ
-platesText s ps ws = plateText (bytes "PLATE\tA\t") (bytes "REFUSED\tA\t") (plateA s) ++ plateText (bytes "PLATE\tC\t") (bytes "REFUSED\tC\t") (plateC s ps ws)
+platesText s ps ws =
+    plateText (bytes "PLATE\tA\t") (bytes "REFUSED\tA\t") (plateA s)
+    ++ plateText (bytes "PLATE\tC\t") (bytes "REFUSED\tC\t") (plateC s ps ws)
 
 -- of a sheet's words and the bytes after it
 unfoldable pub rowsPrinted : List ℕ → List ℕ → List ℕ
 rowsPrinted s t =
-    let rows = readEngines t in
-    elim (rows .ended) [ Taken k ↦ platesText s (powersOf (rows .numbers)) (weightsOf (rows .numbers)) | Fault number at ↦ inputText number ]
+    elim (readEngines t) [
+      | took k rows ↦ platesText s (powersOf rows) (weightsOf rows)
+      | lost number at ↦ inputText number
+    ]
 
 -- what is printed of an input; the HULL number is not used
 unfoldable pub printed : List ℕ → List ℕ
 printed t =
-    let sheet = readSheet (sheetPart t) in
     cond (ltb mostInput (length t)) (inputText brokenLine)
-    (elim (sheet .ended) [ Taken k ↦ rowsPrinted (drop 1 (sheet .numbers)) (enginePart t) | Fault number at ↦ inputText number ])
+    (elim (readSheet (sheetPart t)) [
+      | took k s ↦ rowsPrinted (drop 1 s) (enginePart t)
+      | lost number at ↦ inputText number
+    ])
 
 -- ---- the call, into a lent buffer
 

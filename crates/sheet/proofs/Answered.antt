@@ -1,9 +1,8 @@
--- What the calls on texts answer, computed: accepted, refused, and with two refusals at once. Assumes nothing.
+-- What the calls on texts answer, computed: accepted, refused, and with two refusals at once.
 use mathlib.Core.Path.{_≡_, refl}
 use mathlib.Core.List.{List, [], _∷_, _++_, map}
 use Prim.Native.Nat.{ℕ}
 use lib.ListN.{replicate}
-use Rattle.text.specs.declared.LineRead.the-variants.{Taken, Fault}
 use Rattle.text.specs.Quoted.{bytes}
 use Rattle.text.specs.Field.{fieldOf, agreed}
 use Rattle.text.specs.Number.{restOf, numberOf, digitsIn, digitsOf}
@@ -11,12 +10,17 @@ use Rattle.text.specs.Limit.{allHold}
 use Rattle.text.specs.Line.{readEntry, readNumbers, readLine, numbersText}
 use Rattle.answers.specs.declared.Answer.{Answer}
 use Rattle.answers.specs.declared.Answer.the-variants.{Refused, Done, Count}
-use Rattle.sheet.specs.Sheet.{limitsOn, sheetLimits, fitText, fitsText, linesText, sheetText}
-use Rattle.sheet.specs.Engines.{readRows, readEngines}
-use Rattle.sheet.specs.Calls.{readAnswer, writeAnswer, enginesAnswer}
+use Rattle.form.specs.Parts.{kindOf}
+use Rattle.form.specs.Outcome.{took, lost}
+use Rattle.form.specs.Reading.{readRows, readParts, readForm}
+use Rattle.form.specs.Writing.{rowsText, partsText}
+use Rattle.sheet.specs.Sheet.{limitsOn, sheetLimits}
+use Rattle.sheet.specs.SheetText.{sheetForm, fitRows, rowsOn, sheetText}
+use Rattle.sheet.specs.EngineText.{engineForm, readEngines}
+use Rattle.sheet.specs.TextCalls.{readAnswer, writeAnswer, enginesAnswer}
 
 -- a reading's place is not told, its number is
-read-right : map readAnswer (Taken 237 ∷ Fault 2 7 ∷ Fault 3 9 ∷ []) ≡ Done ∷ Refused 2 ∷ Refused 3 ∷ []
+read-right : map readAnswer (took 237 [] ∷ lost 2 7 ∷ lost 3 9 ∷ []) ≡ Done ∷ Refused 2 ∷ Refused 3 ∷ []
 read-right = refl
 
 -- the least sheet there is, under a hull number, and its text of 156 bytes
@@ -24,8 +28,12 @@ least : ℕ → List ℕ
 least hull = hull ∷ 2000 ∷ 2000 ∷ 500 ∷ 200 ∷ (replicate 33 0 ++ (1 ∷ 0 ∷ 0 ∷ 0 ∷ 0 ∷ 1 ∷ replicate 25 0))
 
 -- room enough, a byte too little; a sheet outside the limits, with room and without
-write-right : map (λ (room : ℕ). writeAnswer (least 0) room) (156 ∷ 155 ∷ []) ++ map (λ (room : ℕ). writeAnswer (least 16) room) (200 ∷ 0 ∷ []) ≡ Count 156 ∷ Refused 16 ∷ Refused 3 ∷ Refused 3 ∷ []
-unfolding least allHold sheetLimits limitsOn sheetText linesText fitsText fitText numbersText digitsOf digitsIn
+write-right :
+    map (λ (room : ℕ). writeAnswer (least 0) room) (156 ∷ 155 ∷ [])
+    ++ map (λ (room : ℕ). writeAnswer (least 16) room) (200 ∷ 0 ∷ [])
+    ≡ Count 156 ∷ Refused 16 ∷ Refused 3 ∷ Refused 3 ∷ []
+unfolding least allHold sheetLimits limitsOn sheetText sheetForm rowsOn fitRows
+    partsText rowsText kindOf numbersText digitsOf digitsIn
 write-right = refl
 
 -- engine rows into two slices of so many words
@@ -34,7 +42,10 @@ rows t a b = enginesAnswer (readEngines t) a b
 
 -- two rows with room, and with too little in either slice; a text at fault and no room
 engines-answered :
-    rows (bytes "ENG\t1\t0\nENG\t2\t0\n") 2 2 ∷ rows (bytes "ENG\t1\t0\nENG\t2\t0\n") 1 2 ∷ rows (bytes "ENG\t1\t0\nENG\t2\t0\n") 2 1 ∷ rows [] 0 0 ∷ rows (bytes "ENG\t0\t0\n") 0 0 ∷ []
+    rows (bytes "ENG\t1\t0\nENG\t2\t0\n") 2 2
+    ∷ rows (bytes "ENG\t1\t0\nENG\t2\t0\n") 1 2 ∷ rows (bytes "ENG\t1\t0\nENG\t2\t0\n") 2 1
+    ∷ rows [] 0 0 ∷ rows (bytes "ENG\t0\t0\n") 0 0 ∷ []
     ≡ Count 2 ∷ Refused 16 ∷ Refused 16 ∷ Refused 2 ∷ Refused 3 ∷ []
-unfolding rows readEngines readRows readLine agreed readNumbers readEntry fieldOf numberOf restOf
+unfolding rows readEngines engineForm readForm readParts readRows kindOf
+    readLine agreed readNumbers readEntry fieldOf numberOf restOf
 engines-answered = refl

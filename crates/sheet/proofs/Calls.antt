@@ -1,4 +1,4 @@
--- The single text as a caller sees it, over the very terms that the calls promise; and a promise allows one outcome. Assumes nothing.
+-- The single text as a caller sees it, over the very terms that the calls promise.
 use mathlib.Core.Path.{_≡_, refl, sym, ap, _∙_}
 use mathlib.Core.Bool.{true}
 use mathlib.Core.List.{List}
@@ -7,14 +7,12 @@ use native.Mathlib.Omega.{arith}
 use borrow.Author.Tests.{le-leb}
 use lib.ListN.{length, take, drop}
 use lib.Seq.{take-append-seam}
-use Rattle.text.specs.declared.LineRead.{LineRead}
-use Rattle.text.specs.declared.LineRead.the-variants.{Taken, Fault}
 use Rattle.answers.specs.declared.Answer.the-variants.{Done, Count}
-use Rattle.answers.specs.Settled.{Settled}
-use Rattle.sheet.specs.Sheet.{sheetOk, sheetText}
-use Rattle.sheet.specs.Reading.{readSheet}
-use Rattle.sheet.specs.Calls.{readAnswer, readInto, writeAnswer, writeInto}
-use Rattle.sheet.proofs.SheetTrip as trip
+use Rattle.form.specs.Outcome.{Found, took, lost}
+use Rattle.sheet.specs.Sheet.{sheetOk}
+use Rattle.sheet.specs.SheetText.{readSheet, sheetText}
+use Rattle.sheet.specs.TextCalls.{readAnswer, readInto, writeAnswer, writeInto}
+use Rattle.sheet.proofs.SheetText.{written-reads, reads-written}
 
 -- a sheet was written: the call answered how many bytes its text has, and those bytes are the text
 pub record Wrote (s out : List ℕ) : Type 0 where
@@ -24,24 +22,30 @@ pub record Wrote (s out : List ℕ) : Type 0 where
 pub wrote : (s out : List ℕ) → sheetOk s ≡ true → length (sheetText s) ≤ length out → Wrote s out
 wrote s out h r =
     let n = le-leb (length (sheetText s)) (length out) r in
-    record { answer = rw (h, n); bytes = rw (h, n) (take-append-seam (sheetText s) (drop (length (sheetText s)) out)) }
+    let seam = take-append-seam (sheetText s) (drop (length (sheetText s)) out) in
+    record { answer = rw (h, n); bytes = rw (h, n) seam }
 
 -- reading what was written gives the sheet
-pub write-then-read : (s out before : List ℕ) → sheetOk s ≡ true → length (sheetText s) ≤ length out → readInto (readSheet (take (length (sheetText s)) (writeInto s out))) before ≡ s
-write-then-read s out before h r = ap (λ (t : List ℕ). readInto (readSheet t) before) (wrote s out h r .bytes) ∙ rw (trip.written-reads s h)
+pub write-then-read : (s out before : List ℕ) → sheetOk s ≡ true
+    → length (sheetText s) ≤ length out
+    → readInto (readSheet (take (length (sheetText s)) (writeInto s out))) before ≡ s
+write-then-read s out before h r =
+    ap (λ (t : List ℕ). readInto (readSheet t) before) (wrote s out h r .bytes) ∙ rw (written-reads s h)
 
-taken-done : (r : LineRead) → readAnswer r ≡ Done → (k : ℕ) × (r ≡ Taken k)
-taken-done (Taken k) e = (k, refl)
-taken-done (Fault number at) e = let z : _≡_ {A = ℕ} 0 1 = cc in absurd (omega arith)
+taken-done : (q : Found (List ℕ)) → readAnswer q ≡ Done → (k : ℕ) × (s : List ℕ) × (q ≡ took k s)
+taken-done (took k s) e = (k, s, refl)
+taken-done (lost number at) e = let z : _≡_ {A = ℕ} 0 1 = cc in absurd (omega arith)
 
 -- writing what was read gives the text
-pub read-then-write : (t before out : List ℕ) → readAnswer (readSheet t .ended) ≡ Done → length t ≤ length out
-    → (writeAnswer (readInto (readSheet t) before) (length out) ≡ Count (length t)) × (take (length t) (writeInto (readInto (readSheet t) before) out) ≡ t)
+pub read-then-write : (t before out : List ℕ) → readAnswer (readSheet t) ≡ Done
+    → length t ≤ length out
+    → (writeAnswer (readInto (readSheet t) before) (length out) ≡ Count (length t))
+    × (take (length t) (writeInto (readInto (readSheet t) before) out) ≡ t)
 read-then-write t before out d r =
-    let k = taken-done (readSheet t .ended) d in
-    let s : List ℕ = readSheet t .numbers in
-    let w = trip.reads-written t (k .0) (k .1) in
-    let e : readInto (readSheet t) before ≡ s = rw (k .1) in
+    let k = taken-done (readSheet t) d in
+    let s : List ℕ = k .1 in
+    let w = reads-written t (k .0) s (k .2) in
     let n : length (sheetText s) ≡ length t = ap length (sym (w .text)) in
     let p = wrote s out (w .within) (omega arith) in
-    rw e (p .answer ∙ ap Count n, ap (λ (j : ℕ). take j (writeInto s out)) (sym n) ∙ p .bytes ∙ sym (w .text))
+    rw (k .2)
+    (p .answer ∙ ap Count n, ap (λ (j : ℕ). take j (writeInto s out)) (sym n) ∙ p .bytes ∙ sym (w .text))

@@ -1,5 +1,6 @@
--- 01's table of limits once more, written apart from `lines`: of each number of a sheet its place and the two ends of its limits. Computed of each: both ends are taken and
--- what is one beside is refused with 3, in a text and among the numbers. Assumes nothing.
+-- 01's table of limits once more, written apart from `lines`: of each number of a sheet its place and the two ends of
+-- its limits. Computed of each: both ends are taken and what is one beside is refused with 3, in a text and among the
+-- numbers.
 use mathlib.Core.Path.{_≡_, refl}
 use mathlib.Core.Bool.{Bool, true, false, not, _&&_, _||_, cond}
 use mathlib.Core.List.{List, [], _∷_, _++_, map}
@@ -15,8 +16,10 @@ use Rattle.text.specs.Line.{readEntry, readNumbers, readLine}
 use Rattle.answers.specs.declared.Answer.{Answer}
 use Rattle.answers.specs.declared.Answer.the-variants.{Refused, Done, Count, Plate}
 use Rattle.sheet.specs.Sheet.{limitsOn, sheetLimits, sheetOk, wordsOk}
-use Rattle.sheet.specs.Reading.{readLines, readFits, readEnd, readRest, readSheet}
-use Rattle.sheet.specs.Calls.{readAnswer}
+use Rattle.form.specs.Parts.{kindOf}
+use Rattle.form.specs.Reading.{readRows, readParts, readForm}
+use Rattle.sheet.specs.SheetText.{sheetForm, readSheet}
+use Rattle.sheet.specs.TextCalls.{readAnswer}
 
 -- ---- the table: place, low, high
 
@@ -73,7 +76,9 @@ fitLines k [] = bytes "END\n"
 fitLines k (w ∷ ws) = bytes "FIT\t" ++ (fields (k ∷ w ∷ []) ++ fitLines (suc k) ws)
 
 text : List ℕ → List ℕ
-text = line "HULL\t" 1 (line "FORM\t" 6 (line "STN\tQ\t" 7 (line "STN\tR\t" 7 (line "STN\tS\t" 7 (line "STN\tT\t" 7 (line "VOL\t" 3 (line "MASS\t" 3 (line "PWR\t" 2 (line "SEAT\t" 2 (fitLines 1))))))))))
+text =
+    line "HULL\t" 1 (line "FORM\t" 6 (line "STN\tQ\t" 7 (line "STN\tR\t" 7 (line "STN\tS\t" 7 (line "STN\tT\t" 7
+    (line "VOL\t" 3 (line "MASS\t" 3 (line "PWR\t" 2 (line "SEAT\t" 2 (fitLines 1))))))))))
 
 -- ---- what is taken, what is refused
 
@@ -89,7 +94,8 @@ is-outside Done = false
 is-outside (Count n) = false
 is-outside (Plate a b) = false
 
--- both ends: all numbers low; all high; and high by turns, so that a number held to the one before it would show. The length is high but for the first
+-- both ends: all numbers low; all high; and high by turns, so that a number held to the one before it would show. The
+-- length is high but for the first
 lows : List ℕ
 lows = map (λ (r : Row). r .low) rows
 
@@ -104,7 +110,7 @@ taken : List (List ℕ)
 taken = lows ∷ highs ∷ turns false rows ∷ set (turns true rows) 1 6000 ∷ []
 
 takes : List ℕ → Bool
-takes s = sheetOk s && (wordsOk (drop 1 s) && is-done (readAnswer (readSheet (text s) .ended)))
+takes s = sheetOk s && (wordsOk (drop 1 s) && is-done (readAnswer (readSheet (text s))))
 
 -- one beside: a number too low or too high in a sheet of low ones
 base : List ℕ
@@ -121,7 +127,7 @@ none-at place n = leb 44 place && eqb n 0
 refuses : ℕ → ℕ → Bool
 refuses place n =
     let s = set base place n in
-    (cond (none-at place n) (sheetOk s) (outside place s)) && is-outside (readAnswer (readSheet (text s) .ended))
+    (cond (none-at place n) (sheetOk s) (outside place s)) && is-outside (readAnswer (readSheet (text s)))
 
 beside : Row → Bool
 beside r = (eqb (r .low) 0 || refuses (r .place) (r .low - 1)) && refuses (r .place) (r .high + 1)
@@ -131,5 +137,7 @@ every f [] = true
 every f (x ∷ xs) = f x && every f xs
 
 limits-right : (every takes taken ≡ true) × (every beside rows ≡ true)
-unfolding every taken takes lows highs turns rows station alike base beside refuses outside none-at is-done is-outside text line fitLines fields digitsOf digitsIn allHold sheetLimits limitsOn readSheet readLines readLine agreed readNumbers readEntry fieldOf numberOf restOf readRest readFits readEnd
+unfolding every taken takes lows highs turns rows station alike base beside refuses outside none-at is-done is-outside
+    text line fitLines fields digitsOf digitsIn allHold sheetLimits limitsOn
+    readSheet sheetForm readForm readParts readRows kindOf readLine agreed readNumbers readEntry fieldOf numberOf restOf
 limits-right = (refl, refl)

@@ -1,5 +1,5 @@
--- Numbers within the limits of several lines, taken apart and put together. Only a limit that caps a number by the one before it looks back, and no line
--- starts with one, so each line can be judged by itself. Assumes nothing.
+-- Numbers within the limits of several lines, taken apart and put together. Only a limit that caps a number by the one
+-- before it looks back, and no line starts with one, so each line can be judged by itself.
 use mathlib.Core.Path.{_≡_, refl, sym, _∙_}
 use mathlib.Core.Bool.{Bool, true, false, not, _&&_, true≢false}
 use mathlib.Core.List.{List, [], _∷_, _++_, append-assoc}
@@ -47,7 +47,9 @@ hold-split (l ∷ ls) ms last (n ∷ ns) h =
     let s = hold-split ls ms n ns (p .1) in
     record { seam = s .seam; first = rw (p .0, s .first); rest = s .rest }
 
-pub hold-join : (ls ms : List Limit) (last : ℕ) (xs ys : List ℕ) → allHold ls last xs ≡ true → ((m : ℕ) → allHold ms m ys ≡ true) → allHold (ls ++ ms) last (xs ++ ys) ≡ true
+pub hold-join : (ls ms : List Limit) (last : ℕ) (xs ys : List ℕ) → allHold ls last xs ≡ true
+    → ((m : ℕ) → allHold ms m ys ≡ true)
+    → allHold (ls ++ ms) last (xs ++ ys) ≡ true
 unfolding allHold
 hold-join [] ms last [] ys h r = r last
 hold-join [] ms last (x ∷ xs) ys h r = absurd (true≢false (sym h))
@@ -63,12 +65,15 @@ pub record Lined (l : Line) (ls : List Line) (ms : List Limit) (s : List ℕ) : 
   pub first : allHold (l .limits) 0 (take (length (l .limits)) s) ≡ true
   pub rest : allHold (limitsOn ls ++ ms) seam (drop (length (l .limits)) s) ≡ true
 
-pub lines-split : (l : Line) (ls : List Line) (ms : List Limit) (last : ℕ) (s : List ℕ) → linesOpen (l ∷ ls) ≡ true → allHold (limitsOn (l ∷ ls) ++ ms) last s ≡ true → Lined l ls ms s
+pub lines-split : (l : Line) (ls : List Line) (ms : List Limit) (last : ℕ) (s : List ℕ) → linesOpen (l ∷ ls) ≡ true
+    → allHold (limitsOn (l ∷ ls) ++ ms) last s ≡ true
+    → Lined l ls ms s
 unfolding linesOpen limitsOn
 lines-split l ls ms last s o h =
     let p = hold-split (l .limits) (limitsOn ls ++ ms) last s (rw (append-assoc (l .limits) (limitsOn ls) ms) at h) in
+    let os = both-hold (opens (l .limits)) (linesOpen ls) o in
     record {
       seam = p .seam;
-      first = hold-free (l .limits) 0 last (take (length (l .limits)) s) (both-hold (opens (l .limits)) (linesOpen ls) o .0) ∙ p .first;
+      first = hold-free (l .limits) 0 last (take (length (l .limits)) s) (os .0) ∙ p .first;
       rest = p .rest;
     }

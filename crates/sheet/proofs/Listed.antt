@@ -1,41 +1,40 @@
--- 01, Refusal numbers: a call on texts refuses by a number of the list, 1 to 17, and so never by 0. Assumes nothing.
+-- 01, Refusal numbers: a call on texts refuses by a number of the list, 1 to 17, and so never by 0.
 use mathlib.Core.Path.{_≡_, refl}
-use mathlib.Core.Bool.{Bool, true, _&&_, cond}
-use mathlib.Core.Logic.{_⊎_, inl, inr}
+use mathlib.Core.Bool.{Bool, true, false}
 use mathlib.Core.List.{List}
 use Prim.Native.Nat.{ℕ}
 use lib.Dec.{leb}
 use lib.ListN.{length}
-use Rattle.answers.proofs.Outcomes.{OfList, text-listed}
-use Rattle.text.specs.declared.LineRead.{LineRead}
-use Rattle.text.specs.declared.LineRead.the-variants.{Taken, Fault}
 use Rattle.ground.proofs.Booleans.{either}
-use Rattle.answers.specs.declared.Answer.{Answer}
-use Rattle.answers.specs.declared.Answer.the-variants.{Refused, Done, Count, Plate}
-use Rattle.sheet.specs.Sheet.{sheetOk, sheetText}
-use Rattle.sheet.specs.Reading.{readSheet}
-use Rattle.sheet.specs.Engines.{powersOf, readEngines}
-use Rattle.sheet.specs.Calls.{readAnswer, writeAnswer, rowsFit, enginesAnswer}
-use Rattle.answers.specs.Refusals.{noRoom}
-use Rattle.sheet.proofs.Faults.{sheet-fault}
-use Rattle.sheet.proofs.EngineFaults.{engines-fault}
+use Rattle.answers.proofs.Outcomes.{OfList, text-listed}
+use Rattle.form.specs.Parts.{Rows}
+use Rattle.form.specs.Outcome.{Found, took, lost}
+use Rattle.sheet.specs.Sheet.{sheetOk}
+use Rattle.sheet.specs.SheetText.{readSheet, sheetText}
+use Rattle.sheet.specs.EngineText.{readEngines}
+use Rattle.sheet.specs.TextCalls.{readAnswer, writeAnswer, rowsFit, enginesAnswer}
+use Rattle.sheet.proofs.SheetText.{sheet-fault}
+use Rattle.sheet.proofs.EngineText.{engines-fault}
 
-pub read-listed : (t : List ℕ) → OfList (readAnswer (readSheet t .ended))
-read-listed t = go (readSheet t .ended) refl
+pub read-listed : (t : List ℕ) → OfList (readAnswer (readSheet t))
+read-listed t = go (readSheet t) refl
   where
-    go : (r : LineRead) → readSheet t .ended ≡ r → OfList (readAnswer r)
-    go (Taken k) e = refl
-    go (Fault number at) e = text-listed (sheet-fault t number at e)
+    go : (q : Found (List ℕ)) → readSheet t ≡ q → OfList (readAnswer q)
+    go (took k s) e = refl
+    go (lost number at) e = text-listed (sheet-fault t number at e)
 
 pub write-listed : (s : List ℕ) (room : ℕ) → OfList (writeAnswer s room)
-write-listed s room = either OfList (sheetOk s) (either OfList (leb (length (sheetText s)) room) refl refl) refl
+write-listed s room = go (sheetOk s) (leb (length (sheetText s)) room) refl refl
+  where
+    go : (a b : Bool) → sheetOk s ≡ a → leb (length (sheetText s)) room ≡ b → OfList (writeAnswer s room)
+    go true true e f = simp (e, f)
+    go true false e f = simp (e, f)
+    go false true e f = simp (e, f)
+    go false false e f = simp (e, f)
 
 pub engines-listed : (t : List ℕ) (a b : ℕ) → OfList (enginesAnswer (readEngines t) a b)
-engines-listed t a b = go (readEngines t .ended) refl
+engines-listed t a b = go (readEngines t) refl
   where
-    rows : List ℕ
-    rows = readEngines t .numbers
-
-    go : (r : LineRead) → readEngines t .ended ≡ r → OfList (elim r [ Taken k ↦ cond (rowsFit rows a b) (Count (length (powersOf rows))) (Refused noRoom) | Fault number at ↦ Refused number ])
-    go (Taken k) e = either OfList (rowsFit rows a b) refl refl
-    go (Fault number at) e = text-listed (engines-fault t number at e)
+    go : (q : Found Rows) → readEngines t ≡ q → OfList (enginesAnswer q a b)
+    go (took k rows) e = either OfList (rowsFit rows a b) refl refl
+    go (lost number at) e = text-listed (engines-fault t number at e)

@@ -1,4 +1,4 @@
--- The code's table of limits is that of the sheet. Assumes nothing.
+-- The code's table of limits is that of the sheet.
 use mathlib.Core.Path.{_≡_, refl, ap, _∙_}
 use mathlib.Core.List.{List}
 use Prim.Native.Nat.{ℕ}

@@ -1,6 +1,7 @@
--- A sheet's words without its HULL number: they are within the limits where the sheet is, and the other way round. Assumes nothing.
+-- A sheet's words without its HULL number: they are within the limits where the sheet is, and the other way round.
+--
 use mathlib.Core.Path.{_≡_, refl, sym, _∙_}
-use mathlib.Core.Bool.{Bool, true, _&&_, true≢false}
+use mathlib.Core.Bool.{true, true≢false}
 use mathlib.Core.List.{List, [], _∷_}
 use Prim.Native.Nat.{ℕ, _≤_}
 use native.Mathlib.Omega.{arith}
@@ -18,7 +19,9 @@ opens-words = refl
 pub words-of : (s : List ℕ) → sheetOk s ≡ true → wordsOk (drop 1 s) ≡ true
 unfolding sheetLimits limitsOn allHold
 words-of [] h = absurd (true≢false (sym h))
-words-of (n ∷ ns) h = hold-free (drop 1 sheetLimits) 0 n ns opens-words ∙ both-hold (holds (ranging 0 15) 0 n) (allHold (drop 1 sheetLimits) n ns) h .1
+words-of (n ∷ ns) h =
+    hold-free (drop 1 sheetLimits) 0 n ns opens-words
+    ∙ both-hold (holds (ranging 0 15) 0 n) (allHold (drop 1 sheetLimits) n ns) h .1
 
 -- and the words with a HULL number before them are a sheet within the limits
 pub numbered : (n : ℕ) (s : List ℕ) → n ≤ 15 → wordsOk s ≡ true → sheetOk (n ∷ s) ≡ true

@@ -1,5 +1,5 @@
--- 01, The sheet: the table of lines, with the limits of each number, in its order. There is no other table of limits: a text is read and written, and
--- a register judged, by this one. FIT and ENG lines rise: their first number starts at `next`, one above the last line's. Assumes nothing: these are definitions.
+-- 01, The sheet: the table of lines, with the limits of each number, in its order. There is no other table of limits:
+-- a text is read and written, and a register judged, by this one.
 use Prim.Native.Nat.{ℕ}
 use Prim.Native.String.{String}
 use mathlib.Core.List.{List, [], _∷_}
@@ -13,7 +13,8 @@ line tag limits = record { tag = bytes tag; limits = limits }
 
 -- length; reference length, not above length; transom width; transom height; flat bottom; remote steering
 abbrev formLimits : List Limit
-formLimits = ranging 2000 6000 ∷ rangingCapped 2000 6000 ∷ ranging 500 3000 ∷ ranging 200 900 ∷ ranging 0 1 ∷ ranging 0 1 ∷ []
+formLimits =
+    ranging 2000 6000 ∷ rangingCapped 2000 6000 ∷ ranging 500 3000 ∷ ranging 200 900 ∷ ranging 0 1 ∷ ranging 0 1 ∷ []
 
 -- B, then q r s t u v
 abbrev stationLimits : List Limit
@@ -46,8 +47,8 @@ abbrev pub fittingHigh : ℕ
 fittingHigh = 500000
 
 -- a fitting's line number and weight
-abbrev pub fitLine : ℕ → Line
-fitLine next = line "FIT\t" (ranging next fittings ∷ ranging 1 fittingHigh ∷ [])
+abbrev pub fitLine : Line
+fitLine = line "FIT\t" (ranging 1 fittings ∷ ranging 1 fittingHigh ∷ [])
 
 abbrev pub endLine : Line
 endLine = line "END\n" []
@@ -60,8 +61,8 @@ abbrev pub engineWeightHigh : ℕ
 engineWeightHigh = 1000000
 
 -- an engine's power and weight
-abbrev pub engineLine : ℕ → Line
-engineLine next = line "ENG\t" (ranging next enginePowerHigh ∷ ranging 0 engineWeightHigh ∷ [])
+abbrev pub engineLine : Line
+engineLine = line "ENG\t" (ranging 1 enginePowerHigh ∷ ranging 0 engineWeightHigh ∷ [])
 
 -- how many engine rows a text may have
 abbrev pub mostRows : ℕ

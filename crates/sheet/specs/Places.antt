@@ -1,4 +1,5 @@
--- 01, The sheet: where each number stands among the words of a sheet, in the order of its text; each place follows from the one before. The one list of places.
+-- 01, The sheet: where each number stands among the words of a sheet, in the order of its text; each place follows
+-- from the one before. The one list of places.
 use Prim.Native.Nat.{ℕ, _+_, _*_}
 use Rattle.sheet.specs.Lines.{fittings}
 

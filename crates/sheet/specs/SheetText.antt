@@ -1,4 +1,5 @@
--- 01, The sheet, as a form of text: ten lines, up to 24 FIT lines whose line numbers rise, END. What a sheet's text says as the sheet's numbers, and the one text of a sheet.
+-- 01, The sheet, as a form of text: ten lines, up to 24 FIT lines whose line numbers rise, END. What a sheet's text
+-- says as the sheet's numbers, and the one text of a sheet.
 use Prim.Native.Nat.{ℕ, suc, _-_}
 use mathlib.Core.Bool.{true, false}
 use mathlib.Core.List.{List, [], _∷_, _++_}
@@ -14,7 +15,7 @@ use Rattle.sheet.specs.Lines.{lines, fittings, fitLine, endLine, mostByt
 -- ---- the form
 
 abbrev pub fitPart : Part
-fitPart = risingLines 0 fittings (fitLine 1)
+fitPart = risingLines 0 fittings fitLine
 
 -- a part for each of the lines, one line each, and then ps
 abbrev pub eachOnce : List Line → List Part → List Part
@@ -39,7 +40,7 @@ fitRows n [] = []
 fitRows n (w ∷ ws) =
     elim (eqb w 0) [
       | true ↦ fitRows (suc n) ws
-      | false ↦ lineRow (letterOf (fitLine 1)) (n ∷ w ∷ []) ∷ fitRows (suc n) ws
+      | false ↦ lineRow (letterOf fitLine) (n ∷ w ∷ []) ∷ fitRows (suc n) ws
     ]
 
 -- ---- a sheet's rows and its numbers

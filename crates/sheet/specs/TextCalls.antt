@@ -1,5 +1,5 @@
--- The calls on texts without the register: what each answers, and what it leaves in each lent buffer. A refusal leaves them as they stood.
--- 01, Refusal numbers: 2 and 3 of a text; 3 for a sheet outside the limits; 16 comes last.
+-- The calls on texts without the register: what each answers, and what it leaves in each lent buffer. A refusal leaves
+-- them as they stood. 01, Refusal numbers: 2 and 3 of a text; 3 for a sheet outside the limits; 16 comes last.
 use Prim.Native.Nat.{ℕ}
 use mathlib.Core.Bool.{Bool, _&&_, cond}
 use mathlib.Core.List.{List}
@@ -34,7 +34,8 @@ writeAnswer s room =
     (Refused outsideLimits)
 
 abbrev pub writeInto : List ℕ → List ℕ → List ℕ
-writeInto s before = cond (sheetOk s && leb (length (sheetText s)) (length before)) (putFirst (sheetText s) before) before
+writeInto s before =
+    cond (sheetOk s && leb (length (sheetText s)) (length before)) (putFirst (sheetText s) before) before
 
 -- ---- read engine rows
 

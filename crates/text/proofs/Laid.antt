@@ -1,11 +1,11 @@
 -- Bytes laid into a lent slice, one piece after the other.
-use mathlib.Core.Path.{_≡_, refl, sym, _∙_}
+use mathlib.Core.Path.{_≡_, refl, sym, ap, _∙_}
 use mathlib.Core.List.{List, [], _∷_, _++_}
 use Prim.Native.Nat.{ℕ, _+_, _-_, _/_, _%_, _≤_, _<_, min}
 use native.Mathlib.Omega.{arith}
 use native.Mathlib.Nat.{add-zero}
 use lib.ListN.{length, take, drop, set, length-append}
-use lib.Seq.{sets}
+use lib.Seq.{sets, length-sets}
 use Rattle.text.specs.Quoted.{digit0}
 use Rattle.text.specs.Number.{digitsOf}
 use Rattle.text.specs.Line.{Laid}
@@ -60,3 +60,13 @@ pub laid-digits : (n : ℕ) (o₀ o₁ o : List ℕ) (mid : ℕ)
     → o ≡ set o₁ mid (digit0 + n % 10)
     → Laid (digitsOf n) o₀ 0 (mid + 1) o
 laid-digits n o₀ o₁ o mid h p e = rw (digits-more n h, e) (laid-more p (laid-byte o₁ mid (digit0 + n % 10)))
+
+-- what is laid keeps the length
+pub laid-length : {bs o₀ o : List ℕ} {at r : ℕ} → Laid bs o₀ at r o → length o ≡ length o₀
+laid-length p = ap length (p .laid) ∙ simp length-sets
+
+-- the text of the numbers from a place on, written into the part from `at` on
+pub laid-rest : (text : List ℕ → List ℕ) (s o : List ℕ) (from at : ℕ) {r : ℕ} {ys : List ℕ}
+    → Laid (text (take (length s - from) (drop from s))) (take (length o - at) (drop at o)) 0 r ys
+    → Laid (text (drop from s)) o at (at + r) (putBack o at ys)
+laid-rest text s o from at {r} {ys} p = laid-part (text (drop from s)) o ys at r (rw (rest-part s from) at p)

@@ -9,10 +9,12 @@ pub mod Alike  -- many numbers by one limit: the greatest tells
 pub mod Entry  -- a number read with the byte that must end it
 pub mod Reading  -- one number after another, and the loop that reads them
 pub mod Line  -- a whole line that is read, and how far a reading reaches
-pub mod Followed  -- one reading followed by another
 pub mod Laid  -- bytes laid into a lent slice, piece by piece
 pub mod Writing  -- a line's text number by number, and the loop that writes it
 pub mod Led  -- a text that another leads
 pub mod EntryTrip  -- from a number with its ending byte to its text and back
 pub mod LineTrip  -- from a line's numbers to its text and back
+pub mod Two  -- a line of two numbers
+pub mod Most  -- the greatest length of a line
+pub mod Faults  -- a line is refused with 2 or 3 alone
 pub mod Examples  -- worked fields and numbers, computed

@@ -8,21 +8,26 @@ use native.Mathlib.Omega.{arith}
 use lib.Dec.{ltb}
 use lib.ListN.{length, drop, length-append}
 use lib.Seq.{drop-append-seam, drop-drop}
+use Rattle.text.specs.declared.LineRead.{LineRead}
 use Rattle.text.specs.declared.LineRead.the-variants.{Taken, Fault}
 use Rattle.text.specs.Field.{agreed}
 use Rattle.text.specs.Number.{elevenDigits}
 use Rattle.text.specs.Limit.{Limit, holds, allHold}
-use Rattle.text.specs.Line.{Line, Reading, ender, readEntry, readNumbers, readLine, entryText}
+use Rattle.text.specs.Line.{Line, Reading, shiftBy, ender, readEntry, readNumbers, readLine, entryText}
 use Rattle.text.specs.Line.{numbersText, lineText}
 use Rattle.text.proofs.Field.{agreed-whole, agreed-self}
 use Rattle.answers.specs.Refusals.{brokenLine}
 use Rattle.ground.proofs.Booleans.{both-hold, false-true, by-equal}
 use Rattle.text.proofs.Line.{line-tagged, line-untagged}
-use Rattle.text.proofs.Followed.{shift-taken}
 use Rattle.text.proofs.Led.{Led, led-more, led-none}
 use Rattle.text.proofs.Limit.{narrow, holds-small}
 use Rattle.text.proofs.Entry.{by-entry}
 use Rattle.text.proofs.EntryTrip.{ender-ends, entry-back, entry-forth}
+
+-- how a reading that went well after k bytes went
+shift-taken : (j : ℕ) (r : LineRead) (k : ℕ) → shiftBy j r ≡ Taken k → (i : ℕ) × (r ≡ Taken i) × (k ≡ j + i)
+shift-taken j (Taken i) k e = (i, refl, cc)
+shift-taken j (Fault number at) k e = let z : _≡_ {A = ℕ} 0 1 = cc in absurd (omega arith)
 
 -- ---- numbers
 

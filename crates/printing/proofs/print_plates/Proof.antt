@@ -2,7 +2,7 @@
 use mathlib.Core.Path.{refl, sym}
 use lib.Seq.{length-take-le}
 use Rattle.printout.proofs.PrintCall.{print-most, print-in, settled-short, settled-print}
-use Rattle.printout.proofs.Printed.{printed-most}
+use Rattle.printout.proofs.Most.{printed-most}
 use native.Mathlib.Omega.{arith}
 use borrow.Author.Needs.{needs}
 use Rattle.printing.proofs.print_plates.Statement.{statement}

@@ -1,15 +1,16 @@
--- 01, The sheet: reading it. Line after line from the top; FIT lines as long as they come, then END, then nothing.
--- A line that begins as FIT does is judged as FIT while fewer than 24 are read, and as END after that, so that a 25th gives 2 at its tag. Assumes nothing: these are definitions.
+-- What the promises said of reading a sheet: line after line from the top; FIT lines as long as they come, then END,
+-- then nothing. A line that begins as FIT does is judged as FIT while fewer than 24 are read, and as END after that.
 use Prim.Native.Nat.{ℕ, zero, suc, _-_}
 use mathlib.Core.Bool.{true, false, cond}
 use mathlib.Core.List.{List, [], _∷_, _++_}
 use lib.Dec.{ltb}
 use lib.ListN.{length, drop, getD, replicate}
+use Rattle.answers.specs.Refusals.{brokenLine}
 use Rattle.text.specs.declared.LineRead.the-variants.{Taken, Fault}
 use Rattle.text.specs.Field.{begins}
 use Rattle.text.specs.Line.{Line, Reading, nothing, refused, after, followed, readLine}
-use Rattle.answers.specs.Refusals.{brokenLine}
-use Rattle.sheet.specs.Lines.{lines, fittings, fitLine, endLine, mostBytes}
+use Rattle.sheet.specs.Lines.{lines, fittings, endLine, mostBytes}
+use Rattle.former.specs.Lines.{fitLine}
 
 unfoldable pub readLines : List Line → List ℕ → Reading
 readLines [] t = nothing
@@ -23,11 +24,14 @@ fitByte = 70
 abbrev pub empties : ℕ → List ℕ
 empties next = replicate (suc fittings - next) 0
 
--- a FIT line was read as p: the lines passed over are empty, and its weight follows them; then the rest from the next line number on
+-- a FIT line was read as p: the lines passed over are empty, and its weight follows them; then the rest from the next
+-- line number on
 abbrev pub onFit : ℕ → Reading → (ℕ → List ℕ → Reading) → List ℕ → Reading
 onFit next p rest t =
     elim (p .ended) [
-      | Taken k ↦ after (replicate (getD (p .numbers) 0 0 - next) 0 ++ (getD (p .numbers) 1 0 ∷ [])) k (rest (suc (getD (p .numbers) 0 0)) (drop k t))
+      | Taken k ↦
+          after (replicate (getD (p .numbers) 0 0 - next) 0 ++ (getD (p .numbers) 1 0 ∷ [])) k
+          (rest (suc (getD (p .numbers) 0 0)) (drop k t))
       | Fault number at ↦ refused number at
     ]
 

@@ -1,0 +1,7 @@
+-- What the exported promises said before is what they say now.
+pub mod Followed  -- one reading after another
+pub mod Fits  -- FIT lines are read alike
+pub mod Sheets  -- a sheet is read alike
+pub mod Rows  -- engine rows are read alike
+pub mod Written  -- a sheet is written alike
+pub mod TextCalls  -- the calls on texts answer and leave the same

@@ -1,0 +1,127 @@
+-- What is printed is never longer than 60 bytes, two lines of two figures of ten digits each.
+use mathlib.Core.Path.{_≡_, refl}
+use mathlib.Core.Bool.{Bool, true, false, not}
+use mathlib.Core.Logic.{_⊎_, inl, inr}
+use mathlib.Core.List.{List, [], _∷_, _++_}
+use Prim.Native.Nat.{ℕ, _+_, _≤_, _<_}
+use native.Mathlib.Omega.{arith}
+use borrow.Author.Tests.{ltb-true, ltb-false}
+use lib.Dec.{ltb}
+use lib.ListN.{length, drop, length-append}
+use Rattle.text.specs.Quoted.{bytes}
+use Rattle.text.specs.Number.{elevenDigits, digitsOf}
+use Rattle.text.specs.Line.{numbersText, lineText}
+use Rattle.text.proofs.Number.{length-digits-ten}
+use Rattle.ground.proofs.Booleans.{either}
+use Rattle.answers.specs.declared.Answer.{Answer}
+use Rattle.answers.specs.declared.Answer.the-variants.{Refused, Done, Count, Plate}
+use Rattle.form.specs.Parts.{Rows}
+use Rattle.form.specs.Outcome.{Found, took, lost}
+use Rattle.sheet.specs.SheetText.{readSheet}
+use Rattle.sheet.specs.EngineText.{readEngines, powersOf, weightsOf}
+use Rattle.sheet.proofs.SheetText.{sheet-fault}
+use Rattle.sheet.proofs.EngineText.{engines-fault}
+use Rattle.capacity.specs.Whole.{isBelow}
+use Rattle.capacity.specs.PlateA.{markedA, noPower, plateA}
+use Rattle.capacity.specs.PlateC.{markedC, rowsRight, noRow, liveLoad, untested, persons, plateC}
+use Rattle.capacity.specs.Bounds.{Bounds}
+use Rattle.capacity.proofs.Loads.{marked-most, c-most}
+use Rattle.capacity.proofs.Power.{power-most}
+use Rattle.capacity.proofs.Persons.{persons-most}
+use Rattle.printout.specs.Input.{mostInput, sheetPart, enginePart}
+use Rattle.printout.specs.Printed.{figures, inputText, plateText, platesText, rowsPrinted, printed}
+use Rattle.printout.proofs.Printed.{rows-fault, rows-plates, read-bounds}
+use Rattle.printout.proofs.Printed.{printed-long, printed-fault, printed-rows}
+
+abbrev pub mostPrinted : ℕ
+mostPrinted = 60
+
+one-length : (tag : List ℕ) (n : ℕ)
+    → length (lineText (figures tag 1) (n ∷ [])) ≡ length tag + (length (digitsOf n) + 1)
+unfolding numbersText
+one-length tag n = omega (arith, length-append tag (digitsOf n ++ (10 ∷ [])), length-append (digitsOf n) (10 ∷ []))
+
+two-length : (tag : List ℕ) (a b : ℕ)
+    → length (lineText (figures tag 2) (a ∷ b ∷ [])) ≡ length tag + (length (digitsOf a) + (length (digitsOf b) + 2))
+unfolding numbersText
+two-length tag a b =
+    let rest : List ℕ = digitsOf b ++ (10 ∷ []) in
+    let inner = length-append (digitsOf b) (10 ∷ []) in
+    omega (arith, length-append tag (digitsOf a ++ (9 ∷ rest)), length-append (digitsOf a) (9 ∷ rest))
+
+-- a text's refusal is 2 or 3
+low : {number : ℕ} → (number ≡ 2) ⊎ (number ≡ 3) → number ≤ 3
+low (inl e) = omega arith
+low (inr e) = omega arith
+
+input-most : (number : ℕ) → number ≤ 3 → length (inputText number) ≤ mostPrinted
+input-most number h = omega (arith, one-length (bytes "INPUT\t") number, length-digits-ten number (omega arith))
+
+-- a plate's figures together, or its refusal
+abbrev sumOf : Answer → ℕ
+sumOf (Refused number) = number
+sumOf Done = 0
+sumOf (Count n) = 0
+sumOf (Plate load figure) = load + figure
+
+-- a plate's line, of any letters
+plate-most : (l k : ℕ) (a : Answer) → sumOf a < elevenDigits
+    → length (plateText (bytes "PLATE\t" ++ (l ∷ 9 ∷ [])) (bytes "REFUSED\t" ++ (k ∷ 9 ∷ [])) a) ≤ 30
+plate-most l k (Refused number) h =
+    omega (arith, one-length (bytes "REFUSED\t" ++ (k ∷ 9 ∷ [])) number, length-digits-ten number h)
+plate-most l k Done h = omega arith
+plate-most l k (Count n) h = omega arith
+plate-most l k (Plate a b) h =
+    let m = length-digits-ten a (omega arith) in
+    omega (arith, two-length (bytes "PLATE\t" ++ (l ∷ 9 ∷ [])) a b, length-digits-ten b (omega arith))
+
+both-most : (a b : ℕ) → a ≤ 30 → b ≤ 30 → a + b ≤ mostPrinted
+both-most a b h k = omega arith
+
+abbrev Low : Answer → Type 0
+Low a = sumOf a ≤ 320000
+
+module _ (s : List ℕ) (b : Bounds s) where
+  a-small : Low (plateA s)
+  unfolding plateA
+  a-small =
+      either Low (isBelow (markedA s) 1) (omega arith)
+      (either Low (noPower s) (omega arith) (omega (arith, marked-most s b, power-most s b)))
+
+  c-small : (ps ws : List ℕ) → Low (plateC s ps ws)
+  unfolding plateC
+  c-small ps ws =
+      either Low (not (rowsRight ps ws)) (omega arith)
+      (either Low (isBelow (markedC s) 1) (omega arith)
+      (either Low (noRow s ps) (omega arith)
+      (either Low (untested s (liveLoad s ps ws)) (omega arith)
+      (either Low (isBelow (persons s (liveLoad s ps ws)) 1) (omega arith)
+      (omega (arith, c-most s b, persons-most s (liveLoad s ps ws) b))))))
+
+  plates-most : (ps ws : List ℕ) → length (platesText s ps ws) ≤ mostPrinted
+  unfolding platesText
+  plates-most ps ws =
+      rw length-append
+      (both-most _ _ (plate-most _ _ (plateA s) (omega (arith, a-small)))
+      (plate-most _ _ (plateC s ps ws) (omega (arith, c-small ps ws))))
+
+  rows-most : (t : List ℕ) → length (rowsPrinted s t) ≤ mostPrinted
+  rows-most t = go (readEngines t) refl
+    where
+      go : (q : Found Rows) → readEngines t ≡ q → length (rowsPrinted s t) ≤ mostPrinted
+      go (took k rows) e = rw (rows-plates s t e) (plates-most (powersOf rows) (weightsOf rows))
+      go (lost number at) e = rw (rows-fault s t e) (input-most number (low (engines-fault t number at e)))
+
+-- of any input
+pub printed-most : (t : List ℕ) → length (printed t) ≤ mostPrinted
+printed-most t = go (ltb mostInput (length t)) refl
+  where
+    sheet : length t ≤ mostInput → (q : Found (List ℕ)) → readSheet (sheetPart t) ≡ q → length (printed t) ≤ mostPrinted
+    sheet h (took k s) e =
+        rw (printed-rows t h e) (rows-most (drop 1 s) (read-bounds (sheetPart t) k s e) (enginePart t))
+    sheet h (lost number at) e =
+        rw (printed-fault t h e) (input-most number (low (sheet-fault (sheetPart t) number at e)))
+
+    go : (u : Bool) → ltb mostInput (length t) ≡ u → length (printed t) ≤ mostPrinted
+    go true e = rw (printed-long t (ltb-true mostInput (length t) e)) (input-most 2 (omega arith))
+    go false e = sheet (ltb-false mostInput (length t) e) (readSheet (sheetPart t)) refl

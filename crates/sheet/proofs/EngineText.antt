@@ -1,0 +1,109 @@
+-- Engine rows have one text: rows within the limits that are written read back as themselves, and a text that reads as
+-- rows is what they are written as. Both follow from the form's. And rows are the same thing as their two columns.
+use mathlib.Core.Path.{_≡_, refl, sym, ap, _∙_}
+use mathlib.Core.Bool.{true, false, true≢false}
+use mathlib.Core.Logic.{_⊎_}
+use mathlib.Core.List.{List, [], _∷_}
+use Prim.Native.Nat.{ℕ, max}
+use native.Mathlib.Omega.{arith}
+use lib.ListN.{length, length-map}
+use Rattle.ground.proofs.Booleans.{both-hold}
+use Rattle.form.specs.Parts.{Row, Rows, nextAfter}
+use Rattle.form.specs.Outcome.{Found, took, lost, mapped}
+use Rattle.form.specs.Reading.{readForm}
+use Rattle.form.specs.Writing.{rowOk, rowsOk, partOk, partsOk, formText}
+use Rattle.form.proofs.Chain.{lost-not-found}
+use Rattle.form.proofs.Held.{part-held, PartHeld}
+use Rattle.form.proofs.Pairs.{Pair, pairRow, pair}
+use Rattle.form.proofs.Trip as T
+use Rattle.form.proofs.Faults.{fault, mapped-plain, form-plain}
+use Rattle.sheet.specs.Lines.{enginePowerHigh, engineWeightHigh, engineLine, mostRows}
+use Rattle.sheet.specs.EngineText.{enginePart, engineForm, onlyRows, powersOf, weightsOf, engineRows}
+use Rattle.sheet.specs.EngineText.{readEngines, enginesOk, enginesText}
+use Rattle.sheet.proofs.WellMade.{engines-made}
+
+-- ---- rows and columns
+
+pub powers-length : (rs : Rows) → length (powersOf rs) ≡ length rs
+powers-length rs = length-map rs _
+
+pub weights-length : (rs : Rows) → length (weightsOf rs) ≡ length rs
+weights-length rs = length-map rs _
+
+pub powers-columns : (ps ws : List ℕ) → length ps ≡ length ws → powersOf (engineRows ps ws) ≡ ps
+unfolding engineRows
+powers-columns [] ws e = refl
+powers-columns (p ∷ ps) [] e = absurd (omega arith)
+powers-columns (p ∷ ps) (w ∷ ws) e = ap (λ (l : List ℕ). p ∷ l) (powers-columns ps ws (omega arith))
+
+pub weights-columns : (ps ws : List ℕ) → length ps ≡ length ws → weightsOf (engineRows ps ws) ≡ ws
+unfolding engineRows
+weights-columns [] [] e = refl
+weights-columns [] (w ∷ ws) e = absurd (omega arith)
+weights-columns (p ∷ ps) [] e = absurd (omega arith)
+weights-columns (p ∷ ps) (w ∷ ws) e = ap (λ (l : List ℕ). w ∷ l) (weights-columns ps ws (omega arith))
+
+-- an ENG row has a power from next on and a weight
+abbrev pub Engine : ℕ → Row → Type 0
+Engine next r = Pair (engineLine .tag) 1 enginePowerHigh 0 engineWeightHigh next r
+
+pub engine : (next n : ℕ) (r : Row) → max 1 next ≡ n → rowOk enginePart next r ≡ true → Engine n r
+engine next n r m h = pair (engineLine .tag) 1 enginePowerHigh 0 engineWeightHigh 1 mostRows next n r m h
+
+rows-columns : (rs : Rows) (next : ℕ) → rowsOk enginePart next rs ≡ true → engineRows (powersOf rs) (weightsOf rs) ≡ rs
+unfolding rowsOk engineRows
+rows-columns [] next h = refl
+rows-columns (r ∷ rs) next h =
+    let hs = both-hold (rowOk enginePart next r) (rowsOk enginePart (nextAfter r) rs) h in
+    let f = engine next (max 1 next) r refl (hs .0) in
+    go (f .n) (f .w) (f .is) (rows-columns rs (nextAfter r) (hs .1))
+  where
+    go : (p w : ℕ) → r ≡ pairRow (engineLine .tag) 1 enginePowerHigh 0 engineWeightHigh p w
+        → engineRows (powersOf rs) (weightsOf rs) ≡ rs
+        → engineRows (powersOf (r ∷ rs)) (weightsOf (r ∷ rs)) ≡ r ∷ rs
+    go p w e ih = rw e (rw ih)
+
+-- ---- the single text
+
+pub engines-held : (rs : Rows) → enginesOk rs ≡ true → PartHeld enginePart rs
+unfolding engineForm partsOk
+engines-held rs h = part-held enginePart rs (both-hold (partOk enginePart rs) true h .0)
+
+-- for rows within the limits, reading what their columns are written as gives those rows
+pub written-reads : (ps ws : List ℕ) → enginesOk (engineRows ps ws) ≡ true
+    → readEngines (enginesText ps ws) ≡ took (length (enginesText ps ws)) (engineRows ps ws)
+unfolding readEngines enginesText
+written-reads ps ws h = rw (T.written-reads engineForm (engineRows ps ws ∷ []) engines-made h)
+
+-- what a text that reads as rows is
+pub record Written (t : List ℕ) (k : ℕ) (rs : Rows) : Type 0 where
+  pub text : t ≡ enginesText (powersOf rs) (weightsOf rs)
+  pub within : enginesOk rs ≡ true
+  pub count : k ≡ length t
+
+-- for every text that reads as rows, writing those rows gives the same bytes
+pub reads-written : (t : List ℕ) (k : ℕ) (rs : Rows) → readEngines t ≡ took k rs → Written t k rs
+unfolding readEngines enginesText partsOk engineForm
+reads-written t k rs e = go (readForm engineForm t) refl e
+  where
+    said : (qs : Rows) → enginesOk qs ≡ true → qs ≡ engineRows (powersOf qs) (weightsOf qs)
+    said qs h = sym (rows-columns qs 0 (engines-held qs h .held))
+
+    only : (j : ℕ) (v : List Rows) → took j (onlyRows v) ≡ took k rs → T.Said (engineForm .parts) t j v → Written t k rs
+    only j [] d b = absurd (true≢false (sym (b .within)))
+    only j (qs ∷ q ∷ v) d b = absurd (true≢false (sym (both-hold (partOk enginePart qs) false (b .within) .1)))
+    only j (qs ∷ []) d b =
+        let x : k ≡ j = cc in
+        let y : rs ≡ qs = cc in
+        let r = b .is ∙ ap (λ (z : Rows). formText engineForm (z ∷ [])) (said qs (b .within)) in
+        rw (x, y) (record { text = r; within = b .within; count = b .count })
+
+    go : (q : Found (List Rows)) → readForm engineForm t ≡ q → mapped onlyRows q ≡ took k rs → Written t k rs
+    go (took j v) f d = only j v d (T.reads-written engineForm t j v f)
+    go (lost number at) f d = absurd (lost-not-found d)
+
+-- a text of engine rows too is refused with 2 or 3 alone
+pub engines-fault : (t : List ℕ) (number at : ℕ) → readEngines t ≡ lost number at → (number ≡ 2) ⊎ (number ≡ 3)
+unfolding readEngines
+engines-fault t number at e =
+    fault (readEngines t) number at (mapped-plain onlyRows (readForm engineForm t) (form-plain engineForm t)) e

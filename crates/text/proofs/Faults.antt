@@ -1,0 +1,90 @@
+-- 01, Refusal numbers: a line is refused with 2 or 3 and with no other number.
+use mathlib.Core.Path.{_≡_, refl, sym}
+use mathlib.Core.Bool.{Bool, true, false, _&&_, _||_, true≢false}
+use mathlib.Core.Logic.{_⊎_, inl, inr}
+use mathlib.Core.List.{List, [], _∷_}
+use Prim.Native.Nat.{ℕ}
+use borrow.Author.Tests.{eqb-true, eqb-false}
+use lib.Dec.{eqb}
+use lib.ListN.{length, drop}
+use Rattle.answers.specs.Refusals.{brokenLine, outsideLimits}
+use Rattle.text.specs.declared.NumberRead.{NumberRead}
+use Rattle.text.specs.declared.NumberRead.the-variants.{Value, Malformed}
+use Rattle.text.specs.declared.EntryRead.{EntryRead}
+use Rattle.text.specs.declared.EntryRead.the-variants.{Number, Misread}
+use Rattle.text.specs.declared.LineRead.{LineRead}
+use Rattle.text.specs.declared.LineRead.the-variants.{Taken, Fault}
+use Rattle.text.specs.Quoted.{dash}
+use Rattle.text.specs.Field.{fieldOf, begins, agreed}
+use Rattle.text.specs.Number.{numberOf}
+use Rattle.text.specs.Limit.{Limit, orNone, within}
+use Rattle.text.specs.Line.{Line, Reading, shiftBy, onEntry, judged, ender, readEntry, readNumbers, readLine}
+use Rattle.ground.proofs.Booleans.{either}
+use Rattle.text.proofs.Line.{line-tagged, line-untagged}
+
+-- whether a number is one of the two
+abbrev pub twoOrThree : ℕ → Bool
+twoOrThree number = eqb number brokenLine || eqb number outsideLimits
+
+pub two-or-three : (number : ℕ) → twoOrThree number ≡ true → (number ≡ 2) ⊎ (number ≡ 3)
+two-or-three number h = go (eqb number 2) (eqb number 3) refl refl h
+  where
+    go : (a b : Bool) → eqb number 2 ≡ a → eqb number 3 ≡ b → (a || b) ≡ true → (number ≡ 2) ⊎ (number ≡ 3)
+    go true b e f h = inl (eqb-true number 2 e)
+    go false true e f h = inr (eqb-true number 3 f)
+    go false false e f h = absurd (true≢false (sym h))
+
+-- whether a reading ended well, or with one of them
+abbrev byNumber : LineRead → Bool
+byNumber (Taken k) = true
+byNumber (Fault number at) = twoOrThree number
+
+abbrev pub Textual : Reading → Type 0
+Textual p = byNumber (p .ended) ≡ true
+
+shifted : (k : ℕ) (r : LineRead) → byNumber r ≡ true → byNumber (shiftBy k r) ≡ true
+shifted k (Taken n) h = h
+shifted k (Fault number at) h = h
+
+abbrev entryBy : EntryRead → Bool
+entryBy (Number n k) = true
+entryBy (Misread number at) = twoOrThree number
+
+abbrev EntryTextual : EntryRead → Type 0
+EntryTextual r = entryBy r ≡ true
+
+judged-textual : (r : NumberRead) (l : Limit) (last e len : ℕ) (t : List ℕ) → EntryTextual (judged r l last e len t)
+judged-textual (Malformed at) l last e len t = refl
+judged-textual (Value n) l last e len t =
+    either EntryTextual (begins e t) (either EntryTextual (within l last n) refl refl) refl
+
+entry-textual : (l : Limit) (last e : ℕ) (t : List ℕ) → EntryTextual (readEntry l last e t)
+unfolding readEntry
+entry-textual l last e t =
+    either EntryTextual (eqb (l .rule) orNone && begins dash t) (either EntryTextual (begins e (drop 1 t)) refl refl)
+    (judged-textual (numberOf (fieldOf t)) l last e (length (fieldOf t)) (drop (length (fieldOf t)) t))
+
+on-entry : (r : EntryRead) (rest : ℕ → List ℕ → Reading) (t : List ℕ) → EntryTextual r
+    → ((n : ℕ) (u : List ℕ) → Textual (rest n u))
+    → Textual (onEntry r rest t)
+on-entry (Misread number at) rest t h ih = h
+on-entry (Number n k) rest t h ih = shifted k (rest n (drop k t) .ended) (ih n (drop k t))
+
+numbers-textual : (ls : List Limit) (last : ℕ) (t : List ℕ) → Textual (readNumbers ls last t)
+unfolding readNumbers
+numbers-textual [] last t = refl
+numbers-textual (l ∷ ls) last t =
+    on-entry (readEntry l last (ender ls) t) (readNumbers ls) t (entry-textual l last (ender ls) t) (numbers-textual ls)
+
+pub line-textual : (l : Line) (t : List ℕ) → Textual (readLine l t)
+line-textual l t = go (eqb (agreed (l .tag) t) n) refl
+  where
+    n : ℕ
+    n = length (l .tag)
+
+    go : (u : Bool) → eqb (agreed (l .tag) t) n ≡ u → Textual (readLine l t)
+    go true e =
+        let rest : Reading = readNumbers (l .limits) 0 (drop n t) in
+        rw (line-tagged l t (eqb-true (agreed (l .tag) t) n e))
+        (shifted n (rest .ended) (numbers-textual (l .limits) 0 (drop n t)))
+    go false e = rw (line-untagged l t (eqb-false (agreed (l .tag) t) n e)) refl
