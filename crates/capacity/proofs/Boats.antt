@@ -1,4 +1,4 @@
--- The boats of the plates' computed cases, and what a case says: the whole answer of one plate. Assumes nothing.
+-- The boats of the plates' computed cases, and what a case says: the whole answer of one plate.
 use mathlib.Core.Bool.{Bool, true, _&&_}
 use mathlib.Core.List.{List, [], _∷_, _++_}
 use Prim.Native.Nat.{ℕ}

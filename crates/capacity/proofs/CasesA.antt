@@ -1,4 +1,4 @@
--- Cases of plate A: each figure of its rules at its value and one beside it, and its refusals two at once. Assumes nothing.
+-- Cases of plate A: each figure of its rules at its value and one beside it, and its refusals two at once.
 use mathlib.Core.List.{List, [], _∷_}
 use Rattle.answers.specs.declared.Answer.the-variants.{Refused, Plate}
 use Rattle.capacity.specs.Samples.{seated, load, power, inboard}

@@ -1,4 +1,4 @@
--- Cases of plate C: each figure of its rules at its value and one beside it, and its refusals two at once. Assumes nothing.
+-- Cases of plate C: each figure of its rules at its value and one beside it, and its refusals two at once.
 use mathlib.Core.List.{List, [], _∷_}
 use Prim.Native.Nat.{ℕ}
 use lib.ListN.{replicate}

@@ -1,4 +1,4 @@
--- Cases of plate U: 02's figures and one beside each number of its rules. Assumes nothing.
+-- Cases of plate U: 02's figures and one beside each number of its rules.
 use mathlib.Core.List.{List, [], _∷_}
 use lib.ListN.{replicate}
 use Rattle.answers.specs.declared.Answer.the-variants.{Refused, Count}

@@ -1,4 +1,4 @@
--- Engine rows, row by row as the code walks them, and the engine's weight. Assumes nothing.
+-- Engine rows, row by row as the code walks them, and the engine's weight.
 use mathlib.Core.Path.{_≡_, refl, sym, _∙_}
 use mathlib.Core.Bool.{Bool, true, false, _&&_}
 use mathlib.Core.List.{List}
@@ -9,7 +9,7 @@ use lib.ListN.{length, getD, drop, drop-of-length-le, List·getD-eq-default}
 use Rattle.ground.proofs.Stores.{drop-more}
 use Rattle.sheet.specs.Lines.{mostRows}
 use Rattle.capacity.specs.Words.{outboard, declared}
-use Rattle.capacity.specs.PlateC.{rowFits, rising, leastRows, rowsRight, wantsRow, rowFor, noRow, engineWeight}
+use Rattle.capacity.specs.PlateC.{rowFits, rising, leastRows, rowsRight, wantsRow, rowFor, lacksRow, engineWeight}
 
 -- ---- rows that rise
 
@@ -79,12 +79,12 @@ idle-rowless s e = rw e (go (eqb (outboard s) 1))
     go true = refl
     go false = refl
 
-pub row-unwanted : (s ps : List ℕ) → wantsRow s ≡ false → false ≡ noRow s ps
-unfolding noRow
+pub row-unwanted : (s ps : List ℕ) → wantsRow s ≡ false → false ≡ lacksRow s ps
+unfolding lacksRow
 row-unwanted s ps e = rw e refl
 
-pub row-wanted : (s ps : List ℕ) {d : ℕ} {row : ℕ} → wantsRow s ≡ true → d ≡ declared s → row ≡ rowFor d ps → leb (length ps) row ≡ noRow s ps
-unfolding noRow
+pub row-wanted : (s ps : List ℕ) {d : ℕ} {row : ℕ} → wantsRow s ≡ true → d ≡ declared s → row ≡ rowFor d ps → leb (length ps) row ≡ lacksRow s ps
+unfolding lacksRow
 row-wanted s ps e f g = rw (e, g, f) refl
 
 pub weight-unwanted : (s ps ws : List ℕ) → wantsRow s ≡ false → 0 ≡ engineWeight s ps ws

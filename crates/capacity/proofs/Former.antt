@@ -1,4 +1,4 @@
--- The rule that 02 (ii) amends, by which a flat bottom on the line of 5000000 had its own row: where the two differ, and the builder's complaint. Assumes nothing.
+-- The rule that 02 (ii) amends, by which a flat bottom on the line of 5000000 had its own row: where the two differ, and the builder's complaint.
 use mathlib.Core.Path.{_≡_, refl, sym}
 use mathlib.Core.Bool.{Bool, true, false, _&&_, cond}
 use mathlib.Core.List.{List, [], _∷_, map}

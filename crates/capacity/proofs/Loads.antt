@@ -1,23 +1,28 @@
--- The exact loads of 01 as differences of two natural sums, with their bounds. Assumes nothing.
+-- The exact loads of 01 as differences of two natural sums, with their bounds.
 use mathlib.Core.Path.{_≡_, refl}
 use mathlib.Core.Bool.{Bool, true, false}
 use mathlib.Core.List.{List, [], _∷_}
 use Prim.Native.Nat.{ℕ, suc, _+_, _-_, _*_, _≤_, _<_}
-use native.Mathlib.Nat.{mul-le-mul, mul-div-le, le-trans}
+use native.Mathlib.Nat.{mul-le-mul, mul-div-le}
 use native.Mathlib.Omega.{arith}
 use lib.Dec.{eqb, ltb}
 use borrow.Author.Tests.{lt-ltb, le-ltb, ltb-true, ltb-false}
 use lib.IntN.{pos, subℕ, _+ℤ_, _-ℤ_, _*ℤ_}
 use lib.ListN.{length, getD}
+use Rattle.sheet.specs.Lines.{fittings, fittingHigh}
+use Rattle.sheet.specs.Sheet.{wordsOk}
+use Rattle.sheet.specs.Places.{referenceAt, aftAt, wellAt, floodingAt}
 use Rattle.capacity.specs.Whole.{floorDiv, orZero}
 use Rattle.capacity.specs.Words.{reference, station, aft, well, flooding, bare, fuel, machinery, outboard, declared, fittingsOf}
-use Rattle.capacity.specs.Volume.{stationProduct, summed, volumeN, gram, netZ}
+use Rattle.capacity.specs.Volume.{stationProduct, stationsN, volumeN, gram, netZ}
 use Rattle.capacity.specs.Weights.{addedUp, boatM}
 use Rattle.capacity.specs.PlateC.{exactX, markedC, lowPower, markedKilo}
 use Rattle.capacity.specs.PlateA.{halfMarked, inboardX, loadX, markedA}
-use Rattle.capacity.specs.Bounds.{Stations, Bounds, heaviest}
+use Rattle.capacity.specs.Highs.{highAt, Stations, heaviest}
 use Rattle.capacity.proofs.Whole.{Differ, of-pos, of-sub, sum-of, less-of, times-of, is-sub}
-use Rattle.capacity.proofs.Volume.{product-most}
+use Rattle.capacity.proofs.Volume.{productMost, product-most}
+use Rattle.capacity.proofs.Within.{aft-most, well-most, flooding-most, bare-most, fuel-most, machinery-most}
+use Rattle.capacity.proofs.Within.{weights-within, stations-within}
 
 -- ---- what adds, and what takes away
 
@@ -74,42 +79,59 @@ pub boat-is : (s : List ℕ) → boatM s ≡ bare s + addedUp (fittingsOf s)
 unfolding boatM
 boat-is s = refl
 
-pub volume-is : (s : List ℕ) {q r t u : List ℕ} → q ≡ station s 0 → r ≡ station s 1 → t ≡ station s 2 → u ≡ station s 3 → summed (reference s) (stationProduct q) (stationProduct r) (stationProduct t) (stationProduct u) ≡ volumeN s
+pub volume-is : (s : List ℕ) {q r t u : List ℕ} → q ≡ station s 0 → r ≡ station s 1 → t ≡ station s 2 → u ≡ station s 3
+    → stationsN (reference s) (q ∷ r ∷ t ∷ u ∷ []) ≡ volumeN s
 unfolding volumeN
 volume-is s a b c d = rw (a, b, c, d) refl
 
 -- ---- bounds
 
-sum-most-in : (ws : List ℕ) (n : ℕ) → length ws ≤ n → ((k : ℕ) → getD ws k 0 ≤ 500000) → addedUp ws ≤ 500000 * n
+sum-most : (ws : List ℕ) (n : ℕ) → length ws ≤ n → ((k : ℕ) → getD ws k 0 ≤ fittingHigh) → addedUp ws ≤ fittingHigh * n
 unfolding addedUp
-sum-most-in [] n h f = omega arith
-sum-most-in (w ∷ ws) n h f =
-    let a : w ≤ 500000 = f 0 in
-    let b : addedUp ws ≤ 500000 * length ws = sum-most-in ws (length ws) (omega arith) (λ (k : ℕ). f (suc k)) in
-    omega arith
+sum-most [] n h f = omega arith
+sum-most (w ∷ ws) n h f = omega (arith, f 0, sum-most ws (length ws) (omega arith) (λ (k : ℕ). f (suc k)))
 
-pub boat-most : (s : List ℕ) → Bounds s → boatM s ≤ 14000000
-unfolding boatM
-boat-most s b = omega (arith, b .bare-most, sum-most-in (fittingsOf s) 24 (b .fittings .few) (b .fittings .light))
+-- N of four stations and a reference length
+abbrev pub volumeMost : ℕ
+volumeMost = highAt referenceAt * (11 * productMost)
 
--- four stations and a reference length: N of them, and those of a sheet
-pub stations-most : (ls : List (List ℕ)) (ref : ℕ) → Stations ls ref → summed ref (stationProduct (getD ls 0 [])) (stationProduct (getD ls 1 [])) (stationProduct (getD ls 2 [])) (stationProduct (getD ls 3 [])) ≤ 9900000000000
+pub stations-most : (ls : List (List ℕ)) (ref : ℕ) → Stations ls ref → stationsN ref ls ≤ volumeMost
 stations-most ls ref b =
     let q = product-most (getD ls 0 []) (b .at0) in
     let r = product-most (getD ls 1 []) (b .at1) in
     let t = product-most (getD ls 2 []) (b .at2) in
     let u = product-most (getD ls 3 []) (b .at3) in
-    le-trans (mul-le-mul {n₂ = 6000} {m₂ = 1650000000} (b .reference-most) (omega arith)) (omega arith)
+    mul-le-mul {n₂ = highAt referenceAt} {m₂ = 11 * productMost} (b .reference-most) (omega arith)
 
-stations-of : (s : List ℕ) → Bounds s → Stations (station s 0 ∷ station s 1 ∷ station s 2 ∷ station s 3 ∷ []) (reference s)
-stations-of s b = record { at0 = b .stations 0 (omega arith); at1 = b .stations 1 (omega arith); at2 = b .stations 2 (omega arith); at3 = b .stations 3 (omega arith); reference-most = b .reference-most }
+abbrev pub gainMost : ℕ
+gainMost = volumeMost + gram * highAt aftAt
 
-pub volume-most : (s : List ℕ) → Bounds s → volumeN s ≤ 9900000000000
-unfolding volumeN
-volume-most s b = stations-most (station s 0 ∷ station s 1 ∷ station s 2 ∷ station s 3 ∷ []) (reference s) (stations-of s b)
+abbrev pub lossMost : ℕ
+lossMost = gram * (highAt wellAt + highAt floodingAt + heaviest)
 
-pub loss-most : (s : List ℕ) {w : ℕ} → Bounds s → w ≤ heaviest → loss w s ≤ 5220000000000
-loss-most s b h = omega (arith, b .well-most, b .flooding-most)
+-- what adds, what the boat is taken to weigh, and what takes away, of a sheet within the limits
+module _ (s : List ℕ) (ok : wordsOk s ≡ true) where
+  volume-most : volumeN s ≤ volumeMost
+  unfolding volumeN
+  volume-most =
+      stations-most (station s 0 ∷ station s 1 ∷ station s 2 ∷ station s 3 ∷ []) (reference s) (stations-within s ok refl refl refl refl)
+
+  pub gain-most : gain s ≤ gainMost
+  gain-most = omega (arith, volume-most, aft-most s ok)
+
+  pub weight-most : boatM s + 5 * (fuel s + machinery s) ≤ heaviest
+  unfolding boatM
+  weight-most =
+      let ws = weights-within s ok in
+      let fitted = sum-most (fittingsOf s) fittings (ws .few) (ws .light) in
+      omega (arith, bare-most s ok, fuel-most s ok, machinery-most s ok)
+
+  pub loss-most : {w : ℕ} → w ≤ heaviest → loss w s ≤ lossMost
+  loss-most h = omega (arith, well-most s ok, flooding-most s ok)
+
+  -- that of the weight above
+  pub lost-most : loss (boatM s + 5 * (fuel s + machinery s)) s ≤ lossMost
+  lost-most = loss-most weight-most
 
 -- ---- a marked load fits 32 bits
 
@@ -120,16 +142,16 @@ floor-most a b d = go (ltb a b) refl
     go true e = rw e (omega arith)
     go false e = rw e (omega (arith, mul-div-le (a - b) d))
 
-pub marked-most : (s : List ℕ) → Bounds s → orZero (markedA s) ≤ 20000
+pub marked-most : (s : List ℕ) → wordsOk s ≡ true → orZero (markedA s) ≤ 20000
 marked-most s b = go (eqb (outboard s) 1) refl
   where
     go : (t : Bool) → eqb (outboard s) 1 ≡ t → orZero (markedA s) ≤ 20000
-    go true e = omega (arith, marked-outboard s refl e, floor-most (gain s + halfMarked) (loss (boatM s + (fuel s + machinery s)) s) markedKilo, volume-most s b, b .aft-most)
-    go false e = omega (arith, marked-inboard s refl e, floor-most (gain s + halfMarked) (loss (boatM s + 5 * (fuel s + machinery s)) s) markedKilo, volume-most s b, b .aft-most)
+    go true e = omega (arith, marked-outboard s refl e, floor-most (gain s + halfMarked) (loss (boatM s + (fuel s + machinery s)) s) markedKilo, gain-most s b)
+    go false e = omega (arith, marked-inboard s refl e, floor-most (gain s + halfMarked) (loss (boatM s + 5 * (fuel s + machinery s)) s) markedKilo, gain-most s b)
 
-pub c-most : (s : List ℕ) → Bounds s → orZero (markedC s) ≤ 20000
+pub c-most : (s : List ℕ) → wordsOk s ≡ true → orZero (markedC s) ≤ 20000
 c-most s b = go (ltb lowPower (declared s)) refl
   where
     go : (t : Bool) → ltb lowPower (declared s) ≡ t → orZero (markedC s) ≤ 20000
-    go true e = omega (arith, marked-high s refl (ltb-true lowPower (declared s) e), floor-most (gain s) (loss (boatM s + (fuel s + machinery s)) s) markedKilo, volume-most s b, b .aft-most)
-    go false e = omega (arith, marked-low s refl (ltb-false lowPower (declared s) e), floor-most (3 * gain s) (3 * loss (boatM s + (fuel s + machinery s)) s) (2 * markedKilo), volume-most s b, b .aft-most)
+    go true e = omega (arith, marked-high s refl (ltb-true lowPower (declared s) e), floor-most (gain s) (loss (boatM s + (fuel s + machinery s)) s) markedKilo, gain-most s b)
+    go false e = omega (arith, marked-low s refl (ltb-false lowPower (declared s) e), floor-most (3 * gain s) (3 * loss (boatM s + (fuel s + machinery s)) s) (2 * markedKilo), gain-most s b)

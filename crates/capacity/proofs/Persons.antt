@@ -1,4 +1,4 @@
--- Live load and persons over natural sums, and what persons is: the least of the limits that apply. Assumes nothing.
+-- Live load and persons over natural sums, and what persons is: the least of the limits that apply.
 use mathlib.Core.Path.{_≡_, refl, sym, ap, _∙_}
 use mathlib.Core.Bool.{Bool, true, false, true≢false, cond}
 use mathlib.Core.List.{List}
@@ -9,27 +9,30 @@ use borrow.Author.Tests.{lt-ltb, le-ltb}
 use lib.Dec.{eqb}
 use lib.IntN.{ℤ, pos, subℕ, _-ℤ_, _*ℤ_}
 use Rattle.capacity.specs.Whole.{floorDiv, least, orZero}
+use Rattle.sheet.specs.Sheet.{wordsOk}
+use Rattle.sheet.specs.Places.{positionsAt}
 use Rattle.capacity.specs.Words.{positions, tested}
-use Rattle.capacity.specs.PlateC.{markedC, engineWeight, liveLoad, personGrams, testedGrams, persons, untested}
-use Rattle.capacity.specs.Bounds.{Bounds}
+use Rattle.capacity.specs.PlateC.{markedC, engineWeight, liveLoad, personGrams, testedGrams, persons, lacksTests}
+use Rattle.capacity.specs.Highs.{highAt}
+use Rattle.capacity.proofs.Within.{positions-most}
 use Rattle.capacity.proofs.Whole.{of-pos, less-of, is-sub, below-sub, whole-pos}
 use Rattle.capacity.proofs.Order.{NotAbove, not-above-trans, least-left, least-right, least-one, whole-least}
 
 -- ---- in naturals
 
-pub live-is : (s ps ws : List ℕ) {load engine : ℕ} → (orZero (markedC s) ≡ 0 → ⊥) → load ≡ orZero (markedC s) → engine ≡ engineWeight s ps ws → subℕ (1000 * load) engine ≡ liveLoad s ps ws
+pub live-is : (s ps ws : List ℕ) {load engine : ℕ} → (load ≡ 0 → ⊥) → load ≡ orZero (markedC s) → engine ≡ engineWeight s ps ws → subℕ (1000 * load) engine ≡ liveLoad s ps ws
 unfolding liveLoad
 live-is s ps ws h e f =
     let m = orZero (markedC s) in
     let w = engineWeight s ps ws in
-    rw (e, f) (sym (ap (λ (z : ℤ). pos 1000 *ℤ z -ℤ pos w) (whole-pos (markedC s) (omega arith)) ∙ is-sub (1000 * m) w (less-of (of-pos (1000 * m)) (of-pos w)) (omega arith)))
+    rw (e, f) (sym (ap (λ (z : ℤ). pos 1000 *ℤ z -ℤ pos w) (whole-pos (markedC s) (omega (arith, h, e))) ∙ is-sub (1000 * m) w (less-of (of-pos (1000 * m)) (of-pos w)) (omega arith)))
 
-pub tested-wanted : (s : List ℕ) (gross engine : ℕ) {t : Bool} → gross < engine + testedGrams → t ≡ eqb (tested s) 0 → t ≡ untested s (subℕ gross engine)
-unfolding untested
+pub tested-wanted : (s : List ℕ) (gross engine : ℕ) {t : Bool} → gross < engine + testedGrams → t ≡ eqb (tested s) 0 → t ≡ lacksTests s (subℕ gross engine)
+unfolding lacksTests
 tested-wanted s gross engine h e = rw (below-sub gross engine testedGrams, lt-ltb gross (engine + testedGrams) h) e
 
-pub tested-unwanted : (s : List ℕ) (gross engine : ℕ) → engine + testedGrams ≤ gross → false ≡ untested s (subℕ gross engine)
-unfolding untested
+pub tested-unwanted : (s : List ℕ) (gross engine : ℕ) → engine + testedGrams ≤ gross → false ≡ lacksTests s (subℕ gross engine)
+unfolding lacksTests
 tested-unwanted s gross engine h = rw (below-sub gross engine testedGrams, le-ltb gross (engine + testedGrams) h) refl
 
 pub persons-untested : (s : List ℕ) (live : ℤ) {p q : ℕ} → eqb (tested s) 0 ≡ true → p ≡ positions s → q ≡ orZero (floorDiv live personGrams) → min p q ≡ orZero (persons s live)
@@ -42,12 +45,12 @@ persons-tested s live e f g h =
     rw (e, f, g, h)
     (sym (whole-least (least (pos (positions s)) (floorDiv live personGrams)) (pos (tested s)) ∙ ap (λ (x : ℕ). min x (tested s)) (whole-least (pos (positions s)) (floorDiv live personGrams))))
 
-pub persons-most : (s : List ℕ) (live : ℤ) → Bounds s → orZero (persons s live) ≤ 24
+pub persons-most : (s : List ℕ) (live : ℤ) → wordsOk s ≡ true → orZero (persons s live) ≤ highAt positionsAt
 persons-most s live b = go (eqb (tested s) 0) refl
   where
-    go : (t : Bool) → eqb (tested s) 0 ≡ t → orZero (persons s live) ≤ 24
-    go true e = omega (arith, persons-untested s live e refl refl, b .positions-most)
-    go false e = omega (arith, persons-tested s live e refl refl refl, b .positions-most)
+    go : (t : Bool) → eqb (tested s) 0 ≡ t → orZero (persons s live) ≤ highAt positionsAt
+    go true e = omega (arith, persons-untested s live e refl refl, positions-most s b)
+    go false e = omega (arith, persons-tested s live e refl refl refl, positions-most s b)
 
 -- ---- the least of the limits that apply
 

@@ -1,4 +1,4 @@
--- Plate U: which figures apply to a hull, and that what is marked is the largest whole number of pounds within them, below zero too. Assumes nothing.
+-- Plate U: which figures apply to a hull, and that what is marked is the largest whole number of pounds within them, below zero too.
 use mathlib.Core.Path.{_≡_, refl}
 use mathlib.Core.Bool.{Bool, true, false, cond}
 use mathlib.Core.List.{List}

@@ -1,4 +1,4 @@
--- Plate A's power, by the case that the code finds. Assumes nothing.
+-- Plate A's power, by the case that the code finds.
 use mathlib.Core.Path.{_≡_, refl, sym, ap, _∙_}
 use mathlib.Core.Bool.{Bool, true, false, _&&_, cond}
 use mathlib.Core.List.{List, [], _∷_}
@@ -9,18 +9,25 @@ use borrow.Author.Tests.{lt-ltb, le-ltb, le-leb, lt-leb, leb-true, ne-eqb}
 use Rattle.ground.proofs.Booleans.{both-hold, first-fails, second-fails, either}
 use lib.Dec.{eqb, leb, ltb}
 use lib.ListN.{length, getD}
+use Rattle.sheet.specs.Sheet.{wordsOk}
+use Rattle.sheet.specs.Places.{lengthAt, transomWidthAt}
 use Rattle.capacity.specs.Words.{hullLength, transomWidth, transomHeight, flatBottom, remote, outboard}
 use Rattle.capacity.specs.PlateC.{rowFor}
-use Rattle.capacity.specs.PlateA.{factorP, tableEnd, tableEnds, tableWatts, rowOf, rowWatts, beforeWatts, raised, formulaWatts, powerA, noPower}
-use Rattle.capacity.specs.Bounds.{Bounds}
+use Rattle.capacity.specs.PlateA.{factorP, tableEnd, tableEnds, tableWatts, rowOf, rowWatts, beforeWatts, raised, formulaWatts, powerA, lacksPower}
+use Rattle.capacity.specs.Highs.{highAt}
+use Rattle.capacity.proofs.Within.{long-most, wide-most}
 
 -- ---- the power factor
 
 pub factor-is : (s : List ℕ) {l w : ℕ} → l ≡ hullLength s → w ≡ transomWidth s → l * w ≡ factorP s
 factor-is s a b = rw (a, b) refl
 
-pub factor-most : (s : List ℕ) {l w : ℕ} → Bounds s → l ≡ hullLength s → w ≡ transomWidth s → l * w ≤ 18000000
-factor-most s bounds a b = mul-le-mul {n₂ = 6000} {m₂ = 3000} (omega (arith, bounds .long)) (omega (arith, bounds .wide))
+-- that of the largest hull
+abbrev pub factorMost : ℕ
+factorMost = highAt lengthAt * highAt transomWidthAt
+
+pub factor-most : (s : List ℕ) → wordsOk s ≡ true → factorP s ≤ factorMost
+factor-most s ok = mul-le-mul {n₂ = highAt lengthAt} {m₂ = highAt transomWidthAt} (long-most s ok) (wide-most s ok)
 
 -- ---- above the table
 
@@ -77,7 +84,7 @@ row-in p h = row-within p tableEnds 5 (omega arith) h
 
 -- ---- no power, and a power that fits 32 bits
 
-pub first-row : (s : List ℕ) {p : ℕ} → p ≡ factorP s → eqb (outboard s) 1 ≡ true → eqb (flatBottom s) 1 ≡ true → leb p 2250000 ≡ noPower s
+pub first-row : (s : List ℕ) {p : ℕ} → p ≡ factorP s → eqb (outboard s) 1 ≡ true → eqb (flatBottom s) 1 ≡ true → leb p 2250000 ≡ lacksPower s
 unfolding rowFor
 first-row s {p} e a b = rw (a, b, ← e) (go (leb p 2250000) _)
   where
@@ -85,17 +92,17 @@ first-row s {p} e a b = rw (a, b, ← e) (go (leb p 2250000) _)
     go true k = refl
     go false k = sym (ne-eqb (suc k) 0 (λ z. omega arith))
 
-pub inboard-powered : (s : List ℕ) → eqb (outboard s) 1 ≡ false → noPower s ≡ false
+pub inboard-powered : (s : List ℕ) → eqb (outboard s) 1 ≡ false → lacksPower s ≡ false
 inboard-powered s e = first-fails _ e
 
-pub round-powered : (s : List ℕ) → eqb (flatBottom s) 1 ≡ false → noPower s ≡ false
+pub round-powered : (s : List ℕ) → eqb (flatBottom s) 1 ≡ false → lacksPower s ≡ false
 round-powered s e = second-fails (eqb (outboard s) 1) (first-fails _ e)
 
 -- a power that fits 32 bits with room to spare
 abbrev Fitting : ℕ → Type 0
 Fitting watts = watts ≤ 300000
 
-formula-most : (s : List ℕ) → factorP s ≤ 18000000 → Fitting (formulaWatts s)
+formula-most : (s : List ℕ) → factorP s ≤ factorMost → Fitting (formulaWatts s)
 unfolding formulaWatts
 formula-most s h = either Fitting (eqb (remote s) 1 && leb 500 (transomHeight s)) (omega arith) (either Fitting (eqb (flatBottom s) 1) (omega arith) (omega arith))
 
@@ -111,8 +118,8 @@ getD-most (x ∷ l) n e (suc k) = getD-most l n (both-hold (leb x n) (allMost l 
 watts-most : (k : ℕ) → Fitting (getD tableWatts k 0)
 watts-most = getD-most tableWatts 300000 refl
 
-pub power-most : (s : List ℕ) → Bounds s → powerA s ≤ 300000
+pub power-most : (s : List ℕ) → wordsOk s ≡ true → powerA s ≤ 300000
 unfolding powerA
 power-most s b =
     either Fitting (eqb (outboard s) 0) (omega arith)
-    (either Fitting (ltb tableEnd (factorP s)) (formula-most s (factor-most s b refl refl)) (either Fitting (eqb (flatBottom s) 1) (watts-most (rowOf (factorP s))) (watts-most (suc (rowOf (factorP s))))))
+    (either Fitting (ltb tableEnd (factorP s)) (formula-most s (factor-most s b)) (either Fitting (eqb (flatBottom s) 1) (watts-most (rowOf (factorP s))) (watts-most (suc (rowOf (factorP s))))))

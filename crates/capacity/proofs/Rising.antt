@@ -1,4 +1,4 @@
--- Plate A's power from hull to hull of one rig: it never falls as P grows, and a flat bottom never has more than another. 02 (ii). Assumes nothing.
+-- Plate A's power from hull to hull of one rig: it never falls as P grows, and a flat bottom never has more than another. 02 (ii).
 use mathlib.Core.Path.{_≡_, refl, sym, _∙_}
 use mathlib.Core.Bool.{Bool, true, false, _&&_, cond, false≢true}
 use mathlib.Core.List.{List, [], _∷_}

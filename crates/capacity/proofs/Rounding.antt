@@ -1,4 +1,4 @@
--- What the roundings give: the largest whole number that fits, the nearest with a half upward, the least multiple that reaches. Assumes nothing.
+-- What the roundings give: the largest whole number that fits, the nearest with a half upward, the least multiple that reaches.
 use mathlib.Core.Path.{_≡_, refl}
 use mathlib.Core.Bool.{Bool, true, false}
 use mathlib.Core.List.{List}

@@ -1,4 +1,4 @@
--- Engine rows that were read from a text are right: plate C never refuses them with 10. Assumes nothing.
+-- Engine rows that were read from a text are right: plate C never refuses them with 10.
 use mathlib.Core.Path.{_≡_, refl, sym, ap, _∙_}
 use mathlib.Core.Bool.{Bool, true, false, _&&_, true≢false}
 use mathlib.Core.List.{List, [], _∷_}

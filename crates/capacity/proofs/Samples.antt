@@ -1,5 +1,5 @@
 -- The plates computed: the starred samples of 01, cases 1 to 7, as one statement over one list of them; one table of our own cases, the whole answer of each; the words'
--- names; and each factor of the volume and row of the power table. Assumes nothing.
+-- names; and each factor of the volume and row of the power table.
 use mathlib.Core.Path.{_≡_, refl}
 use mathlib.Core.Bool.{Bool, true, false, _&&_}
 use mathlib.Core.List.{List, [], _∷_, _++_, map}
@@ -17,10 +17,10 @@ use Rattle.sheet.specs.Reading.{readLines, readFits, readEnd, readRest, readShe
 use Rattle.capacity.specs.Words.{hullLength, reference, transomWidth, transomHeight, flatBottom, remote, station, aft, well, flooding, bare, fuel, machinery, outboard, declared, positions, tested, fittingsOf}
 use Rattle.capacity.specs.Volume.{stationProduct, summed, volumeN, netZ}
 use Rattle.capacity.specs.Weights.{addedUp, boatM}
-use Rattle.capacity.specs.PlateC.{exactX, markedC, rising, rowsRight, rowFor, noRow, engineWeight, liveLoad, persons, untested, plateC}
+use Rattle.capacity.specs.PlateC.{exactX, markedC, rising, rowsRight, rowFor, lacksRow, engineWeight, liveLoad, persons, lacksTests, plateC}
 use Rattle.capacity.specs.PlateA.{inboardX, loadX, markedA, rowWatts, beforeWatts, formulaWatts, powerA, plateA}
 use Rattle.capacity.specs.PlateU.{ruleU, markedU, plateU}
-use Rattle.capacity.specs.Bounds.{heaviest}
+use Rattle.capacity.specs.Highs.{heaviest}
 use Rattle.capacity.specs.Samples.{words, seated, load, power, inboard, Case, marks, agrees, refuses, second-is, answer-c, holds-of, stands, cases}
 use Rattle.capacity.proofs.Boats.{Told, answered, all-within, massed, stationed, launch, transom, bare-boat, driven, seats}
 use Rattle.capacity.proofs.CasesA.{casesA}
@@ -34,7 +34,7 @@ all-stand [] = true
 all-stand (c ∷ cs) = stands c && all-stand cs
 
 starred : all-stand cases ≡ true
-unfolding all-stand stands cases holds-of answer-c marks agrees refuses second-is seated load power inboard words allHold sheetLimits limitsOn stationProduct volumeN netZ addedUp boatM exactX markedC rising rowsRight rowFor noRow engineWeight liveLoad persons untested plateC inboardX loadX markedA formulaWatts powerA plateA
+unfolding all-stand stands cases holds-of answer-c marks agrees refuses second-is seated load power inboard words allHold sheetLimits limitsOn stationProduct volumeN netZ addedUp boatM exactX markedC rising rowsRight rowFor lacksRow engineWeight liveLoad persons lacksTests plateC inboardX loadX markedA formulaWatts powerA plateA
 starred = refl
 
 -- a load is marked though the plate is refused for another reason, which is 13 or more
@@ -85,7 +85,7 @@ table = casesA ++ (loadsC ++ (rowsC ++ (ordersC ++ casesU)))
 
 -- every plate of the table answers as it must, and every sheet is within the limits
 plates-right : (map answered table ≡ map (λ (t : Told). t .must) table) × (all-within table ≡ true)
-unfolding table casesA loadsC rowsC ordersC casesU all-within massed stationed launch transom bare-boat driven seats upFrom seated load power inboard words allHold sheetLimits limitsOn stationProduct volumeN netZ addedUp boatM exactX markedC rising rowsRight rowFor noRow engineWeight liveLoad persons untested plateC inboardX loadX markedA formulaWatts powerA plateA ruleU markedU plateU
+unfolding table casesA loadsC rowsC ordersC casesU all-within massed stationed launch transom bare-boat driven seats upFrom seated load power inboard words allHold sheetLimits limitsOn stationProduct volumeN netZ addedUp boatM exactX markedC rising rowsRight rowFor lacksRow engineWeight liveLoad persons lacksTests plateC inboardX loadX markedA formulaWatts powerA plateA ruleU markedU plateU
 plates-right = (refl, refl)
 
 -- ---- the words

@@ -1,8 +1,8 @@
--- Laws of the volume: a station's readings, its product, and N by a running total. Assumes nothing.
+-- Laws of the volume: a station's readings, its product, and N by a running total.
 use mathlib.Core.Path.{_≡_, refl, sym, ap, _∙_}
 use mathlib.Core.List.{List, [], _∷_, map}
 use Prim.Native.Nat.{ℕ, zero, suc, _+_, _*_, _≤_, _<_}
-use native.Mathlib.Nat.{mul-add, mul-le-mul, le-trans}
+use native.Mathlib.Nat.{mul-add, mul-le-mul}
 use native.Mathlib.Numerals.{add-one, add-two, add-three, add-four, add-five, add-six}
 use native.Mathlib.Omega.{arith}
 use lib.ListN.{length, getD, take, drop, drop-of-length-le}
@@ -11,7 +11,7 @@ use Rattle.ground.proofs.Stores.{drop-more}
 use Rattle.capacity.specs.Words.{reference, station}
 use Rattle.capacity.specs.Volume.{stationProduct, summed, volumeN}
 use Rattle.capacity.specs.Weights.{addedUp}
-use Rattle.capacity.specs.Bounds.{Readings}
+use Rattle.capacity.specs.Highs.{breadthHigh, depthHigh, Readings}
 
 pub seven : (l : List ℕ) (j : ℕ) → j + 7 ≤ length l
     → getD l j 0 ∷ getD l (j + 1) 0 ∷ getD l (j + 2) 0 ∷ getD l (j + 3) 0 ∷ getD l (j + 4) 0 ∷ getD l (j + 5) 0 ∷ getD l (j + 6) 0 ∷ [] ≡ take 7 (drop j l)
@@ -49,9 +49,13 @@ product-exact b q r s t u v i j k l m n =
     let e : (q + i) + 4 * (r + j) + 2 * (s + k) + 4 * (t + l) + 2 * (u + m) + 2 * (v + n) ≡ x + y = omega arith in
     ap (λ (z : ℕ). b * z) e ∙ mul-add b x y
 
-pub product-most : (l : List ℕ) → Readings l → stationProduct l ≤ 150000000
+-- at the most, each depth counts with all the shares there are
+abbrev pub productMost : ℕ
+productMost = breadthHigh * (15 * depthHigh)
+
+pub product-most : (l : List ℕ) → Readings l → stationProduct l ≤ productMost
 unfolding stationProduct
-product-most l r = le-trans (mul-le-mul {n₂ = 4000} {m₂ = 37500} (r .b) (omega arith)) (omega arith)
+product-most l r = mul-le-mul {n₂ = breadthHigh} {m₂ = 15 * depthHigh} (r .b) (omega arith)
 
 -- ---- N, one station at a time
 

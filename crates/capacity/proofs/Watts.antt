@@ -1,4 +1,4 @@
--- Plate A's power as the plate tells it: where it has none, on the line of 5000000, and from hull to hull of one kind. 02 (ii). Assumes nothing.
+-- Plate A's power as the plate tells it: where it has none, on the line of 5000000, and from hull to hull of one kind. 02 (ii).
 use mathlib.Core.Path.{_≡_, refl, sym, ap, _∙_}
 use mathlib.Core.Bool.{Bool, true, false, _&&_, cond}
 use mathlib.Core.List.{List}
@@ -10,16 +10,17 @@ use lib.ListN.{getD}
 use Rattle.ground.proofs.Booleans.{both-hold, either}
 use Rattle.answers.specs.declared.Answer.{Answer}
 use Rattle.answers.specs.declared.Answer.the-variants.{Refused, Done, Count, Plate}
+use Rattle.answers.specs.Refusals.{noPower}
 use Rattle.capacity.specs.Whole.{isBelow, orZero}
 use Rattle.capacity.specs.Words.{transomHeight, flatBottom, remote, outboard}
 use Rattle.capacity.specs.PlateC.{rowFor}
-use Rattle.capacity.specs.PlateA.{markedA, factorP, tableEnd, tableWatts, rowOf, rowWatts, beforeWatts, listedWatts, formulaWatts, powerA, noPower, plateA}
+use Rattle.capacity.specs.PlateA.{markedA, factorP, tableEnd, tableWatts, rowOf, rowWatts, beforeWatts, listedWatts, formulaWatts, powerA, lacksPower, plateA}
 use Rattle.capacity.proofs.Power.{by-row, row-in, first-row}
 use Rattle.capacity.proofs.Rising.{OneRig, Flatter, watts-grow, power-order}
 
 -- ---- refused with 13 where the power would be 0, and an outboard nowhere else
 
-pub unpowered : (s : List ℕ) → noPower s ≡ true → powerA s ≡ 0
+pub unpowered : (s : List ℕ) → lacksPower s ≡ true → powerA s ≡ 0
 unpowered s e =
     let drive = both-hold (eqb (outboard s) 1) (eqb (flatBottom s) 1 && eqb (rowOf (factorP s)) 0) e in
     let bottom = both-hold (eqb (flatBottom s) 1) (eqb (rowOf (factorP s)) 0) (drive .1) in
@@ -36,7 +37,7 @@ row-some : (p : ℕ) (flat : Bool) → (flat && eqb (rowOf p) 0) ≡ false → p
 row-some p true e h = watts-grow 1 (rowOf p) (omega (arith, eqb-false (rowOf p) 0 e)) (omega (arith, row-in p h))
 row-some p false e h = watts-grow 1 (suc (rowOf p)) (omega arith) (omega (arith, row-in p h))
 
-pub powered : (s : List ℕ) → outboard s ≡ 1 → noPower s ≡ false → 1500 ≤ powerA s
+pub powered : (s : List ℕ) → outboard s ≡ 1 → lacksPower s ≡ false → 1500 ≤ powerA s
 unfolding powerA
 powered s o = rw o (λ (e : (eqb (flatBottom s) 1 && eqb (rowOf (factorP s)) 0) ≡ false). go e (ltb tableEnd (factorP s)) refl)
   where
@@ -61,16 +62,16 @@ wattsOf (Plate load watts) = watts
 -- where plate A marks a load it tells this power, 13 counted as 0
 pub told-power : (s : List ℕ) → isBelow (markedA s) 1 ≡ false → wattsOf (plateA s) ≡ powerA s
 unfolding plateA wattsOf
-told-power s e = rw e (go (noPower s) refl)
+told-power s e = rw e (go (lacksPower s) refl)
   where
-    go : (u : Bool) → noPower s ≡ u → wattsOf (cond u (Refused 13) (Plate (orZero (markedA s)) (powerA s))) ≡ powerA s
+    go : (u : Bool) → lacksPower s ≡ u → wattsOf (cond u (Refused noPower) (Plate (orZero (markedA s)) (powerA s))) ≡ powerA s
     go true n = sym (unpowered s n)
     go false n = refl
 
 -- and no more than it where it does not
 told-most : (s : List ℕ) → wattsOf (plateA s) ≤ powerA s
 unfolding plateA wattsOf
-told-most s = either (λ (a : Answer). wattsOf a ≤ powerA s) (isBelow (markedA s) 1) (omega arith) (either (λ (a : Answer). wattsOf a ≤ powerA s) (noPower s) (omega arith) (omega arith))
+told-most s = either (λ (a : Answer). wattsOf a ≤ powerA s) (isBelow (markedA s) 1) (omega arith) (either (λ (a : Answer). wattsOf a ≤ powerA s) (lacksPower s) (omega arith) (omega arith))
 
 told-order : (s t : List ℕ) → OneRig s t → Flatter s t → factorP s ≤ factorP t → isBelow (markedA t) 1 ≡ false → wattsOf (plateA s) ≤ wattsOf (plateA t)
 told-order s t r f h e = omega (arith, told-most s, power-order s t r f h, told-power t e)

@@ -1,5 +1,5 @@
 -- 02 (i), Plate U (001, 33 CFR 183.33, 183.35 and 183.37): the pounds that a hull may carry, rounded down. The displacement is Z, the net volume as water. Every figure
--- is over whole numbers and may be below zero. Assumes nothing: these are definitions.
+-- is over whole numbers and may be below zero.
 use Prim.Native.Nat.{ℕ, _+_, _*_}
 use mathlib.Core.Bool.{cond}
 use mathlib.Core.List.{List}
@@ -7,6 +7,7 @@ use lib.Dec.{eqb, ltb}
 use lib.IntN.{ℤ, pos, _-ℤ_, _*ℤ_}
 use Rattle.answers.specs.declared.Answer.{Answer}
 use Rattle.answers.specs.declared.Answer.the-variants.{Refused, Count}
+use Rattle.answers.specs.Refusals.{noLoad}
 use Rattle.capacity.specs.Whole.{floorDiv, isBelow, greatest, orZero}
 use Rattle.capacity.specs.Words.{fuel, machinery, outboard, declared}
 use Rattle.capacity.specs.Volume.{gram, netZ}
@@ -89,4 +90,4 @@ markedU s = poundsBy s (ruleU s)
 -- ---- the plate
 
 unfoldable pub plateU : List ℕ → Answer
-plateU s = cond (isBelow (markedU s) 1) (Refused 12) (Count (orZero (markedU s)))
+plateU s = cond (isBelow (markedU s) 1) (Refused noLoad) (Count (orZero (markedU s)))

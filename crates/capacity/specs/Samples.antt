@@ -1,4 +1,4 @@
--- 01, Sample sheets: the base hull, what a case changes of it and what it says. Starred cases 1 to 7, which are of a sheet. Assumes nothing: these are definitions.
+-- 01, Sample sheets: the base hull, what a case changes of it and what it says. Starred cases 1 to 7, which are of a sheet.
 use mathlib.Core.Bool.{Bool, false, _&&_}
 use mathlib.Core.List.{List, [], _∷_, _++_}
 use Prim.Native.Nat.{ℕ}
@@ -7,6 +7,7 @@ use lib.IntN.{ℤ, pos, negsuc}
 use lib.ListN.{replicate}
 use Rattle.answers.specs.declared.Answer.{Answer}
 use Rattle.answers.specs.declared.Answer.the-variants.{Refused, Done, Count, Plate}
+use Rattle.answers.specs.Refusals.{noPower}
 use Rattle.sheet.specs.Sheet.{wordsOk}
 use Rattle.capacity.specs.PlateC.{markedC, plateC}
 use Rattle.capacity.specs.PlateA.{markedA, plateA}
@@ -69,7 +70,7 @@ marks (negsuc m) n = false
 
 -- the marked load is that of the plate's answer, where the plate is not refused for another reason
 unfoldable pub agrees : Answer → ℕ → Bool
-agrees (Refused m) n = leb 13 m
+agrees (Refused m) n = leb noPower m
 agrees Done n = false
 agrees (Count m) n = false
 agrees (Plate a b) n = eqb a n

@@ -1,4 +1,4 @@
--- A sheet's HULL number and the words after it, which do not look back at it. Assumes nothing.
+-- A sheet's HULL number and the words after it, which do not look back at it.
 use mathlib.Core.Path.{_≡_, refl, sym, ap, _∙_}
 use mathlib.Core.Bool.{Bool, true, false, _&&_}
 use mathlib.Core.List.{List, _++_}

@@ -1,4 +1,4 @@
--- Words in two parts, the second of which does not look back at the first, are within limits where both parts are. Assumes nothing.
+-- Words in two parts, the second of which does not look back at the first, are within limits where both parts are.
 use mathlib.Core.Path.{_≡_, refl, sym, ap, _∙_}
 use mathlib.Core.Bool.{Bool, true, false, _&&_, and-assoc}
 use mathlib.Core.List.{List, [], _∷_, _++_, map-append}

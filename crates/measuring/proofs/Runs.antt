@@ -1,4 +1,4 @@
--- Places whose limits are alike, and those of the four stations. Assumes nothing.
+-- Places whose limits are alike, and those of the four stations.
 use mathlib.Core.Path.{_≡_, refl, sym, ap, _∙_}
 use mathlib.Core.Bool.{true}
 use mathlib.Core.List.{List, [], _∷_}

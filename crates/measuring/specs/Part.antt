@@ -1,4 +1,4 @@
--- A part of a sheet's words, without its HULL number: those from one place up to another. Assumes nothing: these are definitions.
+-- A part of a sheet's words, without its HULL number: those from one place up to another.
 use Prim.Native.Nat.{ℕ, _+_, _*_, _-_, _≤_, _<_}
 use mathlib.Core.Path.{_≡_}
 use mathlib.Core.Bool.{Bool, true}

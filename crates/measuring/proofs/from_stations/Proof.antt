@@ -1,4 +1,4 @@
--- `from_stations` meets its contract. Assumes nothing.
+-- `from_stations` meets its contract.
 use mathlib.Core.Path.{_≡_, refl, sym, ap, _∙_}
 use Prim.Native.Nat.{ℕ, _-_, _≤_}
 use Rattle.sheet.specs.Places.{sheetWords}

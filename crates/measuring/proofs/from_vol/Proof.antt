@@ -1,4 +1,4 @@
--- `from_vol` meets its contract. Assumes nothing.
+-- `from_vol` meets its contract.
 use mathlib.Core.Path.{sym, _∙_}
 use Rattle.measuring.proofs.Parts.{second-tells, first-fails}
 use Rattle.measuring.proofs.Runs.{vol-run, vol-parts, mass-parts, fitted-run}

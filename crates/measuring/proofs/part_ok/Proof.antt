@@ -1,4 +1,4 @@
--- `part_ok` meets its contract. Assumes nothing.
+-- `part_ok` meets its contract.
 use mathlib.Core.Path.{_∙_}
 use Rattle.measuring.proofs.Parts.{rows-many, part-judged}
 use native.Mathlib.Omega.{arith}

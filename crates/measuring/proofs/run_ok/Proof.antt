@@ -1,4 +1,4 @@
--- `run_ok` meets its contract. Assumes nothing.
+-- `run_ok` meets its contract.
 use mathlib.Core.Path.{_∙_}
 use Rattle.measuring.proofs.Parts.{rows-many}
 use Rattle.measuring.proofs.Runs.{run-low, run-judged}

@@ -1,4 +1,4 @@
--- `sheet_ok` meets its contract. Assumes nothing.
+-- `sheet_ok` meets its contract.
 use mathlib.Core.Path.{sym, _∙_}
 use native.Mathlib.Omega.{arith}
 use lib.Seq.{length-take-le}

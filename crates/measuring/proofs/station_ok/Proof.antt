@@ -1,4 +1,4 @@
--- `station_ok` meets its contract. Assumes nothing.
+-- `station_ok` meets its contract.
 use mathlib.Core.Path.{sym, _∙_}
 use Rattle.measuring.proofs.Parts.{second-tells, first-fails}
 use Rattle.measuring.proofs.Runs.{station}

@@ -1,4 +1,4 @@
--- `words_ok` meets its contract. Assumes nothing.
+-- `words_ok` meets its contract.
 use mathlib.Core.Path.{refl, sym, _∙_}
 use native.Mathlib.Omega.{arith}
 use Rattle.sheet.specs.Sheet.{limitRows, sheetLimits, limitsOn}
