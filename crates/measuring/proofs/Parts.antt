@@ -72,11 +72,16 @@ module _ {a b e : ℕ} (c : Parting a b e) (ws : List ℕ) (n : length ws ≡ sh
       (part-long ws a b n (c .first) ∙ sym (length-map ls limitOf ∙ part-long wordRows a b (rows-many refl) (c .first)))
       (part-free b e (take (e - b) (drop b ws)) (c .second) (c .free)))
 
-  pub second-tells : {t : Bool} → partOk ws a b ≡ true → t ≡ partOk ws b e → t ≡ partOk ws a e
-  second-tells p q = q ∙ sym (parts-join ∙ ap (λ (t : Bool). t && partOk ws b e) p)
+  -- by what the code has found of the first part
+  module _ {first : Bool} (told : first ≡ partOk ws a b) where
+    joined : (first && partOk ws b e) ≡ partOk ws a e
+    joined = rw told (sym parts-join)
 
-  pub first-fails : partOk ws a b ≡ false → false ≡ partOk ws a e
-  first-fails p = sym (parts-join ∙ ap (λ (t : Bool). t && partOk ws b e) p)
+    pub second-tells : {second : Bool} → first ≡ true → second ≡ partOk ws b e → second ≡ partOk ws a e
+    second-tells p q = q ∙ rw p at joined
+
+    pub first-fails : first ≡ false → false ≡ partOk ws a e
+    first-fails p = rw p at joined
 
 pub part-judged : {rows : List (List ℕ)} → rows ≡ wordRows → (ws : List ℕ) (at end : ℕ)
     → allHold (limitsOf (take (end - at) (drop at rows))) 0 (take (end - at) (drop at ws)) ≡ partOk ws at end
