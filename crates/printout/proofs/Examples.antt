@@ -13,7 +13,7 @@ use Rattle.sheet.specs.Reading.{readLines, readFits, readEnd, readRest, readShe
 use Rattle.sheet.specs.Engines.{readRows, readEngines}
 use Rattle.capacity.specs.Volume.{stationProduct, volumeN, netZ}
 use Rattle.capacity.specs.Weights.{addedUp, boatM}
-use Rattle.capacity.specs.PlateC.{exactX, markedC, rising, rowsRight, rowFor, noRow, engineWeight, liveLoad, persons, untested, plateC}
+use Rattle.capacity.specs.PlateC.{exactX, markedC, rising, rowsRight, rowFor, lacksRow, engineWeight, liveLoad, persons, lacksTests, plateC}
 use Rattle.capacity.specs.PlateA.{inboardX, loadX, markedA, formulaWatts, powerA, plateA}
 use Rattle.printout.specs.Input.{sheetBytes}
 use Rattle.printout.specs.Printed.{platesText, rowsPrinted, printed}
@@ -62,7 +62,7 @@ inputs-right :
     ∷ bytes "INPUT\t2\n" ∷ bytes "INPUT\t3\n"
     ∷ bytes "INPUT\t3\n" ∷ bytes "INPUT\t2\n"
     ∷ []
-unfolding inputs withForm withBoat printed rowsPrinted platesText sheetBytes readSheet readLines readLine agreed readNumbers readEntry fieldOf numberOf restOf readRest readFits readEnd readEngines readRows numbersText digitsOf digitsIn stationProduct volumeN netZ addedUp boatM exactX markedC rising rowsRight rowFor noRow engineWeight liveLoad persons untested plateC inboardX loadX markedA formulaWatts powerA plateA
+unfolding inputs withForm withBoat printed rowsPrinted platesText sheetBytes readSheet readLines readLine agreed readNumbers readEntry fieldOf numberOf restOf readRest readFits readEnd readEngines readRows numbersText digitsOf digitsIn stationProduct volumeN netZ addedUp boatM exactX markedC rising rowsRight rowFor lacksRow engineWeight liveLoad persons lacksTests plateC inboardX loadX markedA formulaWatts powerA plateA
 inputs-right = refl
 
 -- ---- where the sheet ends

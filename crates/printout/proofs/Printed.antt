@@ -17,6 +17,7 @@ use Rattle.text.proofs.Number.{length-digits-ten}
 use Rattle.ground.proofs.Booleans.{either}
 use Rattle.answers.specs.declared.Answer.{Answer}
 use Rattle.answers.specs.declared.Answer.the-variants.{Refused, Done, Count, Plate}
+use Rattle.sheet.specs.Sheet.{wordsOk}
 use Rattle.sheet.specs.Reading.{readSheet}
 use Rattle.sheet.specs.Engines.{readEngines, powersOf, weightsOf}
 use Rattle.sheet.proofs.Words.{words-of}
@@ -24,10 +25,8 @@ use Rattle.sheet.proofs.SheetTrip.{reads-written}
 use Rattle.sheet.proofs.Faults.{sheet-fault}
 use Rattle.sheet.proofs.EngineFaults.{engines-fault}
 use Rattle.capacity.specs.Whole.{isBelow}
-use Rattle.capacity.specs.PlateA.{markedA, noPower, plateA}
-use Rattle.capacity.specs.PlateC.{markedC, rowsRight, noRow, liveLoad, untested, persons, plateC}
-use Rattle.capacity.specs.Bounds.{Bounds}
-use Rattle.capacity.proofs.Within.{within-bounds}
+use Rattle.capacity.specs.PlateA.{markedA, lacksPower, plateA}
+use Rattle.capacity.specs.PlateC.{markedC, rowsRight, lacksRow, liveLoad, lacksTests, persons, plateC}
 use Rattle.capacity.proofs.Loads.{marked-most, c-most}
 use Rattle.capacity.proofs.Power.{power-most}
 use Rattle.capacity.proofs.Persons.{persons-most}
@@ -58,9 +57,9 @@ module _ (t : List ℕ) (h : length t ≤ mostInput) where
   unfolding printed
   printed-rows e = rw (le-ltb mostInput (length t) h, e) refl
 
--- the words of a sheet that was read keep to the plates' bounds
-pub read-bounds : (t : List ℕ) (k : ℕ) → readSheet t .ended ≡ Taken k → Bounds (drop 1 (readSheet t .numbers))
-read-bounds t k e = within-bounds (drop 1 (readSheet t .numbers)) (words-of (readSheet t .numbers) (reads-written t k e .within))
+-- the words of a sheet that was read are within the limits
+pub read-ok : (t : List ℕ) (k : ℕ) → readSheet t .ended ≡ Taken k → wordsOk (drop 1 (readSheet t .numbers)) ≡ true
+read-ok t k e = words-of (readSheet t .numbers) (reads-written t k e .within)
 
 -- ---- lengths
 
@@ -105,18 +104,18 @@ both-most a b h k = omega arith
 abbrev Low : Answer → Type 0
 Low a = sumOf a ≤ 320000
 
-module _ (s : List ℕ) (b : Bounds s) where
+module _ (s : List ℕ) (b : wordsOk s ≡ true) where
   a-small : Low (plateA s)
   unfolding plateA
-  a-small = either Low (isBelow (markedA s) 1) (omega arith) (either Low (noPower s) (omega arith) (omega (arith, marked-most s b, power-most s b)))
+  a-small = either Low (isBelow (markedA s) 1) (omega arith) (either Low (lacksPower s) (omega arith) (omega (arith, marked-most s b, power-most s b)))
 
   c-small : (ps ws : List ℕ) → Low (plateC s ps ws)
   unfolding plateC
   c-small ps ws =
       either Low (not (rowsRight ps ws)) (omega arith)
       (either Low (isBelow (markedC s) 1) (omega arith)
-      (either Low (noRow s ps) (omega arith)
-      (either Low (untested s (liveLoad s ps ws)) (omega arith)
+      (either Low (lacksRow s ps) (omega arith)
+      (either Low (lacksTests s (liveLoad s ps ws)) (omega arith)
       (either Low (isBelow (persons s (liveLoad s ps ws)) 1) (omega arith) (omega (arith, c-most s b, persons-most s (liveLoad s ps ws) b))))))
 
   plates-most : (ps ws : List ℕ) → length (platesText s ps ws) ≤ mostPrinted
@@ -136,7 +135,7 @@ pub printed-most : (t : List ℕ) → length (printed t) ≤ mostPrinted
 printed-most t = go (ltb mostInput (length t)) refl
   where
     sheet : length t ≤ mostInput → (r : LineRead) → readSheet (sheetPart t) .ended ≡ r → length (printed t) ≤ mostPrinted
-    sheet h (Taken k) e = rw (printed-rows t h e) (rows-most (drop 1 (readSheet (sheetPart t) .numbers)) (read-bounds (sheetPart t) k e) (enginePart t))
+    sheet h (Taken k) e = rw (printed-rows t h e) (rows-most (drop 1 (readSheet (sheetPart t) .numbers)) (read-ok (sheetPart t) k e) (enginePart t))
     sheet h (Fault number at) e = rw (printed-fault t h e) (input-most number (low (sheet-fault (sheetPart t) number at e)))
 
     go : (u : Bool) → ltb mostInput (length t) ≡ u → length (printed t) ≤ mostPrinted
