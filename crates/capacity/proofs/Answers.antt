@@ -9,7 +9,8 @@ use Rattle.answers.specs.declared.Answer.the-variants.{Refused, Count, Plate}
 use Rattle.answers.specs.Refusals.{badRows, noRow, noLoad, noPower, untested, noPersons}
 use Rattle.answers.proofs.Outcomes.{OfList}
 use Rattle.capacity.specs.Whole.{isBelow, orZero}
-use Rattle.capacity.specs.PlateC.{markedC, rowsRight, lacksRow, engineWeight, liveLoad, persons, lacksTests, plateC}
+use Rattle.capacity.specs.PlateC.{markedC, rowsRight, lacksRow, engineWeight, liveLoad, persons, lacksTests}
+use Rattle.capacity.specs.PlateC.{plateC}
 use Rattle.capacity.specs.PlateA.{markedA, powerA, lacksPower, plateA}
 use Rattle.capacity.specs.PlateU.{markedU, plateU}
 use Rattle.capacity.specs.Kinds.{PlateKind, kindA, kindC, kindU, plateOf}
@@ -63,12 +64,28 @@ module _ (s ps ws : List ℕ) {right : Bool} (told : right ≡ rowsRight ps ws) 
           pub c-empty : count ≡ 0 → Refused noPersons ≡ plateC s ps ws
           unfolding plateC
           c-empty z =
-              rw (sym told ∙ r, below-some (markedC s) l n, sym e ∙ f, ← live, sym d ∙ g, below-none (persons s (subℕ (1000 * load) engine)) p z) refl
+              rw (
+                sym told ∙ r,
+                below-some (markedC s) l n,
+                sym e ∙ f,
+                ← live,
+                sym d ∙ g,
+                below-none (persons s (subℕ (1000 * load) engine)) p z,
+              ) refl
 
           pub c-marks : (count ≡ 0 → ⊥) → Plate load count ≡ plateC s ps ws
           unfolding plateC
           c-marks k =
-              rw (sym told ∙ r, below-some (markedC s) l n, sym e ∙ f, ← live, sym d ∙ g, below-some (persons s (subℕ (1000 * load) engine)) p k, ← l, ← p) refl
+              rw (
+                sym told ∙ r,
+                below-some (markedC s) l n,
+                sym e ∙ f,
+                ← live,
+                sym d ∙ g,
+                below-some (persons s (subℕ (1000 * load) engine)) p k,
+                ← l,
+                ← p,
+              ) refl
 
 -- ---- plate U, by refusal 12
 
@@ -92,7 +109,9 @@ unfolding plateC
 c-listed s ps ws =
     let live = liveLoad s ps ws in
     either OfList (not (rowsRight ps ws)) refl
-    (either OfList (isBelow (markedC s) 1) refl (either OfList (lacksRow s ps) refl (either OfList (lacksTests s live) refl (either OfList (isBelow (persons s live) 1) refl refl))))
+    (either OfList (isBelow (markedC s) 1) refl
+    (either OfList (lacksRow s ps) refl
+    (either OfList (lacksTests s live) refl (either OfList (isBelow (persons s live) 1) refl refl))))
 
 u-listed : (s : List ℕ) → OfList (plateU s)
 unfolding plateU

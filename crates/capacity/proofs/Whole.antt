@@ -4,8 +4,8 @@ use mathlib.Core.Bool.{Bool, true, false}
 use Prim.Native.Nat.{ℕ, zero, suc, _+_, _-_, _*_, _≤_}
 use native.Mathlib.Nat.{mul-add}
 use native.Mathlib.Omega.{arith}
-use borrow.Author.Tests.{lt-ltb, le-ltb, ltb-true, ltb-false, ne-eqb}
-use lib.Dec.{eqb, ltb}
+use borrow.Author.Tests.{lt-ltb, le-ltb, ltb-true, ltb-false}
+use lib.Dec.{ltb}
 use lib.IntN.{ℤ, pos, negsuc, negℤ, subℕ, _+ℤ_, _-ℤ_, _*ℤ_}
 use Rattle.capacity.specs.Whole.{isBelow, orZero}
 
@@ -54,7 +54,8 @@ less-of h k = sum-of h (opposite k)
 
 pub times-of : (k : ℕ) {z : ℤ} {a b : ℕ} → Differ z a b → Differ (pos k *ℤ z) (k * a) (k * b)
 times-of k {z = pos n} {a} {b} h = record { is = sym (mul-add k n b) ∙ ap (λ (x : ℕ). k * x) (h .is) }
-times-of k {z = negsuc n} {a} {b} h = opposite {z = pos (k * suc n)} (record { is = sym (mul-add k (suc n) a) ∙ ap (λ (x : ℕ). k * x) (h .is) })
+times-of k {z = negsuc n} {a} {b} h =
+    opposite {z = pos (k * suc n)} (record { is = sym (mul-add k (suc n) a) ∙ ap (λ (x : ℕ). k * x) (h .is) })
 
 pub is-sub : {z : ℤ} {a b : ℕ} (c d : ℕ) → Differ z a b → a + d ≡ c + b → z ≡ subℕ c d
 is-sub c d h e = alone (moved c d h e) (of-sub c d)

@@ -1,4 +1,5 @@
--- What a sheet within the limits keeps to: how many words it has, and the most that each may be. Each law takes the sheet and that it is within the limits, so that
+-- What a sheet within the limits keeps to: how many words it has, and the most that each may be. Each law takes the
+-- sheet and that it is within the limits, so that
 -- `omega` finds both by itself where it is handed the law's name.
 use mathlib.Core.Path.{_≡_, refl, sym}
 use mathlib.Core.Bool.{Bool, true, false, true≢false, _&&_, _||_}
@@ -14,9 +15,11 @@ use Rattle.ground.proofs.Booleans.{both-hold}
 use Rattle.text.proofs.Limit.{within-high, hold-length}
 use Rattle.sheet.specs.Lines.{fittings, fittingHigh}
 use Rattle.sheet.specs.Sheet.{limitsOn, sheetLimits, wordsOk}
-use Rattle.sheet.specs.Places.{lengthAt, referenceAt, transomWidthAt, readings, stations, stationAt, aftAt, wellAt, floodingAt}
+use Rattle.sheet.specs.Places.{lengthAt, referenceAt, transomWidthAt, readings, stationAt, aftAt, wellAt}
+use Rattle.sheet.specs.Places.{floodingAt}
 use Rattle.sheet.specs.Places.{bareAt, fuelAt, machineryAt, positionsAt, fittingsAt, sheetWords}
-use Rattle.capacity.specs.Words.{hullLength, reference, transomWidth, station, aft, well, flooding, bare, fuel, machinery}
+use Rattle.capacity.specs.Words.{hullLength, reference, transomWidth, station, aft, well, flooding, bare, fuel}
+use Rattle.capacity.specs.Words.{machinery}
 use Rattle.capacity.specs.Words.{positions, fittingsOf}
 use Rattle.capacity.specs.Highs.{highs, highAt, Readings, Stations, Weights}
 
@@ -91,17 +94,29 @@ module _ (s : List ℕ) (ok : wordsOk s ≡ true) where
       record {
         few = omega (arith, length-drop fittingsAt s, words-many);
         light = λ (k : ℕ).
-            omega (arith, getD-drop fittingsAt s k 0, getD-drop fittingsAt highs k 0, word-most (fittingsAt + k), same-most fittings fittingHigh k);
+            omega (
+              arith,
+              getD-drop fittingsAt s k 0,
+              getD-drop fittingsAt highs k 0,
+              word-most (fittingsAt + k),
+              same-most fittings fittingHigh k,
+            );
       }
 
   -- ---- the stations
 
-  reading-most : (i : ℕ) {h : List ℕ} → take readings (drop (stationAt i) highs) ≡ h → (j : ℕ) → j < readings → getD (station s i) j 0 ≤ getD h j 0
+  reading-most : (i : ℕ) {h : List ℕ}
+      → take readings (drop (stationAt i) highs) ≡ h
+      → (j : ℕ)
+      → j < readings
+      → getD (station s i) j 0 ≤ getD h j 0
   reading-most i e j l =
       rw (← e, getD-take, getD-drop, getD-take, getD-drop) (word-most (stationAt i + j))
 
   -- one whose limits are those of station Q
-  alike-within : (i : ℕ) → take readings (drop (stationAt i) highs) ≡ take readings (drop (stationAt 0) highs) → Readings (station s i)
+  alike-within : (i : ℕ)
+      → take readings (drop (stationAt i) highs) ≡ take readings (drop (stationAt 0) highs)
+      → Readings (station s i)
   alike-within i e =
       let most = reading-most i e in
       record {

@@ -1,4 +1,5 @@
--- The most that each word of a sheet may be, as the one table of limits has it, and what the plates' inner functions ask of a part of a sheet.
+-- The most that each word of a sheet may be, as the one table of limits has it, and what the plates' inner functions
+-- ask of a part of a sheet.
 use Prim.Native.Nat.{ℕ, _+_, _*_, _≤_, _<_}
 use mathlib.Core.Path.{_≡_}
 use mathlib.Core.Bool.{true}

@@ -9,7 +9,8 @@ use Rattle.answers.specs.declared.Answer.{Answer}
 use Rattle.answers.specs.declared.Answer.the-variants.{Refused, Plate}
 use Rattle.answers.specs.Refusals.{noLoad, noPower}
 use Rattle.capacity.specs.Whole.{floorDiv, ceilDiv, isBelow, orZero}
-use Rattle.capacity.specs.Words.{hullLength, transomWidth, transomHeight, flatBottom, remote, fuel, machinery, outboard}
+use Rattle.capacity.specs.Words.{hullLength, transomWidth, transomHeight, flatBottom, remote, fuel, machinery}
+use Rattle.capacity.specs.Words.{outboard}
 use Rattle.capacity.specs.Volume.{gram, netZ}
 use Rattle.capacity.specs.Weights.{boatM}
 use Rattle.capacity.specs.PlateC.{exactX, markedKilo, rowFor}
@@ -82,4 +83,6 @@ lacksPower s = eqb (outboard s) 1 && (eqb (flatBottom s) 1 && eqb (rowOf (factor
 -- ---- the plate
 
 unfoldable pub plateA : List ℕ → Answer
-plateA s = cond (isBelow (markedA s) 1) (Refused noLoad) (cond (lacksPower s) (Refused noPower) (Plate (orZero (markedA s)) (powerA s)))
+plateA s =
+    cond (isBelow (markedA s) 1) (Refused noLoad)
+    (cond (lacksPower s) (Refused noPower) (Plate (orZero (markedA s)) (powerA s)))

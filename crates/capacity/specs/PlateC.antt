@@ -1,4 +1,5 @@
--- 01, Plate C (002, 4.3.1 and 4.3.2). Every figure is defined for every sheet; what is refused is judged after, in 01's order: 10, 12, 11, 14, 15.
+-- 01, Plate C (002, 4.3.1 and 4.3.2). Every figure is defined for every sheet; what is refused is judged after, in
+-- 01's order: 10, 12, 11, 14, 15.
 -- Engine rows come as two lists of numbers, powers and weights.
 use Prim.Native.Nat.{ℕ, suc, _+_, _*_}
 use mathlib.Core.Bool.{Bool, true, false, not, _&&_, cond}
@@ -23,12 +24,14 @@ markedKilo = 5 * 1000 * gram
 unfoldable pub exactX : List ℕ → ℤ
 exactX s = netZ s -ℤ pos gram *ℤ pos (boatM s + fuel s + machinery s)
 
--- gross load: a fifth of X above 1500 W, three tenths at 1500 W or below; marked is the largest whole number of kilograms not above it
+-- gross load: a fifth of X above 1500 W, three tenths at 1500 W or below; marked is the largest whole number of
+-- kilograms not above it
 abbrev pub lowPower : ℕ
 lowPower = 1500
 
 unfoldable pub markedC : List ℕ → ℤ
-markedC s = cond (ltb lowPower (declared s)) (floorDiv (exactX s) markedKilo) (floorDiv (pos 3 *ℤ exactX s) (2 * markedKilo))
+markedC s =
+    cond (ltb lowPower (declared s)) (floorDiv (exactX s) markedKilo) (floorDiv (pos 3 *ℤ exactX s) (2 * markedKilo))
 
 -- ---- the engine's weight
 
@@ -48,7 +51,8 @@ abbrev pub leastRows : ℕ
 leastRows = 1
 
 unfoldable pub rowsRight : List ℕ → List ℕ → Bool
-rowsRight ps ws = eqb (length ps) (length ws) && (leb leastRows (length ps) && (leb (length ps) mostRows && rising 1 ps ws))
+rowsRight ps ws =
+    eqb (length ps) (length ws) && (leb leastRows (length ps) && (leb (length ps) mostRows && rising 1 ps ws))
 
 -- an outboard of declared power above 0 has an engine to weigh
 abbrev pub wantsRow : List ℕ → Bool

@@ -1,4 +1,5 @@
--- 02 (i), Plate U (001, 33 CFR 183.33, 183.35 and 183.37): the pounds that a hull may carry, rounded down. The displacement is Z, the net volume as water. Every figure
+-- 02 (i), Plate U (001, 33 CFR 183.33, 183.35 and 183.37): the pounds that a hull may carry, rounded down. The
+-- displacement is Z, the net volume as water. Every figure
 -- is over whole numbers and may be below zero.
 use Prim.Native.Nat.{ℕ, _+_, _*_}
 use mathlib.Core.Bool.{cond}
@@ -32,7 +33,8 @@ boatB s = boatM s + fuel s
 abbrev pub outboardFifth : List ℕ → Figure
 outboardFifth s = figure (boatB s) 1 5
 
--- 183.37, outboards of two horsepower or less: 3 × (displacement − boat weight) / 10, and the tanks are no part of the boat weight
+-- 183.37, outboards of two horsepower or less: 3 × (displacement − boat weight) / 10, and the tanks are no part of
+-- the boat weight
 abbrev pub outboardTenths : List ℕ → Figure
 outboardTenths s = figure (boatM s) 3 10
 

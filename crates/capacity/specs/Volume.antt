@@ -1,4 +1,5 @@
--- 01, Volume and weights: the product of each station, N of the four, and Z, which has aft structure, motor well and flooding chambers too. Nothing is rounded.
+-- 01, Volume and weights: the product of each station, N of the four, and Z, which has aft structure, motor well and
+-- flooding chambers too. Nothing is rounded.
 use Prim.Native.Nat.{ℕ, _+_, _*_}
 use mathlib.Core.List.{List, [], _∷_}
 use lib.ListN.{getD}
@@ -7,7 +8,8 @@ use Rattle.capacity.specs.Words.{reference, station, aft, well, flooding
 
 -- fifteen times a station's area, of its seven readings B q r s t u v
 unfoldable pub stationProduct : List ℕ → ℕ
-stationProduct l = getD l 0 0 * (getD l 1 0 + 4 * getD l 2 0 + 2 * getD l 3 0 + 4 * getD l 4 0 + 2 * getD l 5 0 + 2 * getD l 6 0)
+stationProduct l =
+    getD l 0 0 * (getD l 1 0 + 4 * getD l 2 0 + 2 * getD l 3 0 + 4 * getD l 4 0 + 2 * getD l 5 0 + 2 * getD l 6 0)
 
 -- N, of the products of the four stations
 abbrev pub summed : ℕ → ℕ → ℕ → ℕ → ℕ → ℕ

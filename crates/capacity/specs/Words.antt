@@ -2,8 +2,10 @@
 use Prim.Native.Nat.{ℕ}
 use mathlib.Core.List.{List}
 use lib.ListN.{getD, take, drop}
-use Rattle.sheet.specs.Places.{lengthAt, referenceAt, transomWidthAt, transomHeightAt, flatBottomAt, remoteAt, readings, stationAt}
-use Rattle.sheet.specs.Places.{aftAt, wellAt, floodingAt, bareAt, fuelAt, machineryAt, outboardAt, declaredAt, positionsAt}
+use Rattle.sheet.specs.Places.{lengthAt, referenceAt, transomWidthAt, transomHeightAt, flatBottomAt, remoteAt}
+use Rattle.sheet.specs.Places.{readings, stationAt}
+use Rattle.sheet.specs.Places.{aftAt, wellAt, floodingAt, bareAt, fuelAt, machineryAt, outboardAt, declaredAt}
+use Rattle.sheet.specs.Places.{positionsAt}
 use Rattle.sheet.specs.Places.{testedAt, fittingsAt}
 
 -- FORM

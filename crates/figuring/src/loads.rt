@@ -36,7 +36,8 @@ pub fn marked_c(sheet: &[u32]) -> u64
     }
 }
 
-// The kilograms that plate A marks, or 0 where there are none: half a kilogram is added, so that a half goes upward. An inboard's tanks and machinery count five times.
+// The kilograms that plate A marks, or 0 where there are none: half a kilogram is added, so that a half goes upward. An
+// inboard's tanks and machinery count five times.
 pub fn marked_a(sheet: &[u32]) -> u64
     requires { ⌜ wordsOk (now sheet) ≡ true ⌝ }
     ensures { λ r. ⌜ r ≡ orZero (markedA (now (sheet .entry))) ⌝ }

@@ -3,7 +3,8 @@ ghost use mathlib.Core.Path.{_≡_};
 ghost use mathlib.Core.Bool.{true, cond};
 ghost use Prim.Native.Nat.{_≤_, _<_};
 ghost use Rattle.sheet.specs.Sheet.{wordsOk};
-ghost use Rattle.capacity.specs.PlateA.{tableEnd, rowOf, rowWatts, beforeWatts, raised, formulaWatts, powerA, lacksPower};
+ghost use Rattle.capacity.specs.PlateA.{tableEnd, rowOf, rowWatts, beforeWatts, raised, formulaWatts, powerA};
+ghost use Rattle.capacity.specs.PlateA.{lacksPower};
 ghost use Rattle.capacity.specs.Highs.{AboveTable};
 use super::numbers::wide;
 use sheet::FLAT_BOTTOM;
@@ -38,7 +39,8 @@ fn table_row(p: u64) -> usize
     }
 }
 
-// Watts of the table's row for a power factor, or of the row before it; before the first there is none, and 0 stands for its watts. The table is laid on the stack, so its words are narrow.
+// Watts of the table's row for a power factor, or of the row before it; before the first there is none, and 0 stands for
+// its watts. The table is laid on the stack, so its words are narrow.
 fn row_watts(p: u64, before: bool) -> u16
     requires { ⌜ p ≤ tableEnd ⌝ }
     ensures { λ r. ⌜ r ≡ cond before (beforeWatts p) (rowWatts p) ⌝ }

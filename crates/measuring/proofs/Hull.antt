@@ -30,14 +30,18 @@ module _ (s : List ℕ) (n : length s ≡ textWords) where
       rw (rest-part s 1)
       (ap (allHold sheetLimits 0) (sym (take-append-drop 1 s))
       ∙ (ap (λ (ls : List Limit). allHold ls 0 (take 1 s ++ drop 1 s)) (sym hull-first)
-      ∙ hold-parts (limitsOf (take 1 limitRows)) (drop 1 sheetLimits) 0 (take 1 s) (drop 1 s) (length-take-le 1 s (omega arith) ∙ sym hull-one) (words-free (drop 1 s))))
+      ∙ hold-parts (limitsOf (take 1 limitRows)) (drop 1 sheetLimits) 0 (take 1 s) (drop 1 s)
+      (length-take-le 1 s (omega arith) ∙ sym hull-one) (words-free (drop 1 s))))
 
   -- by what the code has found of the HULL number
   module _ {first : Bool} (told : first ≡ allHold (limitsOf (take 1 limitRows)) 0 (take 1 s)) where
     joined : (first && wordsOk (take (length s - 1) (drop 1 s))) ≡ sheetOk s
     joined = rw told (sym parted)
 
-    pub words-tell : {second : Bool} → first ≡ true → second ≡ wordsOk (take (length s - 1) (drop 1 s)) → second ≡ sheetOk s
+    pub words-tell : {second : Bool}
+        → first ≡ true
+        → second ≡ wordsOk (take (length s - 1) (drop 1 s))
+        → second ≡ sheetOk s
     words-tell p q = q ∙ rw p at joined
 
     pub hull-fails : first ≡ false → false ≡ sheetOk s

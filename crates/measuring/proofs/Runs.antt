@@ -16,13 +16,24 @@ limits-alike : (n : ℕ) (row : List ℕ) → limitsOf (replicate n row) ≡ rep
 limits-alike zero row = refl
 limits-alike (suc n) row = ap (λ (ls : List Limit). limitOf row ∷ ls) (limits-alike n row)
 
-pub run-low : {rows : List (List ℕ)} → rows ≡ wordRows → {at end : ℕ} → AlikePart at end → fromZero (limitOf (getD rows at [])) ≡ true
+pub run-low : {rows : List (List ℕ)}
+    → rows ≡ wordRows
+    → {at end : ℕ}
+    → AlikePart at end
+    → fromZero (limitOf (getD rows at [])) ≡ true
 run-low e r = rw e (r .low)
 
-pub run-judged : {rows : List (List ℕ)} → rows ≡ wordRows → (ws : List ℕ) → length ws ≡ sheetWords → {at end : ℕ} → AlikePart at end
-    → allHold (replicate (length (take (end - at) (drop at ws))) (limitOf (getD rows at []))) 0 (take (end - at) (drop at ws)) ≡ partOk ws at end
+pub run-judged : {rows : List (List ℕ)}
+    → rows ≡ wordRows
+    → (ws : List ℕ)
+    → length ws ≡ sheetWords
+    → {at end : ℕ}
+    → AlikePart at end
+    → allHold (replicate (length (take (end - at) (drop at ws))) (limitOf (getD rows at []))) 0
+    (take (end - at) (drop at ws)) ≡ partOk ws at end
 unfolding partOk
-run-judged e ws n {at} {end} r = rw (e, part-long ws at end n (r .places), r .alike, limits-alike (end - at) (getD wordRows at []))
+run-judged e ws n {at} {end} r =
+    rw (e, part-long ws at end n (r .places), r .alike, limits-alike (end - at) (getD wordRows at []))
 
 -- ---- a station
 

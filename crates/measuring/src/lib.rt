@@ -1,5 +1,5 @@
-// Whether the numbers of a sheet are within their limits: the quick check that the register and the writer make. Words of
-// alike limits are judged together, by the greatest of them.
+// Whether the numbers of a sheet are within their limits: the quick check that the register and the writer make. Words
+// of alike limits are judged together, by the greatest of them.
 ghost use mathlib.Core.Path.{_≡_};
 ghost use Prim.Native.Nat.{_+_, _<_};
 ghost use lib.ListN.{length};

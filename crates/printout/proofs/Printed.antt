@@ -27,7 +27,7 @@ use Rattle.sheet.proofs.EngineFaults.{engines-fault}
 use Rattle.capacity.specs.Whole.{isBelow}
 use Rattle.capacity.specs.PlateA.{markedA, lacksPower, plateA}
 use Rattle.capacity.specs.PlateC.{markedC, rowsRight, lacksRow, liveLoad, lacksTests, persons, plateC}
-use Rattle.capacity.proofs.Loads.{marked-most, c-most}
+use Rattle.capacity.proofs.Most.{marked-most, c-most}
 use Rattle.capacity.proofs.Power.{power-most}
 use Rattle.capacity.proofs.Persons.{persons-most}
 use Rattle.printout.specs.Input.{mostInput, sheetPart, enginePart}

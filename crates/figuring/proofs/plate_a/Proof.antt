@@ -1,5 +1,5 @@
 -- `plate_a` meets its contract.
-use Rattle.capacity.proofs.Loads.{marked-most}
+use Rattle.capacity.proofs.Most.{marked-most}
 use Rattle.capacity.proofs.Power.{power-most}
 use Rattle.capacity.proofs.Answers.{a-unloaded, a-unpowered, a-marks}
 use native.Mathlib.Omega.{arith}

@@ -1,7 +1,7 @@
 -- `plate_c` meets its contract.
 use Prim.Native.Nat.{_*_}
 use lib.IntN.{subℕ}
-use Rattle.capacity.proofs.Loads.{c-most}
+use Rattle.capacity.proofs.Most.{c-most}
 use Rattle.capacity.proofs.Persons.{persons-most}
 use Rattle.capacity.proofs.Answers.{c-rows, c-unloaded, c-unreached, c-untested, c-empty, c-marks}
 use native.Mathlib.Omega.{arith}
@@ -11,9 +11,10 @@ use Rattle.figuring.proofs.plate_c.Tie as tie
 
 cast-t16 : tie.Need-cast-t16
 cast-t16 c =
-    let start = c .before .before .before .before .before .before .before .before .before .before .before .before .before .before .before in
-    let load = c .before .before .before .before .before .before .before .before .before .marked-c .result in
-    omega (arith, persons-most _ (subℕ (1000 * load) (c .before .before .before .before .wide .result)) (start .pre))
+    let at-wide = c .before .before .before .before in
+    let at-load = at-wide .before .before .before .before .before in
+    let start = at-load .before .before .before .before .before .before in
+    omega (arith, persons-most _ (subℕ (1000 * at-load .marked-c .result) (at-wide .wide .result)) (start .pre))
 
 returns : tie.Need-returns
 returns c = search c-unloaded

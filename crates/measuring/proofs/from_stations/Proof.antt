@@ -20,14 +20,18 @@ abbrev μ-loop : tie.MeasureT-loop
 loop-again : tie.Need-loop-again Inv-loop μ-loop
 loop-again c =
     let at-loop = c .before .before .before in
-    let n = at-loop .before .before .pre .words in
-    (omega arith, at-loop .loop .inv .1 ∙ station-more _ n _ (c .before .before .loop-test .taken) (c .before .station-ok .ensures) (c .if1 .taken))
+    let n = at-loop .before .before .pre .words in (
+      omega arith,
+      at-loop .loop .inv .1
+          ∙ station-more _ n _ (c .before .before .loop-test .taken) (c .before .station-ok .ensures) (c .if1 .taken),
+    )
 
 returns : tie.Need-returns Inv-loop μ-loop
 returns c =
     let at-loop = c .before .before .before in
     let n = at-loop .before .before .pre .words in
-    first-fails (station _ (c .before .before .loop-test .taken) .after) _ n (c .before .station-ok .ensures) (c .if1 .left) ∙ sym (at-loop .loop .inv .1)
+    first-fails (station _ (c .before .before .loop-test .taken) .after) _ n (c .before .station-ok .ensures)
+    (c .if1 .left) ∙ sym (at-loop .loop .inv .1)
 
 returns-2 : tie.Need-returns-2 Inv-loop μ-loop
 returns-2 c =

@@ -2,7 +2,6 @@
 use Rattle.measuring.proofs.Parts.{second-tells, first-fails}
 use Rattle.measuring.proofs.Runs.{vol-run, vol-parts, mass-parts, fitted-run}
 use borrow.Author.Needs.{needs}
-use mathlib.Core.Path.{refl}
 use Rattle.measuring.proofs.from_vol.Statement.{statement}
 use Rattle.measuring.proofs.from_vol.Tie as tie
 
@@ -27,7 +26,8 @@ returns-2 c =
     (first-fails mass-parts _ n (c .before .part-ok .ensures) (c .if2 .left))
 
 returns-3 : tie.Need-returns-3
-returns-3 c = first-fails vol-parts _ (c .before .before .before .pre .words) (c .before .run-ok .ensures) (c .if1 .left)
+returns-3 c =
+    first-fails vol-parts _ (c .before .before .before .pre .words) (c .before .run-ok .ensures) (c .if1 .left)
 
 pub from-vol-spec : {M : Type 1} → statement M
 from-vol-spec =

@@ -15,11 +15,13 @@ returns : tie.Need-returns
 unfolding limitRows sheetLimits limitsOn
 returns c =
     let at-if = c .before .before in
-    words-tell _ (at-if .before .before .before .before .before .pre) (at-if .before .all-hold .ensures) (at-if .if1 .taken) (c .words-ok .ensures)
+    words-tell _ (at-if .before .before .before .before .before .pre) (at-if .before .all-hold .ensures)
+    (at-if .if1 .taken) (c .words-ok .ensures)
 
 returns-2 : tie.Need-returns-2
 unfolding limitRows sheetLimits limitsOn
-returns-2 c = hull-fails _ (c .before .before .before .before .before .pre) (c .before .all-hold .ensures) (c .if1 .left)
+returns-2 c =
+    hull-fails _ (c .before .before .before .before .before .pre) (c .before .all-hold .ensures) (c .if1 .left)
 
 pub sheet-ok-spec : {M : Type 1} → statement M
 sheet-ok-spec =

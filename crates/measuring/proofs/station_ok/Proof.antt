@@ -16,7 +16,8 @@ run-ok-requires-2 c κs =
 returns : tie.Need-returns
 returns c =
     let p = c .before .before .before .before .pre in
-    second-tells (station _ (p .1) .within) _ (p .0 .words) (c .before .before .run-ok .ensures) (c .before .if1 .taken) (c .run-ok2 .ensures)
+    second-tells (station _ (p .1) .within) _ (p .0 .words) (c .before .before .run-ok .ensures)
+    (c .before .if1 .taken) (c .run-ok2 .ensures)
 
 returns-2 : tie.Need-returns-2
 returns-2 c =

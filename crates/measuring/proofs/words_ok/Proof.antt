@@ -10,18 +10,22 @@ use Rattle.measuring.proofs.words_ok.Tie as tie
 
 part-ok-requires : tie.Need-part-ok-requires
 unfolding limitRows sheetLimits limitsOn
-part-ok-requires c κs =
-    (record { table = refl; words = c .before .before .before .pre }, record { order = omega arith; most = omega arith })
+part-ok-requires c κs = (
+  record { table = refl; words = c .before .before .before .pre },
+  record { order = omega arith; most = omega arith },
+)
 
 from-stations-requires : tie.Need-from-stations-requires
 unfolding limitRows sheetLimits limitsOn
-from-stations-requires c κs = record { table = refl; words = c .before .before .before .before .before .before .before .pre }
+from-stations-requires c κs =
+    record { table = refl; words = c .before .before .before .before .before .before .before .pre }
 
 returns : tie.Need-returns
 returns c =
     let at-if = c .before .before .before in
     let n = at-if .before .before .before .before .before .pre in
-    second-tells form-parts _ n (at-if .before .part-ok .ensures) (at-if .if1 .taken) (c .from-stations .ensures) ∙ words-whole _ n
+    second-tells form-parts _ n (at-if .before .part-ok .ensures) (at-if .if1 .taken) (c .from-stations .ensures)
+    ∙ words-whole _ n
 
 returns-2 : tie.Need-returns-2
 returns-2 c =

@@ -10,12 +10,14 @@ use Rattle.figuring.proofs.engines.engine_weight.Tie as tie
 returns : tie.Need-returns
 returns c =
     let at-if = c .before .before .before .before in
-    weight-wanted _ _ _ (sym (at-if .before .wants-row .ensures) ∙ at-if .if1 .taken) refl (c .before .before .row-for .ensures)
+    weight-wanted _ _ _ (sym (at-if .before .wants-row .ensures) ∙ at-if .if1 .taken) refl
+    (c .before .before .row-for .ensures)
 
 returns-2 : tie.Need-returns-2
 returns-2 c =
     let at-if = c .before .before .before in
-    weight-past _ _ _ (sym (at-if .before .wants-row .ensures) ∙ at-if .if1 .taken) refl (c .before .row-for .ensures) (c .if2 .left)
+    weight-past _ _ _ (sym (at-if .before .wants-row .ensures) ∙ at-if .if1 .taken) refl (c .before .row-for .ensures)
+    (c .if2 .left)
 
 returns-3 : tie.Need-returns-3
 returns-3 c = weight-unwanted _ _ _ (sym (c .before .wants-row .ensures) ∙ c .if1 .left)

@@ -8,7 +8,9 @@ use Rattle.figuring.proofs.engines.lacks_row.Statement.{statement}
 use Rattle.figuring.proofs.engines.lacks_row.Tie as tie
 
 returns : tie.Need-returns
-returns c = row-wanted _ _ (sym (c .before .before .before .wants-row .ensures) ∙ c .before .before .if1 .taken) refl (c .row-for .ensures)
+returns c =
+    row-wanted _ _ (sym (c .before .before .before .wants-row .ensures) ∙ c .before .before .if1 .taken) refl
+    (c .row-for .ensures)
 
 returns-2 : tie.Need-returns-2
 returns-2 c = row-unwanted _ _ (sym (c .before .wants-row .ensures) ∙ c .if1 .left)

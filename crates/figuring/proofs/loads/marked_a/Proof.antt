@@ -1,7 +1,7 @@
 -- `marked_a` meets its contract.
-use mathlib.Core.Path.{refl}
 use Rattle.capacity.proofs.Within.{words-many}
-use Rattle.capacity.proofs.Loads.{gain-most, weight-most, marked-outboard, marked-inboard}
+use Rattle.capacity.proofs.Loads.{marked-outboard, marked-inboard}
+use Rattle.capacity.proofs.Most.{gain-most, weight-most}
 use borrow.Author.Tests.{eq-eqb, ne-eqb}
 use native.Mathlib.Omega.{arith}
 use borrow.Author.Needs.{needs}
@@ -15,10 +15,10 @@ loss-of-requires-2 : tie.Need-loss-of-requires-2
 loss-of-requires-2 c κs = (omega (arith, words-many), omega (arith, weight-most))
 
 returns : tie.Need-returns
-returns c = cc (marked-outboard _ refl (eq-eqb _ _ (c .before .before .if1 .taken)))
+returns c = cc (marked-outboard _ (eq-eqb _ _ (c .before .before .if1 .taken)))
 
 returns-2 : tie.Need-returns-2
-returns-2 c = cc (marked-inboard _ refl (ne-eqb _ _ (c .before .before .if1 .left)))
+returns-2 c = cc (marked-inboard _ (ne-eqb _ _ (c .before .before .if1 .left)))
 
 pub marked-a-spec : {M : Type 1} → statement M
 marked-a-spec =

@@ -1,7 +1,7 @@
 -- `marked_c` meets its contract.
-use mathlib.Core.Path.{refl}
 use Rattle.capacity.proofs.Within.{words-many}
-use Rattle.capacity.proofs.Loads.{gain-most, weight-most, lost-most, marked-high, marked-low}
+use Rattle.capacity.proofs.Loads.{marked-high, marked-low}
+use Rattle.capacity.proofs.Most.{gain-most, weight-most, lost-most}
 use native.Mathlib.Omega.{arith}
 use borrow.Author.Needs.{needs}
 use Rattle.figuring.proofs.loads.marked_c.Statement.{statement}
@@ -11,10 +11,10 @@ loss-of-requires : tie.Need-loss-of-requires
 loss-of-requires c κs = (omega (arith, words-many), omega (arith, weight-most))
 
 returns : tie.Need-returns
-returns c = cc (marked-high _ refl (c .before .if1 .taken))
+returns c = cc (marked-high _ (c .before .if1 .taken))
 
 returns-2 : tie.Need-returns-2
-returns-2 c = cc (marked-low _ refl (c .before .if1 .left))
+returns-2 c = cc (marked-low _ (c .before .if1 .left))
 
 pub marked-c-spec : {M : Type 1} → statement M
 marked-c-spec =

@@ -1,7 +1,6 @@
 -- `marked_u` meets its contract.
-use mathlib.Core.Path.{refl}
 use Rattle.capacity.proofs.Within.{words-many}
-use Rattle.capacity.proofs.Loads.{weight-most}
+use Rattle.capacity.proofs.Most.{weight-most}
 use Rattle.capacity.proofs.PoundsWorked.{marked-fifth, marked-tenths, marked-greater}
 use borrow.Author.Tests.{eq-eqb, ne-eqb}
 use native.Mathlib.Omega.{arith}
@@ -22,13 +21,13 @@ pounds-of-requires-4 : tie.Need-pounds-of-requires-4
 pounds-of-requires-4 c κs = (search needs, omega (arith, weight-most))
 
 returns : tie.Need-returns
-returns c = cc (marked-fifth _ (eq-eqb _ _ (c .before .before .before .if1 .taken)) (c .before .if2 .taken) refl)
+returns c = cc (marked-fifth _ (eq-eqb _ _ (c .before .before .before .if1 .taken)) (c .before .if2 .taken))
 
 returns-2 : tie.Need-returns-2
-returns-2 c = cc (marked-tenths _ (eq-eqb _ _ (c .before .before .before .if1 .taken)) (c .before .if2 .left) refl)
+returns-2 c = cc (marked-tenths _ (eq-eqb _ _ (c .before .before .before .if1 .taken)) (c .before .if2 .left))
 
 returns-3 : tie.Need-returns-3
-returns-3 c = cc (marked-greater _ (ne-eqb _ _ (c .before .before .before .before .before .if1 .left)) refl refl)
+returns-3 c = cc (marked-greater _ (ne-eqb _ _ (c .before .before .before .before .before .if1 .left)))
 
 pub marked-u-spec : {M : Type 1} → statement M
 marked-u-spec =

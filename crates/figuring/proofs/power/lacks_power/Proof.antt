@@ -12,25 +12,35 @@ use borrow.Author.Needs.{needs}
 use Rattle.figuring.proofs.power.lacks_power.Statement.{statement}
 use Rattle.figuring.proofs.power.lacks_power.Tie as tie
 
-factor : (c : tie.After-wide2) → c .before .before .wide .result * c .wide2 .result ≡ factorP (c .before .before .before .before .before .args .sheet .now)
-factor c = factor-is (c .before .before .before .before .before .args .sheet .now) (c .before .before .wide .ensures .0) (c .wide2 .ensures .0)
+factor : (c : tie.After-wide2)
+    → c .before .before .wide .result * c .wide2 .result
+    ≡ factorP (c .before .before .before .before .before .args .sheet .now)
+factor c =
+    factor-is (c .before .before .before .before .before .args .sheet .now) (c .before .before .wide .ensures .0)
+    (c .wide2 .ensures .0)
 
 mul-p : tie.Need-mul-p
 mul-p c =
-    record { fits = rw (factor c) (lt-of-le-of-lt (factor-most _ (c .before .before .before .before .before .pre)) (lit< tt)) }
+    record {
+      fits = rw (factor c)
+          (lt-of-le-of-lt (factor-most _ (c .before .before .before .before .before .pre)) (lit< tt));
+    }
 
 returns : tie.Need-returns
 returns c =
     let s = c .before .before .before .before .before .before .before .before .before .args .sheet .now in
-    first-row s (factor (c .before .before .before .before)) (eq-eqb _ _ (c .before .before .if1 .taken)) (eq-eqb _ _ (c .if2 .taken))
+    first-row s (factor (c .before .before .before .before)) (eq-eqb _ _ (c .before .before .if1 .taken))
+    (eq-eqb _ _ (c .if2 .taken))
 
 returns-2 : tie.Need-returns-2
 returns-2 c =
-    sym (round-powered (c .before .before .before .before .before .before .before .before .before .args .sheet .now) (ne-eqb _ _ (c .if2 .left)))
+    sym (round-powered (c .before .before .before .before .before .before .before .before .before .args .sheet .now)
+    (ne-eqb _ _ (c .if2 .left)))
 
 returns-3 : tie.Need-returns-3
 returns-3 c =
-    sym (inboard-powered (c .before .before .before .before .before .before .before .args .sheet .now) (ne-eqb _ _ (c .if1 .left)))
+    sym (inboard-powered (c .before .before .before .before .before .before .before .args .sheet .now)
+    (ne-eqb _ _ (c .if1 .left)))
 
 pub lacks-power-spec : {M : Type 1} → statement M
 lacks-power-spec =

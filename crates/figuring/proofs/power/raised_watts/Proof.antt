@@ -8,7 +8,11 @@ use Rattle.figuring.proofs.power.raised_watts.Tie as tie
 
 mul-result : tie.Need-mul-result
 mul-result c =
-    record { fits = lt-of-le-of-lt (mul-le-mul {n₁ = 5000} {n₂ = 5000} {m₂ = 500000000} (omega arith) (le-trans (div-le-self _ _) (omega arith))) (lit< tt) }
+    record {
+      fits = lt-of-le-of-lt
+          (mul-le-mul {n₁ = 5000} {n₂ = 5000} {m₂ = 500000000} (omega arith) (le-trans (div-le-self _ _) (omega arith)))
+          (lit< tt);
+    }
 
 pub raised-watts-spec : {M : Type 1} → statement M
 raised-watts-spec =

@@ -5,7 +5,7 @@ use native.Mathlib.Numerals.{add-one}
 use native.Mathlib.Omega.{arith}
 use lib.ListN.{getD}
 use borrow.Author.Needs.{needs}
-use Rattle.capacity.specs.PlateA.{tableWatts, rowOf}
+use Rattle.capacity.specs.PlateA.{tableWatts}
 use Rattle.capacity.proofs.Power.{row-in}
 use Rattle.figuring.proofs.power.row_watts.Statement.{statement}
 use Rattle.figuring.proofs.power.row_watts.Tie as tie
@@ -17,7 +17,8 @@ returns : tie.Need-returns
 returns c = rw (c .if1 .taken) (ap (λ (k : ℕ). getD tableWatts k 0) (c .before .table-row .ensures))
 
 returns-2 : tie.Need-returns-2
-returns-2 c = rw (c .if1 .left) (ap (λ (k : ℕ). getD tableWatts k 0) (add-one _ ∙ ap suc (c .before .table-row .ensures)))
+returns-2 c =
+    rw (c .if1 .left) (ap (λ (k : ℕ). getD tableWatts k 0) (add-one _ ∙ ap suc (c .before .table-row .ensures)))
 
 pub row-watts-spec : {M : Type 1} → statement M
 row-watts-spec =

@@ -1,7 +1,7 @@
 -- `gain_of` meets its contract.
 use Rattle.capacity.specs.Volume.{volumeN}
 use Rattle.capacity.proofs.Within.{words-many, aft-most, stations-within}
-use Rattle.capacity.proofs.Loads.{gain-most}
+use Rattle.capacity.proofs.Most.{gain-most}
 use native.Mathlib.Omega.{arith}
 use borrow.Author.Needs.{needs}
 use Rattle.figuring.proofs.volume.gain_of.Statement.{statement}

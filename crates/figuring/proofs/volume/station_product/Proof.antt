@@ -11,7 +11,10 @@ use Rattle.figuring.proofs.volume.station_product.Tie as tie
 
 mul-result-6 : tie.Need-mul-result-6
 mul-result-6 c =
-    record { fits = lt-of-le-of-lt (mul-le-mul {n₂ = breadthHigh} {m₂ = 15 * depthHigh} (omega arith) (omega arith)) (lit< tt) }
+    record {
+      fits = lt-of-le-of-lt (mul-le-mul {n₂ = breadthHigh} {m₂ = 15 * depthHigh} (omega arith) (omega arith))
+          (lit< tt);
+    }
 
 returns : tie.Need-returns
 unfolding stationProduct

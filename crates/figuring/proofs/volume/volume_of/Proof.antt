@@ -2,7 +2,7 @@
 use native.Mathlib.Nat.{lt-of-le-of-lt}
 use lib.Dec.{lit<}
 use Rattle.capacity.proofs.Volume.{product-most}
-use Rattle.capacity.proofs.Loads.{stations-most}
+use Rattle.capacity.proofs.Most.{stations-most}
 use native.Mathlib.Omega.{arith}
 use borrow.Author.Needs.{needs}
 use Rattle.figuring.proofs.volume.volume_of.Statement.{statement}
@@ -13,7 +13,9 @@ returns c = cc
 
 -- what it returns is N, and N fits
 mul-result : tie.Need-mul-result
-mul-result c = record { fits = rw (returns c) (lt-of-le-of-lt (stations-most _ _ (c .before .before .before .before .before .before .before .before .before .pre)) (lit< tt)) }
+mul-result c =
+    let start = c .before .before .before .before .before .before .before .before .before in
+    record { fits = rw (returns c) (lt-of-le-of-lt (stations-most _ _ (start .pre)) (lit< tt)) }
 
 pub volume-of-spec : {M : Type 1} → statement M
 volume-of-spec =

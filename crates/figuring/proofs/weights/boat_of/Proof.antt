@@ -4,7 +4,8 @@ use Rattle.ground.proofs.Stores.{rest-part}
 use Rattle.sheet.specs.Places.{fittingsAt}
 use Rattle.capacity.specs.Weights.{addedUp}
 use Rattle.capacity.proofs.Within.{words-many, weights-within}
-use Rattle.capacity.proofs.Loads.{boat-is, weight-most}
+use Rattle.capacity.proofs.Loads.{boat-is}
+use Rattle.capacity.proofs.Most.{weight-most}
 use native.Mathlib.Omega.{arith}
 use borrow.Author.Needs.{needs}
 use Rattle.figuring.proofs.weights.boat_of.Statement.{statement}

@@ -29,7 +29,8 @@ loop-again c =
     omega (arith, start .pre .light i, sum-more (start .args .weights .now) i (c .before .before .loop-test .taken))
 
 returns : tie.Need-returns Inv-loop μ-loop
-returns c = omega (arith, sum-end (c .before .before .before .args .weights .now) (c .before .loop .i) (c .loop-test .left))
+returns c =
+    omega (arith, sum-end (c .before .before .before .args .weights .now) (c .before .loop .i) (c .loop-test .left))
 
 pub fittings-weight-spec : {M : Type 1} → statement M
 fittings-weight-spec =
