@@ -2,16 +2,17 @@
 use mathlib.Core.Path.{_≡_, refl, sym}
 use mathlib.Core.Bool.{true, false}
 use mathlib.Core.List.{List}
-use Prim.Native.Nat.{ℕ, _*_, _≤_, _<_, max}
+use Prim.Native.Nat.{ℕ, _+_, _*_, _≤_, _<_, max}
 use native.Mathlib.Nat.{mul-le-mul, mul-comm, mul-assoc}
 use native.Mathlib.Omega.{arith}
 use lib.Dec.{eqb}
 use Rattle.capacity.specs.Whole.{orZero}
 use Rattle.sheet.specs.Sheet.{wordsOk}
-use Rattle.capacity.specs.Words.{outboard, declared}
+use Rattle.capacity.specs.Words.{machinery, outboard, declared}
 use Rattle.capacity.specs.Volume.{gram}
-use Rattle.capacity.specs.PlateU.{Figure, outboardFifth, outboardTenths, inboardFifth, inboardSeventh, Rule}
-use Rattle.capacity.specs.PlateU.{twoHorses, finer, poundFine, divisorU, pounds, poundsBy, markedU}
+use Rattle.capacity.specs.Weights.{boatM}
+use Rattle.capacity.specs.PlateU.{Figure, figure, boatB, outboardFifth, outboardTenths, inboardFifth}
+use Rattle.capacity.specs.PlateU.{inboardSeventh, Rule, twoHorses, finer, poundFine, divisorU, pounds, poundsBy, markedU}
 use Rattle.capacity.specs.Highs.{heaviest}
 use Rattle.capacity.proofs.Order.{whole-greatest}
 use Rattle.capacity.proofs.Loads.{gain, loss, wholePart, net-less, times-sub}
@@ -30,18 +31,19 @@ pounds-are s f = rw (net-less s (f .lessGrams), times-sub (f .times * finer) (ga
 module _ (s : List ℕ) where
   pub marked-fifth : eqb (outboard s) 1 ≡ true
       → twoHorses < declared s
-      → orZero (pounds s (outboardFifth s)) ≡ orZero (markedU s)
+      → orZero (pounds s (figure (boatB s) 1 5)) ≡ orZero (markedU s)
   unfolding markedU
   marked-fifth e h = rw (u-high s e h) refl
 
   pub marked-tenths : eqb (outboard s) 1 ≡ true
       → declared s ≤ twoHorses
-      → orZero (pounds s (outboardTenths s)) ≡ orZero (markedU s)
+      → orZero (pounds s (figure (boatM s) 3 10)) ≡ orZero (markedU s)
   unfolding markedU
   marked-tenths e h = rw (u-low s e h) refl
 
   pub marked-greater : eqb (outboard s) 1 ≡ false
-      → max (orZero (pounds s (inboardFifth s))) (orZero (pounds s (inboardSeventh s))) ≡ orZero (markedU s)
+      → max (orZero (pounds s (figure (boatB s + 4 * machinery s) 1 5))) (orZero (pounds s (figure (boatB s) 1 7)))
+      ≡ orZero (markedU s)
   unfolding markedU
   marked-greater e = rw (u-inboard s e) (sym (whole-greatest (pounds s (inboardFifth s)) (pounds s (inboardSeventh s))))
 
