@@ -1,5 +1,6 @@
 -- A sheet in the memory, which stands within it and is within its limits, and a text's sheet as the calls read it. Assumes nothing.
 use mathlib.Core.Path.{_≡_, sym, ap, _∙_}
+use mathlib.Core.Bool.{true}
 use mathlib.Core.List.{List, [], _∷_, _++_, append-nil}
 use Prim.Native.Nat.{ℕ, _+_, _-_, _≤_, _<_}
 use native.Mathlib.Omega.{arith}
@@ -8,14 +9,13 @@ use lib.Seq.{take-all}
 use Rattle.text.specs.declared.LineRead.the-variants.{Taken}
 use Rattle.text.specs.Line.{Reads}
 use Rattle.sheet.specs.Places.{sheetWords, textWords}
+use Rattle.sheet.specs.Sheet.{wordsOk}
 use Rattle.sheet.specs.Reading.{readSheet}
 use Rattle.answers.specs.declared.Answer.{Answer}
 use Rattle.answers.specs.Settled.{Settled}
 use Rattle.sheet.specs.Calls.{writeAnswer, writeInto}
 use Rattle.ground.specs.Lists.{putFirst}
 use Rattle.sheet.proofs.Whole.{sheet-count, sheet-stored}
-use Rattle.capacity.specs.Bounds.{Bounds}
-use Rattle.capacity.proofs.Within.{within-bounds}
 use Rattle.memory.specs.Layout.{mostHulls, desks, hullAt, draftAt, hullSheet, draftSheet}
 use Rattle.memory.proofs.Sound.{sound}
 use Rattle.register.specs.Refusals.{hullRefusal, deskRefusal, sheetOf}
@@ -40,11 +40,11 @@ module _ (m : List ℕ) (d : ℕ) (z : deskRefusal m d ≡ 0) where
   draft-in = omega (arith, sound m (desk-goes m d z .ok) .size, desk-low)
 
 -- what the plates ask of it, by the refusal that the code has found
-pub hull-bounds : (m : List ℕ) (h : ℕ) {s : List ℕ} {f : ℕ} → f ≡ hullRefusal m h → f ≡ 0 → s ≡ hullSheet m h → Bounds s
-hull-bounds m h e z q = let g = hull-goes m h (sym e ∙ z) in rw q (within-bounds (hullSheet m h) (sound m (g .ok) .hulls h (g .entered) .sheet))
+pub hull-ok : (m : List ℕ) (h : ℕ) {s : List ℕ} {f : ℕ} → f ≡ hullRefusal m h → f ≡ 0 → s ≡ hullSheet m h → wordsOk s ≡ true
+hull-ok m h e z q = let g = hull-goes m h (sym e ∙ z) in rw q (sound m (g .ok) .hulls h (g .entered) .sheet)
 
-pub draft-bounds : (m : List ℕ) (d : ℕ) {s : List ℕ} {f : ℕ} → f ≡ deskRefusal m d → f ≡ 0 → s ≡ draftSheet m d → Bounds s
-draft-bounds m d e z q = rw q (within-bounds (draftSheet m d) (desk-goes m d (sym e ∙ z) .draft .sheet))
+pub draft-ok : (m : List ℕ) (d : ℕ) {s : List ℕ} {f : ℕ} → f ≡ deskRefusal m d → f ≡ 0 → s ≡ draftSheet m d → wordsOk s ≡ true
+draft-ok m d e z q = rw q (desk-goes m d (sym e ∙ z) .draft .sheet)
 
 -- written under its number, it is what the call on the register says
 pub written-given : (m : List ℕ) (h : ℕ) (out : List ℕ) {f : ℕ} {ws o : List ℕ} {r : Answer} → f ≡ hullRefusal m h → f ≡ 0 → ws ≡ h ∷ hullSheet m h → Settled (writeAnswer ws (length out)) (writeInto ws out) r o → Settled (hullWritten m h (length out)) (hullWrittenInto m h out) r o

@@ -1,4 +1,4 @@
--- The boats of the plates' computed cases, and what a case says: the whole answer of one plate. Assumes nothing.
+-- The boats of the plates' computed cases, and what a case says: the whole answer of one plate.
 use mathlib.Core.Bool.{Bool, true, _&&_}
 use mathlib.Core.List.{List, [], _∷_, _++_}
 use Prim.Native.Nat.{ℕ}
@@ -41,14 +41,41 @@ all-within (t ∷ ts) = wordsOk (t .sheet) && all-within ts
 -- the base hull with another drive, declared power or masses
 unfoldable pub massed : ℕ → ℕ → ℕ → ℕ → ℕ → List ℕ
 massed outboard declared bare fuel machinery =
-    words 4000 (record { long = 4500; wide = 1200; flat = 0; remote = 0; bare = bare; fuel = fuel; machinery = machinery; outboard = outboard; declared = declared; tested = 0; fitting = 0 })
+    words 4000
+    (record {
+      long = 4500;
+      wide = 1200;
+      flat = 0;
+      remote = 0;
+      bare = bare;
+      fuel = fuel;
+      machinery = machinery;
+      outboard = outboard;
+      declared = declared;
+      tested = 0;
+      fitting = 0;
+    })
 
 -- an outboard of this station T, reference length and bare boat
 unfoldable pub stationed : List ℕ → ℕ → ℕ → List ℕ
 stationed t reference bare =
-    wordsTo t reference (record { long = 6000; wide = 1200; flat = 0; remote = 0; bare = bare; fuel = 0; machinery = 0; outboard = 1; declared = 20000; tested = 0; fitting = 0 })
+    wordsTo t reference
+    (record {
+      long = 6000;
+      wide = 1200;
+      flat = 0;
+      remote = 0;
+      bare = bare;
+      fuel = 0;
+      machinery = 0;
+      outboard = 1;
+      declared = 20000;
+      tested = 0;
+      fitting = 0;
+    })
 
--- a launch of which no two stations, volumes or weights are alike, by its drive, declared power, bare boat and machinery; its fittings stand on lines 1, 2, 13 and 24
+-- a launch of which no two stations, volumes or weights are alike, by its drive, declared power, bare boat and
+-- machinery; its fittings stand on lines 1, 2, 13 and 24
 unfoldable pub launch : ℕ → ℕ → ℕ → ℕ → List ℕ
 launch outboard declared bare machinery =
     5400 ∷ 5250 ∷ 1200 ∷ 500 ∷ 0 ∷ 1

@@ -1,25 +1,19 @@
--- The exact loads of 01 as differences of two natural sums, with their bounds. Assumes nothing.
+-- The exact loads of 01 as differences of two natural sums, what adds and what takes away.
 use mathlib.Core.Path.{_≡_, refl}
-use mathlib.Core.Bool.{Bool, true, false}
-use mathlib.Core.List.{List, [], _∷_}
-use Prim.Native.Nat.{ℕ, suc, _+_, _-_, _*_, _≤_, _<_}
-use native.Mathlib.Nat.{mul-le-mul, mul-div-le, le-trans}
+use mathlib.Core.Bool.{true, false}
+use mathlib.Core.List.{List}
+use Prim.Native.Nat.{ℕ, _+_, _*_, _≤_, _<_}
 use native.Mathlib.Omega.{arith}
-use lib.Dec.{eqb, ltb}
-use borrow.Author.Tests.{lt-ltb, le-ltb, ltb-true, ltb-false}
+use lib.Dec.{eqb}
+use borrow.Author.Tests.{lt-ltb, le-ltb}
 use lib.IntN.{pos, subℕ, _+ℤ_, _-ℤ_, _*ℤ_}
-use lib.ListN.{length, getD}
 use Rattle.capacity.specs.Whole.{floorDiv, orZero}
-use Rattle.capacity.specs.Words.{reference, station, aft, well, flooding, bare, fuel, machinery, outboard, declared, fittingsOf}
-use Rattle.capacity.specs.Volume.{stationProduct, summed, volumeN, gram, netZ}
+use Rattle.capacity.specs.Words.{aft, well, flooding, bare, fuel, machinery, outboard, declared, fittingsOf}
+use Rattle.capacity.specs.Volume.{volumeN, gram, netZ}
 use Rattle.capacity.specs.Weights.{addedUp, boatM}
 use Rattle.capacity.specs.PlateC.{exactX, markedC, lowPower, markedKilo}
 use Rattle.capacity.specs.PlateA.{halfMarked, inboardX, loadX, markedA}
-use Rattle.capacity.specs.Bounds.{Stations, Bounds, heaviest}
 use Rattle.capacity.proofs.Whole.{Differ, of-pos, of-sub, sum-of, less-of, times-of, is-sub}
-use Rattle.capacity.proofs.Volume.{product-most}
-
--- ---- what adds, and what takes away
 
 abbrev pub gain : List ℕ → ℕ
 gain s = volumeN s + gram * aft s
@@ -28,20 +22,16 @@ gain s = volumeN s + gram * aft s
 abbrev pub loss : ℕ → List ℕ → ℕ
 loss w s = gram * (well s + flooding s + w)
 
-net : (s : List ℕ) → Differ (netZ s) (volumeN s + gram * (aft s + 0 + 0)) (0 + gram * (0 + well s + flooding s))
-unfolding netZ
-net s = sum-of (of-pos (volumeN s)) (times-of gram (less-of (less-of (of-pos (aft s)) (of-pos (well s))) (of-pos (flooding s))))
+-- what a boat weighs with tanks and machinery, counted once, and five times as plate A has it for an inboard
+abbrev pub vessel : List ℕ → ℕ
+vessel s = boatM s + (fuel s + machinery s)
 
-pub net-less : (s : List ℕ) (w : ℕ) → netZ s -ℤ pos gram *ℤ pos w ≡ subℕ (gain s) (loss w s)
-net-less s w = is-sub (gain s) (loss w s) (less-of (net s) (times-of gram (of-pos w))) (omega arith)
+abbrev pub inboardVessel : List ℕ → ℕ
+inboardVessel s = boatM s + 5 * (fuel s + machinery s)
 
-exact-is : (s : List ℕ) {w : ℕ} → w ≡ boatM s + (fuel s + machinery s) → exactX s ≡ subℕ (gain s) (loss w s)
-unfolding exactX
-exact-is s {w} e = let f : w ≡ boatM s + fuel s + machinery s = omega (arith, e) in rw f (net-less s (boatM s + fuel s + machinery s))
-
-inboard-is : (s : List ℕ) {w : ℕ} → w ≡ boatM s + 5 * (fuel s + machinery s) → inboardX s ≡ subℕ (gain s) (loss w s)
-unfolding inboardX
-inboard-is s {w} e = is-sub (gain s) (loss w s) (less-of (less-of (net s) (times-of gram (of-pos (boatM s)))) (times-of (5 * gram) (of-pos (fuel s + machinery s)))) (omega (arith, e))
+-- the largest whole number not above (a − b) / d, or 0 where that is below zero
+abbrev pub wholePart : ℕ → ℕ → ℕ → ℕ
+wholePart a b d = orZero (floorDiv (subℕ a b) d)
 
 -- a multiple of a difference, and a difference with a number added
 pub times-sub : (k a b : ℕ) → pos k *ℤ subℕ a b ≡ subℕ (k * a) (k * b)
@@ -50,86 +40,52 @@ times-sub k a b = is-sub (k * a) (k * b) (times-of k (of-sub a b)) refl
 added : (a b c : ℕ) → subℕ a b +ℤ pos c ≡ subℕ (a + c) b
 added a b c = is-sub (a + c) b (sum-of (of-sub a b) (of-pos c)) (omega arith)
 
--- ---- the marked loads, by the case that the code finds
+module _ (s : List ℕ) where
+  net : Differ (netZ s) (volumeN s + gram * (aft s + 0 + 0)) (0 + gram * (0 + well s + flooding s))
+  unfolding netZ
+  net =
+      sum-of (of-pos (volumeN s))
+      (times-of gram (less-of (less-of (of-pos (aft s)) (of-pos (well s))) (of-pos (flooding s))))
 
-pub marked-high : (s : List ℕ) {w : ℕ} → w ≡ boatM s + (fuel s + machinery s) → lowPower < declared s → orZero (floorDiv (subℕ (gain s) (loss w s)) markedKilo) ≡ orZero (markedC s)
-unfolding markedC
-marked-high s {w} q h = rw (lt-ltb lowPower (declared s) h, exact-is s q) refl
+  pub net-less : (w : ℕ) → netZ s -ℤ pos gram *ℤ pos w ≡ subℕ (gain s) (loss w s)
+  net-less w = is-sub (gain s) (loss w s) (less-of net (times-of gram (of-pos w))) (omega arith)
 
-pub marked-low : (s : List ℕ) {w : ℕ} → w ≡ boatM s + (fuel s + machinery s) → declared s ≤ lowPower → orZero (floorDiv (subℕ (3 * gain s) (3 * loss w s)) (2 * markedKilo)) ≡ orZero (markedC s)
-unfolding markedC
-marked-low s {w} q h = rw (le-ltb lowPower (declared s) h, exact-is s q, times-sub 3 (gain s) (loss w s)) refl
+  exact-is : exactX s ≡ subℕ (gain s) (loss (vessel s) s)
+  unfolding exactX
+  exact-is =
+      is-sub (gain s) (loss (vessel s) s) (less-of net (times-of gram (of-pos (boatM s + fuel s + machinery s))))
+      (omega arith)
 
-pub marked-outboard : (s : List ℕ) {w : ℕ} → w ≡ boatM s + (fuel s + machinery s) → eqb (outboard s) 1 ≡ true → orZero (floorDiv (subℕ (gain s + halfMarked) (loss w s)) markedKilo) ≡ orZero (markedA s)
-unfolding markedA loadX
-marked-outboard s {w} q e = rw (e, exact-is s q, added (gain s) (loss w s) halfMarked) refl
+  inboard-is : inboardX s ≡ subℕ (gain s) (loss (inboardVessel s) s)
+  unfolding inboardX
+  inboard-is =
+      let carried = times-of (5 * gram) (of-pos (fuel s + machinery s)) in
+      is-sub (gain s) (loss (inboardVessel s) s) (less-of (less-of net (times-of gram (of-pos (boatM s)))) carried)
+      (omega arith)
 
-pub marked-inboard : (s : List ℕ) {w : ℕ} → w ≡ boatM s + 5 * (fuel s + machinery s) → eqb (outboard s) 1 ≡ false → orZero (floorDiv (subℕ (gain s + halfMarked) (loss w s)) markedKilo) ≡ orZero (markedA s)
-unfolding markedA loadX
-marked-inboard s {w} q e = rw (e, inboard-is s q, added (gain s) (loss w s) halfMarked) refl
+  -- ---- the marked loads, by the case that the code finds
 
--- ---- the sums as the code works them
+  pub marked-high : lowPower < declared s → wholePart (gain s) (loss (vessel s) s) markedKilo ≡ orZero (markedC s)
+  unfolding markedC
+  marked-high h = rw (lt-ltb lowPower (declared s) h, exact-is) refl
 
-pub boat-is : (s : List ℕ) → boatM s ≡ bare s + addedUp (fittingsOf s)
-unfolding boatM
-boat-is s = refl
+  pub marked-low : declared s ≤ lowPower
+      → wholePart (3 * gain s) (3 * loss (vessel s) s) (2 * markedKilo) ≡ orZero (markedC s)
+  unfolding markedC
+  marked-low h = rw (le-ltb lowPower (declared s) h, exact-is, times-sub 3 (gain s) (loss (vessel s) s)) refl
 
-pub volume-is : (s : List ℕ) {q r t u : List ℕ} → q ≡ station s 0 → r ≡ station s 1 → t ≡ station s 2 → u ≡ station s 3 → summed (reference s) (stationProduct q) (stationProduct r) (stationProduct t) (stationProduct u) ≡ volumeN s
-unfolding volumeN
-volume-is s a b c d = rw (a, b, c, d) refl
+  pub marked-outboard : eqb (outboard s) 1 ≡ true
+      → wholePart (gain s + halfMarked) (loss (vessel s) s) markedKilo ≡ orZero (markedA s)
+  unfolding markedA loadX
+  marked-outboard e = rw (e, exact-is, added (gain s) (loss (vessel s) s) halfMarked) refl
 
--- ---- bounds
+  pub marked-inboard : eqb (outboard s) 1 ≡ false
+      → wholePart (gain s + halfMarked) (loss (inboardVessel s) s) markedKilo ≡ orZero (markedA s)
+  unfolding markedA loadX
+  marked-inboard e = rw (e, inboard-is, added (gain s) (loss (inboardVessel s) s) halfMarked) refl
 
-sum-most-in : (ws : List ℕ) (n : ℕ) → length ws ≤ n → ((k : ℕ) → getD ws k 0 ≤ 500000) → addedUp ws ≤ 500000 * n
-unfolding addedUp
-sum-most-in [] n h f = omega arith
-sum-most-in (w ∷ ws) n h f =
-    let a : w ≤ 500000 = f 0 in
-    let b : addedUp ws ≤ 500000 * length ws = sum-most-in ws (length ws) (omega arith) (λ (k : ℕ). f (suc k)) in
-    omega arith
+  -- ---- the boat as the code adds it up
 
-pub boat-most : (s : List ℕ) → Bounds s → boatM s ≤ 14000000
-unfolding boatM
-boat-most s b = omega (arith, b .bare-most, sum-most-in (fittingsOf s) 24 (b .fittings .few) (b .fittings .light))
-
--- four stations and a reference length: N of them, and those of a sheet
-pub stations-most : (ls : List (List ℕ)) (ref : ℕ) → Stations ls ref → summed ref (stationProduct (getD ls 0 [])) (stationProduct (getD ls 1 [])) (stationProduct (getD ls 2 [])) (stationProduct (getD ls 3 [])) ≤ 9900000000000
-stations-most ls ref b =
-    let q = product-most (getD ls 0 []) (b .at0) in
-    let r = product-most (getD ls 1 []) (b .at1) in
-    let t = product-most (getD ls 2 []) (b .at2) in
-    let u = product-most (getD ls 3 []) (b .at3) in
-    le-trans (mul-le-mul {n₂ = 6000} {m₂ = 1650000000} (b .reference-most) (omega arith)) (omega arith)
-
-stations-of : (s : List ℕ) → Bounds s → Stations (station s 0 ∷ station s 1 ∷ station s 2 ∷ station s 3 ∷ []) (reference s)
-stations-of s b = record { at0 = b .stations 0 (omega arith); at1 = b .stations 1 (omega arith); at2 = b .stations 2 (omega arith); at3 = b .stations 3 (omega arith); reference-most = b .reference-most }
-
-pub volume-most : (s : List ℕ) → Bounds s → volumeN s ≤ 9900000000000
-unfolding volumeN
-volume-most s b = stations-most (station s 0 ∷ station s 1 ∷ station s 2 ∷ station s 3 ∷ []) (reference s) (stations-of s b)
-
-pub loss-most : (s : List ℕ) {w : ℕ} → Bounds s → w ≤ heaviest → loss w s ≤ 5220000000000
-loss-most s b h = omega (arith, b .well-most, b .flooding-most)
-
--- ---- a marked load fits 32 bits
-
-pub floor-most : (a b d : ℕ) → d * orZero (floorDiv (subℕ a b) d) ≤ a
-floor-most a b d = go (ltb a b) refl
-  where
-    go : (t : Bool) → ltb a b ≡ t → d * orZero (floorDiv (subℕ a b) d) ≤ a
-    go true e = rw e (omega arith)
-    go false e = rw e (omega (arith, mul-div-le (a - b) d))
-
-pub marked-most : (s : List ℕ) → Bounds s → orZero (markedA s) ≤ 20000
-marked-most s b = go (eqb (outboard s) 1) refl
-  where
-    go : (t : Bool) → eqb (outboard s) 1 ≡ t → orZero (markedA s) ≤ 20000
-    go true e = omega (arith, marked-outboard s refl e, floor-most (gain s + halfMarked) (loss (boatM s + (fuel s + machinery s)) s) markedKilo, volume-most s b, b .aft-most)
-    go false e = omega (arith, marked-inboard s refl e, floor-most (gain s + halfMarked) (loss (boatM s + 5 * (fuel s + machinery s)) s) markedKilo, volume-most s b, b .aft-most)
-
-pub c-most : (s : List ℕ) → Bounds s → orZero (markedC s) ≤ 20000
-c-most s b = go (ltb lowPower (declared s)) refl
-  where
-    go : (t : Bool) → ltb lowPower (declared s) ≡ t → orZero (markedC s) ≤ 20000
-    go true e = omega (arith, marked-high s refl (ltb-true lowPower (declared s) e), floor-most (gain s) (loss (boatM s + (fuel s + machinery s)) s) markedKilo, volume-most s b, b .aft-most)
-    go false e = omega (arith, marked-low s refl (ltb-false lowPower (declared s) e), floor-most (3 * gain s) (3 * loss (boatM s + (fuel s + machinery s)) s) (2 * markedKilo), volume-most s b, b .aft-most)
+  pub boat-is : boatM s ≡ bare s + addedUp (fittingsOf s)
+  unfolding boatM
+  boat-is = refl

@@ -1,4 +1,4 @@
--- The order of whole numbers, below zero too; the lesser and the greater of two. Assumes nothing.
+-- The order of whole numbers, below zero too; the lesser and the greater of two.
 use mathlib.Core.Path.{_≡_, refl, sym}
 use mathlib.Core.Bool.{Bool, true, false, true≢false, cond}
 use mathlib.Core.Logic.{_⊎_, inl, inr}

@@ -1,4 +1,5 @@
--- Plate U: which figures apply to a hull, and that what is marked is the largest whole number of pounds within them, below zero too. Assumes nothing.
+-- Plate U: which figures apply to a hull, and that what is marked is the largest whole number of pounds within them,
+-- below zero too.
 use mathlib.Core.Path.{_≡_, refl}
 use mathlib.Core.Bool.{Bool, true, false, cond}
 use mathlib.Core.List.{List}
@@ -11,9 +12,12 @@ use lib.Dec.{eqb, ltb, lit<}
 use lib.IntN.{ℤ, pos, _+ℤ_, _*ℤ_}
 use Rattle.capacity.specs.Whole.{greatest}
 use Rattle.capacity.specs.Words.{outboard, declared}
-use Rattle.capacity.specs.PlateU.{Figure, outboardFifth, outboardTenths, inboardFifth, inboardSeventh, Rule, onlyOne, greaterOf, twoHorses, ruleU, dividendU, divisorU, pounds, poundsBy, markedU}
+use Rattle.capacity.specs.PlateU.{Figure, outboardFifth, outboardTenths, inboardFifth, inboardSeventh, Rule}
+use Rattle.capacity.specs.PlateU.{onlyOne, greaterOf, twoHorses, ruleU, dividendU, divisorU, pounds, poundsBy}
+use Rattle.capacity.specs.PlateU.{markedU}
 use Rattle.capacity.proofs.Whole.{of-pos, sum-of, times-of}
-use Rattle.capacity.proofs.Order.{NotAbove, not-above, not-above-back, sums, greatest-left, greatest-right, greatest-one}
+use Rattle.capacity.proofs.Order.{NotAbove, not-above, not-above-back, sums, greatest-left, greatest-right}
+use Rattle.capacity.proofs.Order.{greatest-one}
 use Rattle.capacity.proofs.Rounding.{Largest, floor-largest}
 
 -- ---- which figures apply
@@ -32,11 +36,17 @@ unfolding ruleU
 u-inboard s e = rw e refl
 
 -- what holds of the rule that each hull has holds of every hull's
-pub by-hull : (P : Rule → Type 0) (s : List ℕ) → P (onlyOne (outboardFifth s)) → P (onlyOne (outboardTenths s)) → P (greaterOf (inboardFifth s) (inboardSeventh s)) → P (ruleU s)
+pub by-hull : (P : Rule → Type 0) (s : List ℕ)
+    → P (onlyOne (outboardFifth s))
+    → P (onlyOne (outboardTenths s))
+    → P (greaterOf (inboardFifth s) (inboardSeventh s))
+    → P (ruleU s)
 unfolding ruleU
 by-hull P s a b c = go (eqb (outboard s) 1) (ltb twoHorses (declared s))
   where
-    go : (t u : Bool) → P (cond t (cond u (onlyOne (outboardFifth s)) (onlyOne (outboardTenths s))) (greaterOf (inboardFifth s) (inboardSeventh s)))
+    go : (t u : Bool)
+        → P (cond t (cond u (onlyOne (outboardFifth s)) (onlyOne (outboardTenths s)))
+        (greaterOf (inboardFifth s) (inboardSeventh s)))
     go true true = a
     go true false = b
     go false u = c
@@ -67,7 +77,10 @@ floored : (s : List ℕ) (f : Figure) → 0 < divisorU f → Largest (dividendU 
 floored s f p = floor-largest (dividendU s f) (divisorU f) p
 
 -- what exceeds a figure still does where it is more
-exceeds-more : (z q r : ℤ) (d : ℕ) → NotAbove z (pos d *ℤ (q +ℤ pos 1)) → NotAbove q r → NotAbove z (pos d *ℤ (r +ℤ pos 1))
+exceeds-more : (z q r : ℤ) (d : ℕ)
+    → NotAbove z (pos d *ℤ (q +ℤ pos 1))
+    → NotAbove q r
+    → NotAbove z (pos d *ℤ (r +ℤ pos 1))
 exceeds-more z q r d h k =
     let dz = sums z .2 in
     let dq = sums q .2 in
@@ -78,16 +91,25 @@ exceeds-more z q r d h k =
     let e : ℕ = sums r .1 in
     let x = not-above-back dz (times-of d (sum-of dq (of-pos 1))) h in
     let m : d * (a + e) ≤ d * (c + b) = mul-le-mul {n₁ = d} {n₂ = d} (omega arith) (not-above-back dq dr k) in
-    not-above dz (times-of d (sum-of dr (of-pos 1))) (omega (arith, mul-add d a e, mul-add d c b, mul-add d a 1, mul-add d c 1, x, m))
+    not-above dz (times-of d (sum-of dr (of-pos 1)))
+    (omega (arith, mul-add d a e, mul-add d c b, mul-add d a 1, mul-add d c 1, x, m))
 
 one-largest : (s : List ℕ) (f : Figure) → 0 < divisorU f → LargestBy s (onlyOne f) (pounds s f)
 one-largest s f p = record { fits = floored s f p .fits; most = floored s f p .most }
 
-greater-largest : (s : List ℕ) (f g : Figure) → 0 < divisorU f → 0 < divisorU g → LargestBy s (greaterOf f g) (greatest (pounds s f) (pounds s g))
+greater-largest : (s : List ℕ) (f g : Figure)
+    → 0 < divisorU f
+    → 0 < divisorU g
+    → LargestBy s (greaterOf f g) (greatest (pounds s f) (pounds s g))
 greater-largest s f g p r =
     record {
       fits = one (greatest-one (pounds s f) (pounds s g));
-      most = (exceeds-more (dividendU s f +ℤ pos 1) (pounds s f) q (divisorU f) (floored s f p .most) (greatest-left (pounds s f) (pounds s g)), exceeds-more (dividendU s g +ℤ pos 1) (pounds s g) q (divisorU g) (floored s g r .most) (greatest-right (pounds s f) (pounds s g)));
+      most = (
+        exceeds-more (dividendU s f +ℤ pos 1) (pounds s f) q (divisorU f) (floored s f p .most)
+            (greatest-left (pounds s f) (pounds s g)),
+        exceeds-more (dividendU s g +ℤ pos 1) (pounds s g) q (divisorU g) (floored s g r .most)
+            (greatest-right (pounds s f) (pounds s g)),
+      );
     }
   where
     q : ℤ
@@ -100,9 +122,17 @@ greater-largest s f g p r =
 pub u-largest : (s : List ℕ) → LargestBy s (ruleU s) (markedU s)
 unfolding markedU
 u-largest s =
-    by-hull (λ (r : Rule). LargestBy s r (poundsBy s r)) s (one-largest s (outboardFifth s) (lit< tt)) (one-largest s (outboardTenths s) (lit< tt)) (greater-largest s (inboardFifth s) (inboardSeventh s) (lit< tt) (lit< tt))
+    by-hull (λ (r : Rule). LargestBy s r (poundsBy s r)) s (one-largest s (outboardFifth s) (lit< tt))
+    (one-largest s (outboardTenths s) (lit< tt))
+    (greater-largest s (inboardFifth s) (inboardSeventh s) (lit< tt) (lit< tt))
 
 -- an inboard is marked below neither of its figures
-pub u-neither : (s : List ℕ) → eqb (outboard s) 1 ≡ false → NotAbove (pounds s (inboardFifth s)) (markedU s) × NotAbove (pounds s (inboardSeventh s)) (markedU s)
+pub u-neither : (s : List ℕ)
+    → eqb (outboard s) 1 ≡ false
+    → NotAbove (pounds s (inboardFifth s)) (markedU s) × NotAbove (pounds s (inboardSeventh s)) (markedU s)
 unfolding markedU
-u-neither s e = rw (u-inboard s e) (greatest-left (pounds s (inboardFifth s)) (pounds s (inboardSeventh s)), greatest-right (pounds s (inboardFifth s)) (pounds s (inboardSeventh s)))
+u-neither s e =
+    rw (u-inboard s e) (
+      greatest-left (pounds s (inboardFifth s)) (pounds s (inboardSeventh s)),
+      greatest-right (pounds s (inboardFifth s)) (pounds s (inboardSeventh s)),
+    )

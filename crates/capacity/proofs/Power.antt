@@ -1,4 +1,4 @@
--- Plate A's power, by the case that the code finds. Assumes nothing.
+-- Plate A's power, by the case that the code finds.
 use mathlib.Core.Path.{_≡_, refl, sym, ap, _∙_}
 use mathlib.Core.Bool.{Bool, true, false, _&&_, cond}
 use mathlib.Core.List.{List, [], _∷_}
@@ -9,47 +9,67 @@ use borrow.Author.Tests.{lt-ltb, le-ltb, le-leb, lt-leb, leb-true, ne-eqb}
 use Rattle.ground.proofs.Booleans.{both-hold, first-fails, second-fails, either}
 use lib.Dec.{eqb, leb, ltb}
 use lib.ListN.{length, getD}
+use Rattle.sheet.specs.Sheet.{wordsOk}
+use Rattle.sheet.specs.Places.{lengthAt, transomWidthAt}
 use Rattle.capacity.specs.Words.{hullLength, transomWidth, transomHeight, flatBottom, remote, outboard}
 use Rattle.capacity.specs.PlateC.{rowFor}
-use Rattle.capacity.specs.PlateA.{factorP, tableEnd, tableEnds, tableWatts, rowOf, rowWatts, beforeWatts, raised, formulaWatts, powerA, noPower}
-use Rattle.capacity.specs.Bounds.{Bounds}
+use Rattle.capacity.specs.PlateA.{factorP, tableEnd, tableEnds, tableWatts, rowOf, rowWatts, beforeWatts}
+use Rattle.capacity.specs.PlateA.{raised, formulaWatts, powerA, lacksPower}
+use Rattle.capacity.specs.Highs.{highAt}
+use Rattle.capacity.proofs.Within.{long-most, wide-most}
 
 -- ---- the power factor
 
 pub factor-is : (s : List ℕ) {l w : ℕ} → l ≡ hullLength s → w ≡ transomWidth s → l * w ≡ factorP s
 factor-is s a b = rw (a, b) refl
 
-pub factor-most : (s : List ℕ) {l w : ℕ} → Bounds s → l ≡ hullLength s → w ≡ transomWidth s → l * w ≤ 18000000
-factor-most s bounds a b = mul-le-mul {n₂ = 6000} {m₂ = 3000} (omega (arith, bounds .long)) (omega (arith, bounds .wide))
+-- that of the largest hull
+abbrev pub factorMost : ℕ
+factorMost = highAt lengthAt * highAt transomWidthAt
 
--- ---- above the table
+pub factor-most : (s : List ℕ) → wordsOk s ≡ true → factorP s ≤ factorMost
+factor-most s ok = mul-le-mul {n₂ = highAt lengthAt} {m₂ = highAt transomWidthAt} (long-most s ok) (wide-most s ok)
 
-pub by-remote : (s : List ℕ) {p : ℕ} → p ≡ factorP s → eqb (remote s) 1 ≡ true → leb 500 (transomHeight s) ≡ true → raised (16 * p - 67000000) 1000 ≡ formulaWatts s
-unfolding formulaWatts
-by-remote s e a b = rw (e, a, b) refl
+-- ---- the marked power, of a factor that the code has worked
 
-pub by-flat : (s : List ℕ) {p : ℕ} → p ≡ factorP s → (eqb (remote s) 1 && leb 500 (transomHeight s)) ≡ false → eqb (flatBottom s) 1 ≡ true → raised (4 * p - 11000000) 1000 ≡ formulaWatts s
-unfolding formulaWatts
-by-flat s e a b = rw (e, a, b) refl
+module _ (s : List ℕ) {p : ℕ} (e : p ≡ factorP s) where
+  -- above the table
+  pub by-remote : eqb (remote s) 1 ≡ true
+      → leb 500 (transomHeight s) ≡ true
+      → raised (16 * p - 67000000) 1000 ≡ formulaWatts s
+  unfolding formulaWatts
+  by-remote a b = rw (e, a, b) refl
 
-pub by-chine : (s : List ℕ) {p : ℕ} → p ≡ factorP s → (eqb (remote s) 1 && leb 500 (transomHeight s)) ≡ false → eqb (flatBottom s) 1 ≡ false → raised (13 * p - 40000000) 2000 ≡ formulaWatts s
-unfolding formulaWatts
-by-chine s e a b = rw (e, a, b) refl
+  module _ (a : (eqb (remote s) 1 && leb 500 (transomHeight s)) ≡ false) where
+    pub by-flat : eqb (flatBottom s) 1 ≡ true → raised (4 * p - 11000000) 1000 ≡ formulaWatts s
+    unfolding formulaWatts
+    by-flat b = rw (e, a, b) refl
 
--- ---- the marked power
+    pub by-chine : eqb (flatBottom s) 1 ≡ false → raised (13 * p - 40000000) 2000 ≡ formulaWatts s
+    unfolding formulaWatts
+    by-chine b = rw (e, a, b) refl
+
+  pub by-formula : eqb (outboard s) 0 ≡ false → tableEnd < p → formulaWatts s ≡ powerA s
+  unfolding powerA
+  by-formula a h = rw (a, sym (ap (ltb tableEnd) e) ∙ lt-ltb tableEnd p h) refl
+
+  -- within the table a flat bottom by the row before its own, another by its own
+  pub by-row : {flat : Bool} → eqb (outboard s) 0 ≡ false → p ≤ tableEnd → flat ≡ eqb (flatBottom s) 1
+      → cond flat (beforeWatts p) (rowWatts p) ≡ powerA s
+  unfolding powerA
+  by-row a h f = rw (a, sym (ap (ltb tableEnd) e) ∙ le-ltb tableEnd p h, f, e) refl
+
+  pub first-row : eqb (outboard s) 1 ≡ true → eqb (flatBottom s) 1 ≡ true → leb p 2250000 ≡ lacksPower s
+  unfolding rowFor
+  first-row a b = rw (a, b, ← e) (go (leb p 2250000) _)
+    where
+      go : (t : Bool) (k : ℕ) → t ≡ eqb (elim t [ true ↦ 0 | false ↦ suc k ]) 0
+      go true k = refl
+      go false k = sym (ne-eqb (suc k) 0 (λ z. omega arith))
 
 pub no-outboard : (s : List ℕ) → eqb (outboard s) 0 ≡ true → 0 ≡ powerA s
 unfolding powerA
 no-outboard s a = rw a refl
-
-pub by-formula : (s : List ℕ) {p : ℕ} → p ≡ factorP s → eqb (outboard s) 0 ≡ false → tableEnd < p → formulaWatts s ≡ powerA s
-unfolding powerA
-by-formula s e a h = rw (a, sym (ap (ltb tableEnd) e) ∙ lt-ltb tableEnd _ h) refl
-
--- within the table a flat bottom by the row before its own, another by its own
-pub by-row : (s : List ℕ) {p : ℕ} {flat : Bool} → p ≡ factorP s → eqb (outboard s) 0 ≡ false → p ≤ tableEnd → flat ≡ eqb (flatBottom s) 1 → cond flat (beforeWatts p) (rowWatts p) ≡ powerA s
-unfolding powerA
-by-row s {p} e a h f = rw (a, sym (ap (ltb tableEnd) e) ∙ le-ltb tableEnd p h, f, e) refl
 
 -- ---- the row of the table
 
@@ -77,27 +97,21 @@ row-in p h = row-within p tableEnds 5 (omega arith) h
 
 -- ---- no power, and a power that fits 32 bits
 
-pub first-row : (s : List ℕ) {p : ℕ} → p ≡ factorP s → eqb (outboard s) 1 ≡ true → eqb (flatBottom s) 1 ≡ true → leb p 2250000 ≡ noPower s
-unfolding rowFor
-first-row s {p} e a b = rw (a, b, ← e) (go (leb p 2250000) _)
-  where
-    go : (t : Bool) (k : ℕ) → t ≡ eqb (elim t [ true ↦ 0 | false ↦ suc k ]) 0
-    go true k = refl
-    go false k = sym (ne-eqb (suc k) 0 (λ z. omega arith))
-
-pub inboard-powered : (s : List ℕ) → eqb (outboard s) 1 ≡ false → noPower s ≡ false
+pub inboard-powered : (s : List ℕ) → eqb (outboard s) 1 ≡ false → lacksPower s ≡ false
 inboard-powered s e = first-fails _ e
 
-pub round-powered : (s : List ℕ) → eqb (flatBottom s) 1 ≡ false → noPower s ≡ false
+pub round-powered : (s : List ℕ) → eqb (flatBottom s) 1 ≡ false → lacksPower s ≡ false
 round-powered s e = second-fails (eqb (outboard s) 1) (first-fails _ e)
 
 -- a power that fits 32 bits with room to spare
 abbrev Fitting : ℕ → Type 0
 Fitting watts = watts ≤ 300000
 
-formula-most : (s : List ℕ) → factorP s ≤ 18000000 → Fitting (formulaWatts s)
+formula-most : (s : List ℕ) → factorP s ≤ factorMost → Fitting (formulaWatts s)
 unfolding formulaWatts
-formula-most s h = either Fitting (eqb (remote s) 1 && leb 500 (transomHeight s)) (omega arith) (either Fitting (eqb (flatBottom s) 1) (omega arith) (omega arith))
+formula-most s h =
+    either Fitting (eqb (remote s) 1 && leb 500 (transomHeight s)) (omega arith)
+    (either Fitting (eqb (flatBottom s) 1) (omega arith) (omega arith))
 
 abbrev allMost : List ℕ → ℕ → Bool
 allMost [] n = true
@@ -111,8 +125,9 @@ getD-most (x ∷ l) n e (suc k) = getD-most l n (both-hold (leb x n) (allMost l 
 watts-most : (k : ℕ) → Fitting (getD tableWatts k 0)
 watts-most = getD-most tableWatts 300000 refl
 
-pub power-most : (s : List ℕ) → Bounds s → powerA s ≤ 300000
+pub power-most : (s : List ℕ) → wordsOk s ≡ true → powerA s ≤ 300000
 unfolding powerA
 power-most s b =
     either Fitting (eqb (outboard s) 0) (omega arith)
-    (either Fitting (ltb tableEnd (factorP s)) (formula-most s (factor-most s b refl refl)) (either Fitting (eqb (flatBottom s) 1) (watts-most (rowOf (factorP s))) (watts-most (suc (rowOf (factorP s))))))
+    (either Fitting (ltb tableEnd (factorP s)) (formula-most s (factor-most s b))
+    (either Fitting (eqb (flatBottom s) 1) (watts-most (rowOf (factorP s))) (watts-most (suc (rowOf (factorP s))))))

@@ -1,4 +1,5 @@
--- What the roundings give: the largest whole number that fits, the nearest with a half upward, the least multiple that reaches. Assumes nothing.
+-- What the roundings give: the largest whole number that fits, the nearest with a half upward, the least multiple
+-- that reaches.
 use mathlib.Core.Path.{_≡_, refl}
 use mathlib.Core.Bool.{Bool, true, false}
 use mathlib.Core.List.{List}
@@ -55,8 +56,13 @@ nearest-of : (z q : ℤ) → Largest (z +ℤ pos halfMarked) markedKilo q → Ne
 nearest-of z q l =
     let dz = sums z .2 in
     let dq = sums q .2 in
-    let past = not-above-back (sum-of (sum-of dz (of-pos halfMarked)) (of-pos 1)) (times-of markedKilo (sum-of dq (of-pos 1))) (l .most) in
-    record { low = l .fits; high = not-above (sum-of dz (of-pos 1)) (sum-of (times-of (2 * halfMarked) dq) (of-pos halfMarked)) (omega arith) }
+    let past = not-above-back (sum-of (sum-of dz (of-pos halfMarked)) (of-pos 1))
+    (times-of markedKilo (sum-of dq (of-pos 1))) (l .most) in
+    record {
+      low = l .fits;
+      high = not-above (sum-of dz (of-pos 1))
+          (sum-of (times-of (2 * halfMarked) dq) (of-pos halfMarked)) (omega arith);
+    }
 
 pub a-nearest : (s : List ℕ) → Nearest (loadX s) halfMarked (markedA s)
 unfolding markedA
@@ -69,7 +75,8 @@ ceil-least a d m p h = go (ltb m (ceilDiv a d)) refl
   where
     go : (t : Bool) → ltb m (ceilDiv a d) ≡ t → ceilDiv a d ≤ m
     go true e =
-        let more : d * (m + 1) ≤ d * ceilDiv a d = mul-le-mul {n₁ = d} {n₂ = d} (omega arith) (omega (arith, ltb-true m (ceilDiv a d) e)) in
+        let more : d * (m + 1) ≤ d * ceilDiv a d = mul-le-mul {n₁ = d} {n₂ = d} (omega arith)
+        (omega (arith, ltb-true m (ceilDiv a d) e)) in
         absurd (omega (arith, more, mul-add d m 1, mul-div-le (a + (d - 1)) d))
     go false e = ltb-false m (ceilDiv a d) e
 

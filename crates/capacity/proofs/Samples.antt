@@ -1,5 +1,6 @@
--- The plates computed: the starred samples of 01, cases 1 to 7, as one statement over one list of them; one table of our own cases, the whole answer of each; the words'
--- names; and each factor of the volume and row of the power table. Assumes nothing.
+-- The plates computed: the starred samples of 01, cases 1 to 7, as one statement over one list of them; one table of
+-- our own cases, the whole answer of each; the words'
+-- names; and each factor of the volume and row of the power table.
 use mathlib.Core.Path.{_≡_, refl}
 use mathlib.Core.Bool.{Bool, true, false, _&&_}
 use mathlib.Core.List.{List, [], _∷_, _++_, map}
@@ -17,15 +18,20 @@ use Rattle.form.specs.Outcome.{took}
 use Rattle.form.specs.Reading.{readRows, readParts, readForm}
 use Rattle.sheet.specs.Sheet.{limitsOn, sheetLimits}
 use Rattle.sheet.specs.SheetText.{sheetForm, weightsFrom, fitsOf, numbersOn, readSheet}
-use Rattle.capacity.specs.Words.{hullLength, reference, transomWidth, transomHeight, flatBottom, remote, station, aft, well, flooding, bare, fuel, machinery, outboard, declared, positions, tested, fittingsOf}
+use Rattle.capacity.specs.Words.{hullLength, reference, transomWidth, transomHeight, flatBottom, remote}
+use Rattle.capacity.specs.Words.{station, aft, well, flooding, bare, fuel, machinery, outboard, declared}
+use Rattle.capacity.specs.Words.{positions, tested, fittingsOf}
 use Rattle.capacity.specs.Volume.{stationProduct, summed, volumeN, netZ}
 use Rattle.capacity.specs.Weights.{addedUp, boatM}
-use Rattle.capacity.specs.PlateC.{exactX, markedC, rising, rowsRight, rowFor, noRow, engineWeight, liveLoad, persons, untested, plateC}
+use Rattle.capacity.specs.PlateC.{exactX, markedC, rising, rowsRight, rowFor, lacksRow, engineWeight, liveLoad}
+use Rattle.capacity.specs.PlateC.{persons, lacksTests, plateC}
 use Rattle.capacity.specs.PlateA.{inboardX, loadX, markedA, rowWatts, beforeWatts, formulaWatts, powerA, plateA}
 use Rattle.capacity.specs.PlateU.{ruleU, markedU, plateU}
-use Rattle.capacity.specs.Bounds.{heaviest}
-use Rattle.capacity.specs.Samples.{words, seated, load, power, inboard, Case, marks, agrees, refuses, second-is, answer-c, holds-of, stands, cases}
-use Rattle.capacity.proofs.Boats.{Told, answered, all-within, massed, stationed, launch, transom, bare-boat, driven, seats}
+use Rattle.capacity.specs.Highs.{heaviest}
+use Rattle.capacity.specs.Samples.{words, seated, load, power, inboard, Case, marks, agrees, refuses, second-is}
+use Rattle.capacity.specs.Samples.{answer-c, holds-of, stands, cases}
+use Rattle.capacity.proofs.Boats.{Told, answered, all-within, massed, stationed, launch, transom, bare-boat}
+use Rattle.capacity.proofs.Boats.{driven, seats}
 use Rattle.capacity.proofs.CasesA.{casesA}
 use Rattle.capacity.proofs.CasesC.{loadsC, rowsC, ordersC}
 use Rattle.capacity.proofs.CasesU.{casesU}
@@ -37,7 +43,9 @@ all-stand [] = true
 all-stand (c ∷ cs) = stands c && all-stand cs
 
 starred : all-stand cases ≡ true
-unfolding all-stand stands cases holds-of answer-c marks agrees refuses second-is seated load power inboard words allHold sheetLimits limitsOn stationProduct volumeN netZ addedUp boatM exactX markedC rising rowsRight rowFor noRow engineWeight liveLoad persons untested plateC inboardX loadX markedA formulaWatts powerA plateA
+unfolding all-stand stands cases holds-of answer-c marks agrees refuses second-is seated load power inboard words
+    allHold sheetLimits limitsOn stationProduct volumeN netZ addedUp boatM exactX markedC rising rowsRight rowFor
+    lacksRow engineWeight liveLoad persons lacksTests plateC inboardX loadX markedA formulaWatts powerA plateA
 starred = refl
 
 -- a load is marked though the plate is refused for another reason, which is 13 or more
@@ -49,9 +57,12 @@ refused-right = refl
 hull : List ℕ
 hull = 4500 ∷ 4000 ∷ 1200 ∷ 0 ∷ 1 ∷ []
 
--- what each of them is a case of: declared power, bare boat, fitting; length, reference length, width, flat bottom, remote steering
+-- what each of them is a case of: declared power, bare boat, fitting; length, reference length, width, flat bottom,
+-- remote steering
 told : Case → List ℕ
-told c = declared (c .sheet) ∷ bare (c .sheet) ∷ getD (fittingsOf (c .sheet)) 0 0 ∷ hullLength (c .sheet) ∷ reference (c .sheet) ∷ transomWidth (c .sheet) ∷ flatBottom (c .sheet) ∷ remote (c .sheet) ∷ []
+told c =
+    declared (c .sheet) ∷ bare (c .sheet) ∷ getD (fittingsOf (c .sheet)) 0 0 ∷ hullLength (c .sheet)
+    ∷ reference (c .sheet) ∷ transomWidth (c .sheet) ∷ flatBottom (c .sheet) ∷ remote (c .sheet) ∷ []
 
 cases-told :
     map told cases
@@ -60,7 +71,8 @@ cases-told :
     ∷ (20000 ∷ 200000 ∷ 3333 ∷ hull) ∷ (20000 ∷ 200000 ∷ 3334 ∷ hull) ∷ (20000 ∷ 200000 ∷ 3334 ∷ hull)
     ∷ (20000 ∷ 1828333 ∷ 0 ∷ hull) ∷ (20000 ∷ 1828334 ∷ 0 ∷ hull) ∷ (20000 ∷ 1828334 ∷ 0 ∷ hull)
     ∷ replicate 2 (20000 ∷ 200000 ∷ 0 ∷ 4500 ∷ 4000 ∷ 1200 ∷ 0 ∷ 0 ∷ [])
-    ++ ((20000 ∷ 200000 ∷ 0 ∷ 2250 ∷ 2250 ∷ 1000 ∷ 0 ∷ 0 ∷ []) ∷ (20000 ∷ 200000 ∷ 0 ∷ 2251 ∷ 2250 ∷ 1000 ∷ 0 ∷ 0 ∷ []) ∷ (20000 ∷ 200000 ∷ 0 ∷ 2250 ∷ 2250 ∷ 1000 ∷ 1 ∷ 0 ∷ [])
+    ++ ((20000 ∷ 200000 ∷ 0 ∷ 2250 ∷ 2250 ∷ 1000 ∷ 0 ∷ 0 ∷ [])
+    ∷ (20000 ∷ 200000 ∷ 0 ∷ 2251 ∷ 2250 ∷ 1000 ∷ 0 ∷ 0 ∷ []) ∷ (20000 ∷ 200000 ∷ 0 ∷ 2250 ∷ 2250 ∷ 1000 ∷ 1 ∷ 0 ∷ [])
     ∷ (20000 ∷ 200000 ∷ 0 ∷ 4100 ∷ 4000 ∷ 1250 ∷ 0 ∷ 1 ∷ [])
     ∷ [])
 unfolding told cases hull seated load power inboard words
@@ -74,8 +86,10 @@ boats-right = (refl, refl)
 -- the base hull is that of 01's printed sheet
 printed : List ℕ
 printed =
-    bytes "HULL\t0\nFORM\t4500\t4000\t1200\t500\t0\t1\nSTN\tQ\t1000\t500\t500\t500\t500\t500\t500\nSTN\tR\t1000\t500\t500\t500\t500\t500\t500\nSTN\tS\t1000\t500\t500\t500\t500\t500\t500\nSTN\tT\t1000\t500\t500\t500\t500\t500\t500\n"
-    ++ bytes "VOL\t0\t0\t0\nMASS\t200000\t0\t0\nPWR\t1\t20000\nSEAT\t5\t3\nFIT\t1\t3334\nEND\n"
+    bytes "HULL\t0\nFORM\t4500\t4000\t1200\t500\t0\t1\nSTN\tQ\t1000\t500\t500\t500\t500\t500\t500\n"
+    ++ (bytes "STN\tR\t1000\t500\t500\t500\t500\t500\t500\nSTN\tS\t1000\t500\t500\t500\t500\t500\t500\n"
+    ++ (bytes "STN\tT\t1000\t500\t500\t500\t500\t500\t500\nVOL\t0\t0\t0\nMASS\t200000\t0\t0\nPWR\t1\t20000\n"
+    ++ bytes "SEAT\t5\t3\nFIT\t1\t3334\nEND\n"))
 
 base-right : readSheet printed ≡ took 237 (0 ∷ seated 3 20000 200000 3334)
 unfolding printed seated words readSheet sheetForm numbersOn numbersOf fitsOf weightsFrom
@@ -89,7 +103,10 @@ table = casesA ++ (loadsC ++ (rowsC ++ (ordersC ++ casesU)))
 
 -- every plate of the table answers as it must, and every sheet is within the limits
 plates-right : (map answered table ≡ map (λ (t : Told). t .must) table) × (all-within table ≡ true)
-unfolding table casesA loadsC rowsC ordersC casesU all-within massed stationed launch transom bare-boat driven seats upFrom seated load power inboard words allHold sheetLimits limitsOn stationProduct volumeN netZ addedUp boatM exactX markedC rising rowsRight rowFor noRow engineWeight liveLoad persons untested plateC inboardX loadX markedA formulaWatts powerA plateA ruleU markedU plateU
+unfolding table casesA loadsC rowsC ordersC casesU all-within massed stationed launch transom bare-boat driven seats
+    upFrom seated load power inboard words allHold sheetLimits limitsOn stationProduct volumeN netZ addedUp boatM
+    exactX markedC rising rowsRight rowFor lacksRow engineWeight liveLoad persons lacksTests plateC inboardX loadX
+    markedA formulaWatts powerA plateA ruleU markedU plateU
 plates-right = (refl, refl)
 
 -- ---- the words
@@ -99,7 +116,8 @@ named : List ℕ → List ℕ
 named s =
     hullLength s ∷ reference s ∷ transomWidth s ∷ transomHeight s ∷ flatBottom s ∷ remote s
     ∷ (station s 0 ++ (station s 1 ++ (station s 2 ++ (station s 3
-    ++ (aft s ∷ well s ∷ flooding s ∷ bare s ∷ fuel s ∷ machinery s ∷ outboard s ∷ declared s ∷ positions s ∷ tested s ∷ fittingsOf s)))))
+    ++ (aft s ∷ well s ∷ flooding s ∷ bare s ∷ fuel s ∷ machinery s ∷ outboard s ∷ declared s ∷ positions s ∷ tested s
+    ∷ fittingsOf s)))))
 
 -- each at its place, and 0 where the list has none
 names-right : (named (upFrom 68 0) ≡ upFrom 68 0) × (named [] ≡ replicate 16 0)
@@ -108,7 +126,10 @@ names-right = (refl, refl)
 
 -- ---- each depth and each station by its own factor, and N of the largest hull that a sheet can have
 
-shares-right : (map stationProduct ((1 ∷ 1 ∷ 10 ∷ 100 ∷ 1000 ∷ 10000 ∷ 100000 ∷ []) ∷ (1 ∷ []) ∷ []) ≡ 224241 ∷ 0 ∷ []) × (summed 1 1 10 100 1000 ≡ 1424) × (stationProduct (4000 ∷ replicate 6 2500) ≡ 150000000) × (summed 6000 150000000 150000000 150000000 150000000 ≡ 9900000000000)
+shares-right :
+    (map stationProduct ((1 ∷ 1 ∷ 10 ∷ 100 ∷ 1000 ∷ 10000 ∷ 100000 ∷ []) ∷ (1 ∷ []) ∷ []) ≡ 224241 ∷ 0 ∷ [])
+    × (summed 1 1 10 100 1000 ≡ 1424) × (stationProduct (4000 ∷ replicate 6 2500) ≡ 150000000)
+    × (summed 6000 150000000 150000000 150000000 150000000 ≡ 9900000000000)
 unfolding stationProduct
 shares-right = (refl, refl, refl, refl)
 
@@ -124,7 +145,9 @@ heaviest-right = refl
 -- ---- the ends of the table's rows, and one above each; above the last there is no row
 
 ends : List ℕ
-ends = 2250000 ∷ 2250001 ∷ 3300000 ∷ 3300001 ∷ 3600000 ∷ 3600001 ∷ 3900000 ∷ 3900001 ∷ 4200000 ∷ 4200001 ∷ 5000000 ∷ 5000001 ∷ []
+ends =
+    2250000 ∷ 2250001 ∷ 3300000 ∷ 3300001 ∷ 3600000 ∷ 3600001 ∷ 3900000 ∷ 3900001 ∷ 4200000 ∷ 4200001 ∷ 5000000
+    ∷ 5000001 ∷ []
 
 rows-right : (map rowWatts ends ≡ 1500 ∷ 3000 ∷ 3000 ∷ 4000 ∷ 4000 ∷ 5250 ∷ 5250 ∷ 7500 ∷ 7500 ∷ 12000 ∷ 12000 ∷ 0 ∷ [])
     × (map beforeWatts ends ≡ 0 ∷ 1500 ∷ 1500 ∷ 3000 ∷ 3000 ∷ 4000 ∷ 4000 ∷ 5250 ∷ 5250 ∷ 7500 ∷ 7500 ∷ 12000 ∷ [])

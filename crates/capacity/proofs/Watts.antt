@@ -1,4 +1,5 @@
--- Plate A's power as the plate tells it: where it has none, on the line of 5000000, and from hull to hull of one kind. 02 (ii). Assumes nothing.
+-- Plate A's power as the plate tells it: where it has none, on the line of 5000000, and from hull to hull of one
+-- kind. 02 (ii).
 use mathlib.Core.Path.{_≡_, refl, sym, ap, _∙_}
 use mathlib.Core.Bool.{Bool, true, false, _&&_, cond}
 use mathlib.Core.List.{List}
@@ -10,37 +11,51 @@ use lib.ListN.{getD}
 use Rattle.ground.proofs.Booleans.{both-hold, either}
 use Rattle.answers.specs.declared.Answer.{Answer}
 use Rattle.answers.specs.declared.Answer.the-variants.{Refused, Done, Count, Plate}
+use Rattle.answers.specs.Refusals.{noPower}
 use Rattle.capacity.specs.Whole.{isBelow, orZero}
 use Rattle.capacity.specs.Words.{transomHeight, flatBottom, remote, outboard}
 use Rattle.capacity.specs.PlateC.{rowFor}
-use Rattle.capacity.specs.PlateA.{markedA, factorP, tableEnd, tableWatts, rowOf, rowWatts, beforeWatts, listedWatts, formulaWatts, powerA, noPower, plateA}
+use Rattle.capacity.specs.PlateA.{markedA, factorP, tableEnd, tableWatts, rowOf, rowWatts, beforeWatts}
+use Rattle.capacity.specs.PlateA.{listedWatts, formulaWatts, powerA, lacksPower, plateA}
 use Rattle.capacity.proofs.Power.{by-row, row-in, first-row}
 use Rattle.capacity.proofs.Rising.{OneRig, Flatter, watts-grow, power-order}
 
 -- ---- refused with 13 where the power would be 0, and an outboard nowhere else
 
-pub unpowered : (s : List ℕ) → noPower s ≡ true → powerA s ≡ 0
+pub unpowered : (s : List ℕ) → lacksPower s ≡ true → powerA s ≡ 0
 unpowered s e =
     let drive = both-hold (eqb (outboard s) 1) (eqb (flatBottom s) 1 && eqb (rowOf (factorP s)) 0) e in
     let bottom = both-hold (eqb (flatBottom s) 1) (eqb (rowOf (factorP s)) 0) (drive .1) in
     let first = leb-true (factorP s) 2250000 (first-row s refl (drive .0) (bottom .0) ∙ e) in
-    let none : beforeWatts (factorP s) ≡ 0 = ap (λ (k : ℕ). getD tableWatts k 0) (eqb-true (rowOf (factorP s)) 0 (bottom .1)) in
-    let outer : eqb (outboard s) 0 ≡ false = ne-eqb (outboard s) 0 (λ (z : outboard s ≡ 0). omega (arith, z, eqb-true (outboard s) 1 (drive .0))) in
-    sym (by-row s {flat = true} refl outer (omega (arith, first)) (sym (bottom .0))) ∙ none
+    let none : beforeWatts (factorP s)
+    ≡ 0 = ap (λ (k : ℕ). getD tableWatts k 0) (eqb-true (rowOf (factorP s)) 0 (bottom .1)) in
+    let outer : eqb (outboard s) 0
+    ≡ false =
+    ne-eqb (outboard s) 0 (λ (z : outboard s ≡ 0). omega (arith, z, eqb-true (outboard s) 1 (drive .0))) in
+    sym (by-row s refl {flat = true} outer (omega (arith, first)) (sym (bottom .0))) ∙ none
 
 formula-some : (s : List ℕ) → tableEnd < factorP s → 1500 ≤ formulaWatts s
 unfolding formulaWatts
-formula-some s h = either (_≤_ 1500) (eqb (remote s) 1 && leb 500 (transomHeight s)) (omega arith) (either (_≤_ 1500) (eqb (flatBottom s) 1) (omega arith) (omega arith))
+formula-some s h =
+    either (_≤_ 1500) (eqb (remote s) 1 && leb 500 (transomHeight s)) (omega arith)
+    (either (_≤_ 1500) (eqb (flatBottom s) 1) (omega arith) (omega arith))
 
-row-some : (p : ℕ) (flat : Bool) → (flat && eqb (rowOf p) 0) ≡ false → p ≤ tableEnd → 1500 ≤ cond flat (beforeWatts p) (rowWatts p)
+row-some : (p : ℕ) (flat : Bool)
+    → (flat && eqb (rowOf p) 0) ≡ false
+    → p ≤ tableEnd
+    → 1500 ≤ cond flat (beforeWatts p) (rowWatts p)
 row-some p true e h = watts-grow 1 (rowOf p) (omega (arith, eqb-false (rowOf p) 0 e)) (omega (arith, row-in p h))
 row-some p false e h = watts-grow 1 (suc (rowOf p)) (omega arith) (omega (arith, row-in p h))
 
-pub powered : (s : List ℕ) → outboard s ≡ 1 → noPower s ≡ false → 1500 ≤ powerA s
+pub powered : (s : List ℕ) → outboard s ≡ 1 → lacksPower s ≡ false → 1500 ≤ powerA s
 unfolding powerA
-powered s o = rw o (λ (e : (eqb (flatBottom s) 1 && eqb (rowOf (factorP s)) 0) ≡ false). go e (ltb tableEnd (factorP s)) refl)
+powered s o =
+    rw o (λ (e : (eqb (flatBottom s) 1 && eqb (rowOf (factorP s)) 0) ≡ false). go e (ltb tableEnd (factorP s)) refl)
   where
-    go : (eqb (flatBottom s) 1 && eqb (rowOf (factorP s)) 0) ≡ false → (u : Bool) → ltb tableEnd (factorP s) ≡ u → 1500 ≤ cond u (formulaWatts s) (listedWatts s)
+    go : (eqb (flatBottom s) 1 && eqb (rowOf (factorP s)) 0) ≡ false
+        → (u : Bool)
+        → ltb tableEnd (factorP s) ≡ u
+        → 1500 ≤ cond u (formulaWatts s) (listedWatts s)
     go e true a = formula-some s (ltb-true _ _ a)
     go e false a = row-some (factorP s) (eqb (flatBottom s) 1) e (ltb-false _ _ a)
 
@@ -61,24 +76,43 @@ wattsOf (Plate load watts) = watts
 -- where plate A marks a load it tells this power, 13 counted as 0
 pub told-power : (s : List ℕ) → isBelow (markedA s) 1 ≡ false → wattsOf (plateA s) ≡ powerA s
 unfolding plateA wattsOf
-told-power s e = rw e (go (noPower s) refl)
+told-power s e = rw e (go (lacksPower s) refl)
   where
-    go : (u : Bool) → noPower s ≡ u → wattsOf (cond u (Refused 13) (Plate (orZero (markedA s)) (powerA s))) ≡ powerA s
+    go : (u : Bool)
+        → lacksPower s ≡ u
+        → wattsOf (cond u (Refused noPower) (Plate (orZero (markedA s)) (powerA s))) ≡ powerA s
     go true n = sym (unpowered s n)
     go false n = refl
 
 -- and no more than it where it does not
 told-most : (s : List ℕ) → wattsOf (plateA s) ≤ powerA s
 unfolding plateA wattsOf
-told-most s = either (λ (a : Answer). wattsOf a ≤ powerA s) (isBelow (markedA s) 1) (omega arith) (either (λ (a : Answer). wattsOf a ≤ powerA s) (noPower s) (omega arith) (omega arith))
+told-most s =
+    either (λ (a : Answer). wattsOf a ≤ powerA s) (isBelow (markedA s) 1) (omega arith)
+    (either (λ (a : Answer). wattsOf a ≤ powerA s) (lacksPower s) (omega arith) (omega arith))
 
-told-order : (s t : List ℕ) → OneRig s t → Flatter s t → factorP s ≤ factorP t → isBelow (markedA t) 1 ≡ false → wattsOf (plateA s) ≤ wattsOf (plateA t)
+told-order : (s t : List ℕ)
+    → OneRig s t
+    → Flatter s t
+    → factorP s ≤ factorP t
+    → isBelow (markedA t) 1 ≡ false
+    → wattsOf (plateA s) ≤ wattsOf (plateA t)
 told-order s t r f h e = omega (arith, told-most s, power-order s t r f h, told-power t e)
 
 -- of hulls of one kind the power never falls as P grows
-pub never-falls : (s t : List ℕ) → OneRig s t → flatBottom s ≡ flatBottom t → factorP s ≤ factorP t → isBelow (markedA t) 1 ≡ false → wattsOf (plateA s) ≤ wattsOf (plateA t)
+pub never-falls : (s t : List ℕ)
+    → OneRig s t
+    → flatBottom s ≡ flatBottom t
+    → factorP s ≤ factorP t
+    → isBelow (markedA t) 1 ≡ false
+    → wattsOf (plateA s) ≤ wattsOf (plateA t)
 never-falls s t r f h e = told-order s t r (λ x. rw f x) h e
 
 -- a flat bottom never gets more than another of the same P and rig
-pub flat-no-more : (s t : List ℕ) → OneRig s t → flatBottom s ≡ 1 → factorP s ≡ factorP t → isBelow (markedA t) 1 ≡ false → wattsOf (plateA s) ≤ wattsOf (plateA t)
+pub flat-no-more : (s t : List ℕ)
+    → OneRig s t
+    → flatBottom s ≡ 1
+    → factorP s ≡ factorP t
+    → isBelow (markedA t) 1 ≡ false
+    → wattsOf (plateA s) ≤ wattsOf (plateA t)
 flat-no-more s t r f h e = told-order s t r (λ x. eq-eqb _ _ f) (omega (arith, h)) e

@@ -1,11 +1,11 @@
--- Whole numbers as differences of two natural sums, what adds and what takes away; and the roundings of 01. Assumes nothing.
+-- Whole numbers as differences of two natural sums, what adds and what takes away; and the roundings of 01.
 use mathlib.Core.Path.{_≡_, refl, sym, ap, _∙_}
 use mathlib.Core.Bool.{Bool, true, false}
 use Prim.Native.Nat.{ℕ, zero, suc, _+_, _-_, _*_, _≤_}
 use native.Mathlib.Nat.{mul-add}
 use native.Mathlib.Omega.{arith}
-use borrow.Author.Tests.{lt-ltb, le-ltb, ltb-true, ltb-false, ne-eqb}
-use lib.Dec.{eqb, ltb}
+use borrow.Author.Tests.{lt-ltb, le-ltb, ltb-true, ltb-false}
+use lib.Dec.{ltb}
 use lib.IntN.{ℤ, pos, negsuc, negℤ, subℕ, _+ℤ_, _-ℤ_, _*ℤ_}
 use Rattle.capacity.specs.Whole.{isBelow, orZero}
 
@@ -54,17 +54,22 @@ less-of h k = sum-of h (opposite k)
 
 pub times-of : (k : ℕ) {z : ℤ} {a b : ℕ} → Differ z a b → Differ (pos k *ℤ z) (k * a) (k * b)
 times-of k {z = pos n} {a} {b} h = record { is = sym (mul-add k n b) ∙ ap (λ (x : ℕ). k * x) (h .is) }
-times-of k {z = negsuc n} {a} {b} h = opposite {z = pos (k * suc n)} (record { is = sym (mul-add k (suc n) a) ∙ ap (λ (x : ℕ). k * x) (h .is) })
+times-of k {z = negsuc n} {a} {b} h =
+    opposite {z = pos (k * suc n)} (record { is = sym (mul-add k (suc n) a) ∙ ap (λ (x : ℕ). k * x) (h .is) })
 
 pub is-sub : {z : ℤ} {a b : ℕ} (c d : ℕ) → Differ z a b → a + d ≡ c + b → z ≡ subℕ c d
 is-sub c d h e = alone (moved c d h e) (of-sub c d)
 
 -- ---- not below one
 
-pub below-one : (z : ℤ) → isBelow z 1 ≡ eqb (orZero z) 0
-below-one (pos zero) = refl
-below-one (pos (suc n)) = rw (le-ltb (suc n) 1 (omega arith), ne-eqb (suc n) 0 (omega arith))
-below-one (negsuc n) = refl
+-- as the code tells it, by a number that is 0 where z is below one
+pub below-none : (z : ℤ) {n : ℕ} → n ≡ orZero z → n ≡ 0 → isBelow z 1 ≡ true
+below-none (pos m) e h = lt-ltb m 1 (omega arith)
+below-none (negsuc m) e h = refl
+
+pub below-some : (z : ℤ) {n : ℕ} → n ≡ orZero z → (n ≡ 0 → ⊥) → isBelow z 1 ≡ false
+below-some (pos m) e h = le-ltb m 1 (omega (arith, e, h))
+below-some (negsuc m) e h = absurd (h e)
 
 pub whole-pos : (z : ℤ) → 1 ≤ orZero z → z ≡ pos (orZero z)
 whole-pos (pos n) h = refl

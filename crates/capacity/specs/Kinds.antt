@@ -1,5 +1,6 @@
--- 01, Plates, and 02 (i): which plate is asked for, with what its caller gives it, and that plate of a sheet. A call on the register takes a kind as data, so that its laws are
--- said once for every plate. Assumes nothing: these are definitions.
+-- 01, Plates, and 02 (i): which plate is asked for, with what its caller gives it, and that plate of a sheet. A call
+-- on the register takes a kind as data, so that its laws are
+-- said once for every plate.
 use Prim.Native.Nat.{ℕ}
 use mathlib.Core.List.{List}
 use Rattle.answers.specs.declared.Answer.{Answer}

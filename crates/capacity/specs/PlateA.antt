@@ -1,4 +1,4 @@
--- 01, Plate A (003, A2, A3, 2.6.1), as 02 (ii) amends it. Load first, then power, then the two refusals, 12 before 13. Assumes nothing: these are definitions.
+-- 01, Plate A (003, A2, A3, 2.6.1), as 02 (ii) amends it. Load first, then power, then the two refusals, 12 before 13.
 use Prim.Native.Nat.{ℕ, suc, _+_, _-_, _*_}
 use mathlib.Core.Bool.{Bool, _&&_, cond}
 use mathlib.Core.List.{List, [], _∷_}
@@ -7,8 +7,10 @@ use lib.ListN.{getD}
 use lib.IntN.{ℤ, pos, _+ℤ_, _-ℤ_, _*ℤ_}
 use Rattle.answers.specs.declared.Answer.{Answer}
 use Rattle.answers.specs.declared.Answer.the-variants.{Refused, Plate}
+use Rattle.answers.specs.Refusals.{noLoad, noPower}
 use Rattle.capacity.specs.Whole.{floorDiv, ceilDiv, isBelow, orZero}
-use Rattle.capacity.specs.Words.{hullLength, transomWidth, transomHeight, flatBottom, remote, fuel, machinery, outboard}
+use Rattle.capacity.specs.Words.{hullLength, transomWidth, transomHeight, flatBottom, remote, fuel, machinery}
+use Rattle.capacity.specs.Words.{outboard}
 use Rattle.capacity.specs.Volume.{gram, netZ}
 use Rattle.capacity.specs.Weights.{boatM}
 use Rattle.capacity.specs.PlateC.{exactX, markedKilo, rowFor}
@@ -75,10 +77,12 @@ unfoldable pub powerA : List ℕ → ℕ
 powerA s = cond (eqb (outboard s) 0) 0 (cond (ltb tableEnd (factorP s)) (formulaWatts s) (listedWatts s))
 
 -- a flat outboard that P puts in the first row can be given no power
-abbrev pub noPower : List ℕ → Bool
-noPower s = eqb (outboard s) 1 && (eqb (flatBottom s) 1 && eqb (rowOf (factorP s)) 0)
+abbrev pub lacksPower : List ℕ → Bool
+lacksPower s = eqb (outboard s) 1 && (eqb (flatBottom s) 1 && eqb (rowOf (factorP s)) 0)
 
 -- ---- the plate
 
 unfoldable pub plateA : List ℕ → Answer
-plateA s = cond (isBelow (markedA s) 1) (Refused 12) (cond (noPower s) (Refused 13) (Plate (orZero (markedA s)) (powerA s)))
+plateA s =
+    cond (isBelow (markedA s) 1) (Refused noLoad)
+    (cond (lacksPower s) (Refused noPower) (Plate (orZero (markedA s)) (powerA s)))

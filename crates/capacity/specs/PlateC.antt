@@ -1,5 +1,6 @@
--- 01, Plate C (002, 4.3.1 and 4.3.2). Every figure is defined for every sheet; what is refused is judged after, in 01's order: 10, 12, 11, 14, 15.
--- Engine rows come as two lists of numbers, powers and weights. Assumes nothing: these are definitions.
+-- 01, Plate C (002, 4.3.1 and 4.3.2). Every figure is defined for every sheet; what is refused is judged after, in
+-- 01's order: 10, 12, 11, 14, 15.
+-- Engine rows come as two lists of numbers, powers and weights.
 use Prim.Native.Nat.{ℕ, suc, _+_, _*_}
 use mathlib.Core.Bool.{Bool, true, false, not, _&&_, cond}
 use mathlib.Core.List.{List, [], _∷_}
@@ -8,6 +9,7 @@ use lib.ListN.{length, getD}
 use lib.IntN.{ℤ, pos, _-ℤ_, _*ℤ_}
 use Rattle.answers.specs.declared.Answer.{Answer}
 use Rattle.answers.specs.declared.Answer.the-variants.{Refused, Plate}
+use Rattle.answers.specs.Refusals.{badRows, noRow, noLoad, untested, noPersons}
 use Rattle.sheet.specs.Lines.{mostRows, enginePowerHigh, engineWeightHigh}
 use Rattle.capacity.specs.Whole.{floorDiv, isBelow, least, orZero}
 use Rattle.capacity.specs.Words.{fuel, machinery, outboard, declared, positions, tested}
@@ -22,12 +24,14 @@ markedKilo = 5 * 1000 * gram
 unfoldable pub exactX : List ℕ → ℤ
 exactX s = netZ s -ℤ pos gram *ℤ pos (boatM s + fuel s + machinery s)
 
--- gross load: a fifth of X above 1500 W, three tenths at 1500 W or below; marked is the largest whole number of kilograms not above it
+-- gross load: a fifth of X above 1500 W, three tenths at 1500 W or below; marked is the largest whole number of
+-- kilograms not above it
 abbrev pub lowPower : ℕ
 lowPower = 1500
 
 unfoldable pub markedC : List ℕ → ℤ
-markedC s = cond (ltb lowPower (declared s)) (floorDiv (exactX s) markedKilo) (floorDiv (pos 3 *ℤ exactX s) (2 * markedKilo))
+markedC s =
+    cond (ltb lowPower (declared s)) (floorDiv (exactX s) markedKilo) (floorDiv (pos 3 *ℤ exactX s) (2 * markedKilo))
 
 -- ---- the engine's weight
 
@@ -47,7 +51,8 @@ abbrev pub leastRows : ℕ
 leastRows = 1
 
 unfoldable pub rowsRight : List ℕ → List ℕ → Bool
-rowsRight ps ws = eqb (length ps) (length ws) && (leb leastRows (length ps) && (leb (length ps) mostRows && rising 1 ps ws))
+rowsRight ps ws =
+    eqb (length ps) (length ws) && (leb leastRows (length ps) && (leb (length ps) mostRows && rising 1 ps ws))
 
 -- an outboard of declared power above 0 has an engine to weigh
 abbrev pub wantsRow : List ℕ → Bool
@@ -58,8 +63,8 @@ unfoldable pub rowFor : ℕ → List ℕ → ℕ
 rowFor power [] = 0
 rowFor power (p ∷ ps) = elim (leb power p) [ true ↦ 0 | false ↦ suc (rowFor power ps) ]
 
-unfoldable pub noRow : List ℕ → List ℕ → Bool
-noRow s ps = wantsRow s && leb (length ps) (rowFor (declared s) ps)
+unfoldable pub lacksRow : List ℕ → List ℕ → Bool
+lacksRow s ps = wantsRow s && leb (length ps) (rowFor (declared s) ps)
 
 unfoldable pub engineWeight : List ℕ → List ℕ → List ℕ → ℕ
 engineWeight s ps ws = cond (wantsRow s) (getD ws (rowFor (declared s) ps) 0) 0
@@ -83,16 +88,16 @@ persons s live =
     cond (eqb (tested s) 0) seated (least seated (pos (tested s)))
 
 -- a low live load must have tested persons
-unfoldable pub untested : List ℕ → ℤ → Bool
-untested s live = isBelow live testedGrams && eqb (tested s) 0
+unfoldable pub lacksTests : List ℕ → ℤ → Bool
+lacksTests s live = isBelow live testedGrams && eqb (tested s) 0
 
 -- ---- the plate
 
 unfoldable pub plateC : List ℕ → List ℕ → List ℕ → Answer
 plateC s ps ws =
     let live = liveLoad s ps ws in
-    cond (not (rowsRight ps ws)) (Refused 10)
-    (cond (isBelow (markedC s) 1) (Refused 12)
-    (cond (noRow s ps) (Refused 11)
-    (cond (untested s live) (Refused 14)
-    (cond (isBelow (persons s live) 1) (Refused 15) (Plate (orZero (markedC s)) (orZero (persons s live)))))))
+    cond (not (rowsRight ps ws)) (Refused badRows)
+    (cond (isBelow (markedC s) 1) (Refused noLoad)
+    (cond (lacksRow s ps) (Refused noRow)
+    (cond (lacksTests s live) (Refused untested)
+    (cond (isBelow (persons s live) 1) (Refused noPersons) (Plate (orZero (markedC s)) (orZero (persons s live)))))))

@@ -1,5 +1,6 @@
--- 02 (i), Plate U (001, 33 CFR 183.33, 183.35 and 183.37): the pounds that a hull may carry, rounded down. The displacement is Z, the net volume as water. Every figure
--- is over whole numbers and may be below zero. Assumes nothing: these are definitions.
+-- 02 (i), Plate U (001, 33 CFR 183.33, 183.35 and 183.37): the pounds that a hull may carry, rounded down. The
+-- displacement is Z, the net volume as water. Every figure
+-- is over whole numbers and may be below zero.
 use Prim.Native.Nat.{ℕ, _+_, _*_}
 use mathlib.Core.Bool.{cond}
 use mathlib.Core.List.{List}
@@ -7,6 +8,7 @@ use lib.Dec.{eqb, ltb}
 use lib.IntN.{ℤ, pos, _-ℤ_, _*ℤ_}
 use Rattle.answers.specs.declared.Answer.{Answer}
 use Rattle.answers.specs.declared.Answer.the-variants.{Refused, Count}
+use Rattle.answers.specs.Refusals.{noLoad}
 use Rattle.capacity.specs.Whole.{floorDiv, isBelow, greatest, orZero}
 use Rattle.capacity.specs.Words.{fuel, machinery, outboard, declared}
 use Rattle.capacity.specs.Volume.{gram, netZ}
@@ -31,7 +33,8 @@ boatB s = boatM s + fuel s
 abbrev pub outboardFifth : List ℕ → Figure
 outboardFifth s = figure (boatB s) 1 5
 
--- 183.37, outboards of two horsepower or less: 3 × (displacement − boat weight) / 10, and the tanks are no part of the boat weight
+-- 183.37, outboards of two horsepower or less: 3 × (displacement − boat weight) / 10, and the tanks are no part of
+-- the boat weight
 abbrev pub outboardTenths : List ℕ → Figure
 outboardTenths s = figure (boatM s) 3 10
 
@@ -89,4 +92,4 @@ markedU s = poundsBy s (ruleU s)
 -- ---- the plate
 
 unfoldable pub plateU : List ℕ → Answer
-plateU s = cond (isBelow (markedU s) 1) (Refused 12) (Count (orZero (markedU s)))
+plateU s = cond (isBelow (markedU s) 1) (Refused noLoad) (Count (orZero (markedU s)))

@@ -1,4 +1,5 @@
--- 01, Sample sheets: the base hull, what a case changes of it and what it says. Starred cases 1 to 7, which are of a sheet. Assumes nothing: these are definitions.
+-- 01, Sample sheets: the base hull, what a case changes of it and what it says. Starred cases 1 to 7, which are of a
+-- sheet.
 use mathlib.Core.Bool.{Bool, false, _&&_}
 use mathlib.Core.List.{List, [], _∷_, _++_}
 use Prim.Native.Nat.{ℕ}
@@ -7,6 +8,7 @@ use lib.IntN.{ℤ, pos, negsuc}
 use lib.ListN.{replicate}
 use Rattle.answers.specs.declared.Answer.{Answer}
 use Rattle.answers.specs.declared.Answer.the-variants.{Refused, Done, Count, Plate}
+use Rattle.answers.specs.Refusals.{noPower}
 use Rattle.sheet.specs.Sheet.{wordsOk}
 use Rattle.capacity.specs.PlateC.{markedC, plateC}
 use Rattle.capacity.specs.PlateA.{markedA, plateA}
@@ -34,7 +36,11 @@ baseStation = 1000 ∷ replicate 6 500
 abbrev pub wordsTo : List ℕ → ℕ → Hull → List ℕ
 wordsTo t reference h =
     h .long ∷ reference ∷ h .wide ∷ 500 ∷ h .flat ∷ h .remote
-    ∷ (baseStation ++ (baseStation ++ (baseStation ++ (t ++ (0 ∷ 0 ∷ 0 ∷ h .bare ∷ h .fuel ∷ h .machinery ∷ h .outboard ∷ h .declared ∷ 5 ∷ h .tested ∷ h .fitting ∷ replicate 23 0)))))
+    ∷ (baseStation
+    ++ (baseStation
+    ++ (baseStation
+    ++ (t ++ (0 ∷ 0 ∷ 0 ∷ h .bare ∷ h .fuel ∷ h .machinery ∷ h .outboard ∷ h .declared ∷ 5 ∷ h .tested ∷ h .fitting
+    ∷ replicate 23 0)))))
 
 -- reference length 4000, or the length where that is less
 unfoldable pub words : ℕ → Hull → List ℕ
@@ -42,17 +48,57 @@ words = wordsTo baseStation
 
 unfoldable pub seated : ℕ → ℕ → ℕ → ℕ → List ℕ
 seated tested declared bare fitting =
-    words 4000 (record { long = 4500; wide = 1200; flat = 0; remote = 1; bare = bare; fuel = 0; machinery = 0; outboard = 1; declared = declared; tested = tested; fitting = fitting })
+    words 4000
+    (record {
+      long = 4500;
+      wide = 1200;
+      flat = 0;
+      remote = 1;
+      bare = bare;
+      fuel = 0;
+      machinery = 0;
+      outboard = 1;
+      declared = declared;
+      tested = tested;
+      fitting = fitting;
+    })
 
 unfoldable pub load : ℕ → ℕ → ℕ → List ℕ
 load = seated 0
 
 unfoldable pub power : ℕ → ℕ → ℕ → ℕ → ℕ → List ℕ
 power reference long wide flat remote =
-    words reference (record { long = long; wide = wide; flat = flat; remote = remote; bare = 200000; fuel = 0; machinery = 0; outboard = 1; declared = 20000; tested = 0; fitting = 0 })
+    words reference
+    (record {
+      long = long;
+      wide = wide;
+      flat = flat;
+      remote = remote;
+      bare = 200000;
+      fuel = 0;
+      machinery = 0;
+      outboard = 1;
+      declared = 20000;
+      tested = 0;
+      fitting = 0;
+    })
 
 unfoldable pub inboard : List ℕ
-inboard = words 4000 (record { long = 4500; wide = 1200; flat = 0; remote = 0; bare = 200000; fuel = 20000; machinery = 50000; outboard = 0; declared = 20000; tested = 0; fitting = 0 })
+inboard =
+    words 4000
+    (record {
+      long = 4500;
+      wide = 1200;
+      flat = 0;
+      remote = 0;
+      bare = 200000;
+      fuel = 20000;
+      machinery = 50000;
+      outboard = 0;
+      declared = 20000;
+      tested = 0;
+      fitting = 0;
+    })
 
 -- ---- what a case says of its sheet
 
@@ -69,7 +115,7 @@ marks (negsuc m) n = false
 
 -- the marked load is that of the plate's answer, where the plate is not refused for another reason
 unfoldable pub agrees : Answer → ℕ → Bool
-agrees (Refused m) n = leb 13 m
+agrees (Refused m) n = leb noPower m
 agrees Done n = false
 agrees (Count m) n = false
 agrees (Plate a b) n = eqb a n
@@ -112,13 +158,16 @@ cases =
     -- 2
     ∷ case (load 1500 200000 0) (loadC 490) ∷ case (load 1501 200000 0) (loadC 326)
     -- 3
-    ∷ case (load 20000 200000 3333) (loadC 326) ∷ case (load 20000 200000 3334) (loadC 325) ∷ case (load 20000 200000 3334) (loadA 326)
+    ∷ case (load 20000 200000 3333) (loadC 326) ∷ case (load 20000 200000 3334) (loadC 325)
+    ∷ case (load 20000 200000 3334) (loadA 326)
     -- 4
-    ∷ case (load 20000 1828333 0) (loadC 1) ∷ case (load 20000 1828334 0) (refusedC 12) ∷ case (load 20000 1828334 0) (loadA 1)
+    ∷ case (load 20000 1828333 0) (loadC 1) ∷ case (load 20000 1828334 0) (refusedC 12)
+    ∷ case (load 20000 1828334 0) (loadA 1)
     -- 5
     ∷ case inboard (loadA 257) ∷ case inboard (loadC 312)
     -- 6
-    ∷ case (power 2250 2250 1000 0 0) (powerA-is 1500) ∷ case (power 2250 2251 1000 0 0) (powerA-is 3000) ∷ case (power 2250 2250 1000 1 0) (refusedA 13)
+    ∷ case (power 2250 2250 1000 0 0) (powerA-is 1500) ∷ case (power 2250 2251 1000 0 0) (powerA-is 3000)
+    ∷ case (power 2250 2250 1000 1 0) (refusedA 13)
     -- 7
     ∷ case (power 4000 4100 1250 0 1) (powerA-is 15000)
     ∷ []

@@ -1,4 +1,4 @@
--- 01, Volume and weights: F, all fittings together, and M, the bare boat with them. Assumes nothing: these are definitions.
+-- 01, Volume and weights: F, all fittings together, and M, the bare boat with them.
 use Prim.Native.Nat.{ℕ, _+_}
 use mathlib.Core.List.{List, [], _∷_}
 use Rattle.capacity.specs.Words.{bare, fittingsOf}

@@ -1,4 +1,4 @@
--- Whole numbers, below zero too, as the rounding rules of 01 use them. Assumes nothing: these are definitions.
+-- Whole numbers, below zero too, as the rounding rules of 01 use them.
 use Prim.Native.Nat.{ℕ, _+_, _-_, _/_}
 use mathlib.Core.Bool.{Bool, true, false, cond}
 use lib.Dec.{leb, ltb}

@@ -1,65 +1,70 @@
--- 01, The sheet: the 68 words of a sheet by their names, in the order of the text. Assumes nothing: these are definitions.
-use Prim.Native.Nat.{ℕ, _+_, _*_}
+-- 01, The sheet: the words of a sheet by their names, in the order of the text.
+use Prim.Native.Nat.{ℕ}
 use mathlib.Core.List.{List}
 use lib.ListN.{getD, take, drop}
+use Rattle.sheet.specs.Places.{lengthAt, referenceAt, transomWidthAt, transomHeightAt, flatBottomAt, remoteAt}
+use Rattle.sheet.specs.Places.{readings, stationAt}
+use Rattle.sheet.specs.Places.{aftAt, wellAt, floodingAt, bareAt, fuelAt, machineryAt, outboardAt, declaredAt}
+use Rattle.sheet.specs.Places.{positionsAt}
+use Rattle.sheet.specs.Places.{testedAt, fittingsAt}
 
 -- FORM
 abbrev pub hullLength : List ℕ → ℕ
-hullLength s = getD s 0 0
+hullLength s = getD s lengthAt 0
 
 abbrev pub reference : List ℕ → ℕ
-reference s = getD s 1 0
+reference s = getD s referenceAt 0
 
 abbrev pub transomWidth : List ℕ → ℕ
-transomWidth s = getD s 2 0
+transomWidth s = getD s transomWidthAt 0
 
 abbrev pub transomHeight : List ℕ → ℕ
-transomHeight s = getD s 3 0
+transomHeight s = getD s transomHeightAt 0
 
 abbrev pub flatBottom : List ℕ → ℕ
-flatBottom s = getD s 4 0
+flatBottom s = getD s flatBottomAt 0
 
 abbrev pub remote : List ℕ → ℕ
-remote s = getD s 5 0
+remote s = getD s remoteAt 0
 
 -- STN: the readings of station i, of Q R S T
 abbrev pub station : List ℕ → ℕ → List ℕ
-station s i = take 7 (drop (6 + 7 * i) s)
+station s i = take readings (drop (stationAt i) s)
 
 -- VOL
 abbrev pub aft : List ℕ → ℕ
-aft s = getD s 34 0
+aft s = getD s aftAt 0
 
 abbrev pub well : List ℕ → ℕ
-well s = getD s 35 0
+well s = getD s wellAt 0
 
 abbrev pub flooding : List ℕ → ℕ
-flooding s = getD s 36 0
+flooding s = getD s floodingAt 0
 
 -- MASS
 abbrev pub bare : List ℕ → ℕ
-bare s = getD s 37 0
+bare s = getD s bareAt 0
 
 abbrev pub fuel : List ℕ → ℕ
-fuel s = getD s 38 0
+fuel s = getD s fuelAt 0
 
 abbrev pub machinery : List ℕ → ℕ
-machinery s = getD s 39 0
+machinery s = getD s machineryAt 0
 
 -- PWR
 abbrev pub outboard : List ℕ → ℕ
-outboard s = getD s 40 0
+outboard s = getD s outboardAt 0
 
 abbrev pub declared : List ℕ → ℕ
-declared s = getD s 41 0
+declared s = getD s declaredAt 0
 
 -- SEAT; tested is 0 where no tests were passed
 abbrev pub positions : List ℕ → ℕ
-positions s = getD s 42 0
+positions s = getD s positionsAt 0
 
 abbrev pub tested : List ℕ → ℕ
-tested s = getD s 43 0
+tested s = getD s testedAt 0
 
--- FIT: the weights on the 24 lines
+-- FIT: the weights on its lines
 abbrev pub fittingsOf : List ℕ → List ℕ
-fittingsOf s = drop 44 s
+fittingsOf s = drop fittingsAt s

@@ -16,7 +16,7 @@ use Rattle.sheet.specs.Sheet.{limitsOn, sheetLimits, fitText, fitsText, linesTe
 use Rattle.sheet.specs.Reading.{readLines, readFits, readEnd, readRest, readSheet}
 use Rattle.capacity.specs.Volume.{stationProduct, volumeN, netZ}
 use Rattle.capacity.specs.Weights.{addedUp, boatM}
-use Rattle.capacity.specs.PlateC.{exactX, markedC, rising, rowsRight, rowFor, noRow, engineWeight, liveLoad, persons, untested, plateC}
+use Rattle.capacity.specs.PlateC.{exactX, markedC, rising, rowsRight, rowFor, lacksRow, engineWeight, liveLoad, persons, lacksTests, plateC}
 use Rattle.capacity.specs.PlateA.{inboardX, loadX, markedA, formulaWatts, powerA, plateA}
 use Rattle.capacity.specs.PlateU.{ruleU, markedU, plateU}
 use Rattle.capacity.specs.Kinds.{kindA, kindC, kindU}
@@ -81,7 +81,7 @@ serial-day =
 
 -- the day is as it says
 a-day : transcript freshWords (map call day) ≡ day
-unfolding transcript reply next day text stations freshWords entered opened fitted replaced dropped saved each hullOk draftOk formed hullRefusal deskRefusal roomRefusal openRefusal putRefusal takeRefusal saveRefusal readSheet readLines readLine agreed readNumbers readEntry fieldOf numberOf restOf readRest readFits readEnd allHold sheetLimits limitsOn sheetText linesText fitsText fitText numbersText digitsOf digitsIn stationProduct volumeN netZ addedUp boatM exactX markedC rising rowsRight rowFor noRow engineWeight liveLoad persons untested plateC inboardX loadX markedA formulaWatts powerA plateA ruleU markedU plateU
+unfolding transcript reply next day text stations freshWords entered opened fitted replaced dropped saved each hullOk draftOk formed hullRefusal deskRefusal roomRefusal openRefusal putRefusal takeRefusal saveRefusal readSheet readLines readLine agreed readNumbers readEntry fieldOf numberOf restOf readRest readFits readEnd allHold sheetLimits limitsOn sheetText linesText fitsText fitText numbersText digitsOf digitsIn stationProduct volumeN netZ addedUp boatM exactX markedC rising rowsRight rowFor lacksRow engineWeight liveLoad persons lacksTests plateC inboardX loadX markedA formulaWatts powerA plateA ruleU markedU plateU
 a-day = refl
 
 -- its serial list is this one
@@ -91,7 +91,7 @@ a-day-in-order = refl
 
 -- and that list, run from fresh, has the same replies
 a-day-again : transcript freshWords (map call serial-day) ≡ serial-day
-unfolding transcript reply next serial-day text stations freshWords entered opened fitted replaced dropped saved each hullOk draftOk formed hullRefusal deskRefusal roomRefusal openRefusal putRefusal takeRefusal saveRefusal readSheet readLines readLine agreed readNumbers readEntry fieldOf numberOf restOf readRest readFits readEnd allHold sheetLimits limitsOn sheetText linesText fitsText fitText numbersText digitsOf digitsIn stationProduct volumeN netZ addedUp boatM exactX markedC rising rowsRight rowFor noRow engineWeight liveLoad persons untested plateC inboardX loadX markedA formulaWatts powerA plateA ruleU markedU plateU
+unfolding transcript reply next serial-day text stations freshWords entered opened fitted replaced dropped saved each hullOk draftOk formed hullRefusal deskRefusal roomRefusal openRefusal putRefusal takeRefusal saveRefusal readSheet readLines readLine agreed readNumbers readEntry fieldOf numberOf restOf readRest readFits readEnd allHold sheetLimits limitsOn sheetText linesText fitsText fitText numbersText digitsOf digitsIn stationProduct volumeN netZ addedUp boatM exactX markedC rising rowsRight rowFor lacksRow engineWeight liveLoad persons lacksTests plateC inboardX loadX markedA formulaWatts powerA plateA ruleU markedU plateU
 a-day-again = refl
 
 -- what the day's history tells: hull 0 has had two accepted saves, though five were tried

@@ -15,7 +15,7 @@ use Rattle.sheet.specs.Sheet.{limitsOn, sheetLimits}
 use Rattle.sheet.specs.Reading.{readLines, readFits, readEnd, readRest, readSheet}
 use Rattle.capacity.specs.Volume.{stationProduct, volumeN, netZ}
 use Rattle.capacity.specs.Weights.{addedUp, boatM}
-use Rattle.capacity.specs.PlateC.{exactX, markedC, rising, rowsRight, rowFor, noRow, engineWeight, liveLoad, persons, untested, plateC}
+use Rattle.capacity.specs.PlateC.{exactX, markedC, rising, rowsRight, rowFor, lacksRow, engineWeight, liveLoad, persons, lacksTests, plateC}
 use Rattle.capacity.specs.PlateA.{inboardX, loadX, markedA, formulaWatts, powerA, plateA}
 use Rattle.capacity.specs.Samples.{words, seated, load, power, inboard, Case, marks, agrees, refuses, second-is, answer-c, holds-of, stands, cases}
 use Rattle.memory.specs.Formed.{each, hullOk, draftOk, formed}
@@ -73,5 +73,5 @@ ninth = four-saves ++ (answers (openHull 0 0) 4 ∷ answers (openHull 1 0) 4 ∷
 
 -- Every starred case is as 01 says.
 starred-all : all-right (map of-sheet cases ++ (of-run ninth ∷ [])) ≡ true
-unfolding all-right right ninth four-saves turns-right text counts stands cases holds-of answer-c marks agrees refuses second-is seated load power inboard words allHold sheetLimits limitsOn stationProduct volumeN netZ addedUp boatM exactX markedC rising rowsRight rowFor noRow engineWeight liveLoad persons untested plateC inboardX loadX markedA formulaWatts powerA plateA reply next freshWords entered opened saved dropped each hullOk draftOk formed deskRefusal roomRefusal openRefusal saveRefusal readSheet readLines readLine agreed readNumbers readEntry fieldOf numberOf restOf readRest readFits readEnd
+unfolding all-right right ninth four-saves turns-right text counts stands cases holds-of answer-c marks agrees refuses second-is seated load power inboard words allHold sheetLimits limitsOn stationProduct volumeN netZ addedUp boatM exactX markedC rising rowsRight rowFor lacksRow engineWeight liveLoad persons lacksTests plateC inboardX loadX markedA formulaWatts powerA plateA reply next freshWords entered opened saved dropped each hullOk draftOk formed deskRefusal roomRefusal openRefusal saveRefusal readSheet readLines readLine agreed readNumbers readEntry fieldOf numberOf restOf readRest readFits readEnd
 starred-all = refl

@@ -1,4 +1,4 @@
--- A sheet's HULL number and the words after it, which do not look back at it. Assumes nothing.
+-- A sheet's HULL number and the words after it, which do not look back at it.
 use mathlib.Core.Path.{_≡_, refl, sym, ap, _∙_}
 use mathlib.Core.Bool.{Bool, true, false, _&&_}
 use mathlib.Core.List.{List, _++_}
@@ -30,10 +30,19 @@ module _ (s : List ℕ) (n : length s ≡ textWords) where
       rw (rest-part s 1)
       (ap (allHold sheetLimits 0) (sym (take-append-drop 1 s))
       ∙ (ap (λ (ls : List Limit). allHold ls 0 (take 1 s ++ drop 1 s)) (sym hull-first)
-      ∙ hold-parts (limitsOf (take 1 limitRows)) (drop 1 sheetLimits) 0 (take 1 s) (drop 1 s) (length-take-le 1 s (omega arith) ∙ sym hull-one) (words-free (drop 1 s))))
+      ∙ hold-parts (limitsOf (take 1 limitRows)) (drop 1 sheetLimits) 0 (take 1 s) (drop 1 s)
+      (length-take-le 1 s (omega arith) ∙ sym hull-one) (words-free (drop 1 s))))
 
-  pub words-tell : {t : Bool} → allHold (limitsOf (take 1 limitRows)) 0 (take 1 s) ≡ true → t ≡ wordsOk (take (length s - 1) (drop 1 s)) → t ≡ sheetOk s
-  words-tell p q = q ∙ sym (parted ∙ ap (λ (t : Bool). t && wordsOk (take (length s - 1) (drop 1 s))) p)
+  -- by what the code has found of the HULL number
+  module _ {first : Bool} (told : first ≡ allHold (limitsOf (take 1 limitRows)) 0 (take 1 s)) where
+    joined : (first && wordsOk (take (length s - 1) (drop 1 s))) ≡ sheetOk s
+    joined = rw told (sym parted)
 
-  pub hull-fails : allHold (limitsOf (take 1 limitRows)) 0 (take 1 s) ≡ false → false ≡ sheetOk s
-  hull-fails p = sym (parted ∙ ap (λ (t : Bool). t && wordsOk (take (length s - 1) (drop 1 s))) p)
+    pub words-tell : {second : Bool}
+        → first ≡ true
+        → second ≡ wordsOk (take (length s - 1) (drop 1 s))
+        → second ≡ sheetOk s
+    words-tell p q = q ∙ rw p at joined
+
+    pub hull-fails : first ≡ false → false ≡ sheetOk s
+    hull-fails p = rw p at joined

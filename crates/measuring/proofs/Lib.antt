@@ -1,4 +1,4 @@
 -- The laws of the check.
-pub mod Parts
-pub mod Runs
-pub mod Hull
+pub mod Parts  -- words in two parts
+pub mod Runs  -- places of alike limits, and the stations
+pub mod Hull  -- the HULL number and the words after it

@@ -1,2 +1,2 @@
 -- What the inner functions of the check promise.
-pub mod Part
+pub mod Part  -- words from one place up to another

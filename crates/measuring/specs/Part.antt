@@ -1,9 +1,9 @@
--- A part of a sheet's words, without its HULL number: those from one place up to another. Assumes nothing: these are definitions.
-use Prim.Native.Nat.{ℕ, _+_, _*_, _-_, _≤_, _<_}
+-- A part of a sheet's words, without its HULL number: those from one place up to another.
+use Prim.Native.Nat.{ℕ, _-_, _≤_, _<_}
 use mathlib.Core.Path.{_≡_}
 use mathlib.Core.Bool.{Bool, true}
 use mathlib.Core.List.{List, []}
-use lib.ListN.{getD, take, drop, replicate}
+use lib.ListN.{length, getD, take, drop, replicate}
 use Rattle.text.specs.Limit.{allHold, limitOf, limitsOf, fromZero}
 use Rattle.sheet.specs.Sheet.{limitRows}
 use Rattle.sheet.specs.Places.{sheetWords}
@@ -12,13 +12,14 @@ use Rattle.sheet.specs.Places.{sheetWords}
 abbrev pub wordRows : List (List ℕ)
 wordRows = drop 1 limitRows
 
--- where the stations Q to T stand, seven words each, after the six of FORM; the line VOL follows as a fifth would
-abbrev pub stationAt : ℕ → ℕ
-stationAt k = 6 + 7 * k
-
 -- whether the words from a place up to an end are within their limits, with no word before them
 unfoldable pub partOk : List ℕ → ℕ → ℕ → Bool
 partOk ws at end = allHold (limitsOf (take (end - at) (drop at wordRows))) 0 (take (end - at) (drop at ws))
+
+-- the rows and words that a function is lent
+pub record Lent (rows : List (List ℕ)) (ws : List ℕ) : Type 0 where
+  pub table : rows ≡ wordRows
+  pub words : length ws ≡ sheetWords
 
 -- places that the words have
 pub record WordPart (at end : ℕ) : Type 0 where

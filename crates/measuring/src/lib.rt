@@ -1,29 +1,27 @@
-// Whether the numbers of a sheet are within their limits: the quick check that the register and the writer make. Words of alike limits are judged together, by the greatest of them.
+// Whether the numbers of a sheet are within their limits: the quick check that the register and the writer make. Words
+// of alike limits are judged together, by the greatest of them.
 ghost use mathlib.Core.Path.{_≡_};
 ghost use Prim.Native.Nat.{_+_, _<_};
 ghost use lib.ListN.{length};
 ghost use Rattle.sheet.specs.Sheet.{wordsOk, sheetOk};
-ghost use Rattle.sheet.specs.Places.{sheetWords, textWords};
-ghost use Rattle.measuring.specs.Part.{wordRows, stationAt, partOk, WordPart, AlikePart};
+ghost use Rattle.sheet.specs.Places.{readings, stations, stationAt, aftAt, sheetWords, textWords};
+ghost use Rattle.measuring.specs.Part.{partOk, Lent, WordPart, AlikePart};
+use sheet::AFT;
+use sheet::BARE;
 use sheet::FITTED;
+use sheet::LENGTH;
 use sheet::LIMITS;
+use sheet::READINGS;
 use sheet::SHEET_WORDS;
+use sheet::STATION_Q;
 use text::Limit;
 
-// Where lines start among the words, after FORM: the four stations, VOL, MASS.
-const STATION_Q: usize = 6;
-
-const STATION_WORDS: usize = 7;
-
-const STATIONS: usize = 4;
-
-const VOL: usize = STATION_Q + STATIONS * STATION_WORDS;
-
-const MASS: usize = VOL + 3;
+// The stations stand between FORM and VOL.
+const STATIONS: usize = (AFT - STATION_Q) / READINGS;
 
 // Whether the words from a place up to an end are within their limits.
 fn part_ok(limits: &[Limit], words: &[u32], at: usize, end: usize) -> bool
-    requires { ⌜ (now limits ≡ wordRows) × (length (now words) ≡ sheetWords) × WordPart at end ⌝ }
+    requires { ⌜ Lent (now limits) (now words) × WordPart at end ⌝ }
     ensures { λ r. ⌜ r ≡ partOk (now (words .entry)) at end ⌝ }
 {
     spelling::all_hold(&limits[at..end], &words[at..end])
@@ -31,7 +29,7 @@ fn part_ok(limits: &[Limit], words: &[u32], at: usize, end: usize) -> bool
 
 // The same of places whose limits are alike.
 fn run_ok(limits: &[Limit], words: &[u32], at: usize, end: usize) -> bool
-    requires { ⌜ (now limits ≡ wordRows) × (length (now words) ≡ sheetWords) × AlikePart at end ⌝ }
+    requires { ⌜ Lent (now limits) (now words) × AlikePart at end ⌝ }
     ensures { λ r. ⌜ r ≡ partOk (now (words .entry)) at end ⌝ }
 {
     spelling::alike_hold(limits[at], &words[at..end])
@@ -39,12 +37,12 @@ fn run_ok(limits: &[Limit], words: &[u32], at: usize, end: usize) -> bool
 
 // The same of a station, Q to T by its number: one word B, and six of alike limits.
 fn station_ok(limits: &[Limit], words: &[u32], station: usize) -> bool
-    requires { ⌜ (now limits ≡ wordRows) × (length (now words) ≡ sheetWords) × (station < 4) ⌝ }
-    ensures { λ r. ⌜ r ≡ partOk (now (words .entry)) (stationAt station) (stationAt station + 7) ⌝ }
+    requires { ⌜ Lent (now limits) (now words) × (station < stations) ⌝ }
+    ensures { λ r. ⌜ r ≡ partOk (now (words .entry)) (stationAt station) (stationAt station + readings) ⌝ }
 {
-    let at = STATION_Q + STATION_WORDS * station;
+    let at = STATION_Q + READINGS * station;
     if run_ok(limits, words, at, at + 1) {
-        run_ok(limits, words, at + 1, at + STATION_WORDS)
+        run_ok(limits, words, at + 1, at + READINGS)
     } else {
         false
     }
@@ -52,11 +50,11 @@ fn station_ok(limits: &[Limit], words: &[u32], station: usize) -> bool
 
 // The same from the line VOL to the end: MASS, PWR and SEAT have limits of many kinds.
 fn from_vol(limits: &[Limit], words: &[u32]) -> bool
-    requires { ⌜ (now limits ≡ wordRows) × (length (now words) ≡ sheetWords) ⌝ }
-    ensures { λ r. ⌜ r ≡ partOk (now (words .entry)) (stationAt 4) sheetWords ⌝ }
+    requires { ⌜ Lent (now limits) (now words) ⌝ }
+    ensures { λ r. ⌜ r ≡ partOk (now (words .entry)) aftAt sheetWords ⌝ }
 {
-    if run_ok(limits, words, VOL, MASS) {
-        if part_ok(limits, words, MASS, FITTED) {
+    if run_ok(limits, words, AFT, BARE) {
+        if part_ok(limits, words, BARE, FITTED) {
             return run_ok(limits, words, FITTED, SHEET_WORDS);
         }
     }
@@ -65,7 +63,7 @@ fn from_vol(limits: &[Limit], words: &[u32]) -> bool
 
 // The same from the first station to the end.
 fn from_stations(limits: &[Limit], words: &[u32]) -> bool
-    requires { ⌜ (now limits ≡ wordRows) × (length (now words) ≡ sheetWords) ⌝ }
+    requires { ⌜ Lent (now limits) (now words) ⌝ }
     ensures { λ r. ⌜ r ≡ partOk (now (words .entry)) (stationAt 0) sheetWords ⌝ }
 {
     let mut station = 0;
@@ -87,7 +85,7 @@ pub fn words_ok(words: &[u32]) -> bool
     // Lent on as a part of itself, it goes in registers and takes no stack (DECISIONS).
     let words = &words[..];
     let limits = LIMITS;
-    if part_ok(&limits[1..], words, 0, STATION_Q) {
+    if part_ok(&limits[1..], words, LENGTH, STATION_Q) {
         from_stations(&limits[1..], words)
     } else {
         false

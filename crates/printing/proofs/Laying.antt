@@ -13,15 +13,15 @@ use Rattle.text.proofs.Laid.{laid-more, laid-part}
 use Rattle.sheet.specs.declared.RowsRead.the-variants.{Rows, NoRows}
 use Rattle.sheet.specs.Lines.{mostRows}
 use Rattle.sheet.specs.Places.{sheetWords, textWords}
+use Rattle.sheet.specs.Sheet.{wordsOk}
 use Rattle.sheet.specs.Reading.{readSheet}
 use Rattle.sheet.specs.Engines.{readEngines, Rowed}
 use Rattle.sheet.proofs.Written.{laid-length}
 use Rattle.sheet.proofs.Whole.{sheet-stored, sheet-count}
 use Rattle.sheet.proofs.EnginesCall.{ended-fault, ended-rows, first-powers, first-weights}
-use Rattle.capacity.specs.Bounds.{Bounds}
 use Rattle.printout.specs.Input.{mostInput, sheetBytes}
 use Rattle.printout.specs.Printed.{inputText, platesText, rowsPrinted, printed}
-use Rattle.printout.proofs.Printed.{rows-fault, rows-plates, printed-fault, printed-rows, read-bounds}
+use Rattle.printout.proofs.Printed.{rows-fault, rows-plates, printed-fault, printed-rows, read-ok}
 
 -- ---- plates A and C, one after the other
 
@@ -59,8 +59,8 @@ module _ (t : List ℕ) (h : length t ≤ mostInput) {end : ℕ} (q : end ≡ sh
         let n : length o ≡ textWords = ap length e ∙ sheet-count (take end t) k (sym (p .answer)) in
         take-all sheetWords (drop 1 o) (omega (arith, length-drop 1 o)) ∙ ap (drop 1) e
 
-    pub words-bounds : Bounds (take sheetWords (drop 1 o))
-    words-bounds = rw words (read-bounds (take end t) k (sym (p .answer)))
+    pub words-ok : wordsOk (take sheetWords (drop 1 o)) ≡ true
+    words-ok = rw words (read-ok (take end t) k (sym (p .answer)))
 
     pub rows-printed : rowsPrinted (take sheetWords (drop 1 o)) (take (length t - end) (drop end t)) ≡ printed t
     rows-printed = rw (words, rest-part t end, q) (sym (printed-rows t h (sym (rw q at (p .answer)))))

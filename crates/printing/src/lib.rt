@@ -5,7 +5,7 @@ ghost use Prim.Native.Nat.{_≤_};
 ghost use lib.ListN.{length};
 ghost use Rattle.text.specs.Line.{Laid};
 ghost use Rattle.answers.specs.Settled.{Settled};
-ghost use Rattle.capacity.specs.Bounds.{Bounds};
+ghost use Rattle.sheet.specs.Sheet.{wordsOk};
 ghost use Rattle.printout.specs.Input.{sheetBytes};
 ghost use Rattle.printout.specs.Printed.{inputText, plateText, platesText, rowsPrinted, printed, printAnswer, printInto};
 use answers::Answer;
@@ -74,7 +74,7 @@ fn lay_plate(marked: &[u8], refused: &[u8], answer: Answer, out: &mut [u8]) -> u
 
 // Lays the lines of plates A and C.
 fn lay_plates(sheet: &[u32], powers: &[u32], weights: &[u32], out: &mut [u8]) -> usize
-    requires { ⌜ Bounds (now sheet) × (length (platesText (now sheet) (now powers) (now weights)) ≤ length (now out)) ⌝ }
+    requires { ⌜ (wordsOk (now sheet) ≡ true) × (length (platesText (now sheet) (now powers) (now weights)) ≤ length (now out)) ⌝ }
     ensures { λ r. ⌜ Laid (platesText (now (sheet .entry)) (now (powers .entry)) (now (weights .entry))) (now (out .entry)) 0 r (now (out .exit)) ⌝ }
 {
     let end = lay_plate(
@@ -94,7 +94,7 @@ fn lay_plates(sheet: &[u32], powers: &[u32], weights: &[u32], out: &mut [u8]) ->
 
 // Lays what is printed of a sheet and the engine lines after it.
 fn lay_rows(sheet: &[u32], engines: &[u8], out: &mut [u8]) -> usize
-    requires { ⌜ Bounds (now sheet) × (length (rowsPrinted (now sheet) (now engines)) ≤ length (now out)) ⌝ }
+    requires { ⌜ (wordsOk (now sheet) ≡ true) × (length (rowsPrinted (now sheet) (now engines)) ≤ length (now out)) ⌝ }
     ensures { λ r. ⌜ Laid (rowsPrinted (now (sheet .entry)) (now (engines .entry))) (now (out .entry)) 0 r (now (out .exit)) ⌝ }
 {
     let mut powers = [0u32; MOST_ROWS];

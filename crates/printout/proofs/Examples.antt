@@ -15,8 +15,8 @@ use Rattle.sheet.specs.SheetText.{sheetForm, weightsFrom, fitsOf, numbersOn, re
 use Rattle.sheet.specs.EngineText.{engineForm, readEngines}
 use Rattle.capacity.specs.Volume.{stationProduct, volumeN, netZ}
 use Rattle.capacity.specs.Weights.{addedUp, boatM}
-use Rattle.capacity.specs.PlateC.{exactX, markedC, rising, rowsRight, rowFor, noRow, engineWeight}
-use Rattle.capacity.specs.PlateC.{liveLoad, persons, untested, plateC}
+use Rattle.capacity.specs.PlateC.{exactX, markedC, rising, rowsRight, rowFor, lacksRow, engineWeight}
+use Rattle.capacity.specs.PlateC.{liveLoad, persons, lacksTests, plateC}
 use Rattle.capacity.specs.PlateA.{inboardX, loadX, markedA, formulaWatts, powerA, plateA}
 use Rattle.printout.specs.Input.{sheetBytes}
 use Rattle.printout.specs.Printed.{platesText, rowsPrinted, printed}
@@ -70,8 +70,8 @@ inputs-right :
 unfolding inputs withForm withBoat printed rowsPrinted platesText sheetBytes numbersText digitsOf digitsIn
     readSheet sheetForm numbersOn numbersOf fitsOf weightsFrom readEngines engineForm
     readForm readParts readRows kindOf readLine agreed readNumbers readEntry fieldOf numberOf restOf
-    stationProduct volumeN netZ addedUp boatM exactX markedC rising rowsRight rowFor noRow engineWeight liveLoad persons
-    untested plateC inboardX loadX markedA formulaWatts powerA plateA
+    stationProduct volumeN netZ addedUp boatM exactX markedC rising rowsRight rowFor lacksRow engineWeight liveLoad persons
+    lacksTests plateC inboardX loadX markedA formulaWatts powerA plateA
 inputs-right = refl
 
 -- ---- where the sheet ends

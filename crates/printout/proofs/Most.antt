@@ -22,15 +22,15 @@ use Rattle.sheet.specs.EngineText.{readEngines, powersOf, weightsOf}
 use Rattle.sheet.proofs.SheetText.{sheet-fault}
 use Rattle.sheet.proofs.EngineText.{engines-fault}
 use Rattle.capacity.specs.Whole.{isBelow}
-use Rattle.capacity.specs.PlateA.{markedA, noPower, plateA}
-use Rattle.capacity.specs.PlateC.{markedC, rowsRight, noRow, liveLoad, untested, persons, plateC}
-use Rattle.capacity.specs.Bounds.{Bounds}
-use Rattle.capacity.proofs.Loads.{marked-most, c-most}
+use Rattle.capacity.specs.PlateA.{markedA, lacksPower, plateA}
+use Rattle.capacity.specs.PlateC.{markedC, rowsRight, lacksRow, liveLoad, lacksTests, persons, plateC}
+use Rattle.sheet.specs.Sheet.{wordsOk}
+use Rattle.capacity.proofs.Most.{marked-most, c-most}
 use Rattle.capacity.proofs.Power.{power-most}
 use Rattle.capacity.proofs.Persons.{persons-most}
 use Rattle.printout.specs.Input.{mostInput, sheetPart, enginePart}
 use Rattle.printout.specs.Printed.{figures, inputText, plateText, platesText, rowsPrinted, printed}
-use Rattle.printout.proofs.Printed.{rows-fault, rows-plates, read-bounds}
+use Rattle.printout.proofs.Printed.{rows-fault, rows-plates, read-ok}
 use Rattle.printout.proofs.Printed.{printed-long, printed-fault, printed-rows}
 
 abbrev pub mostPrinted : ℕ
@@ -81,20 +81,20 @@ both-most a b h k = omega arith
 abbrev Low : Answer → Type 0
 Low a = sumOf a ≤ 320000
 
-module _ (s : List ℕ) (b : Bounds s) where
+module _ (s : List ℕ) (b : wordsOk s ≡ true) where
   a-small : Low (plateA s)
   unfolding plateA
   a-small =
       either Low (isBelow (markedA s) 1) (omega arith)
-      (either Low (noPower s) (omega arith) (omega (arith, marked-most s b, power-most s b)))
+      (either Low (lacksPower s) (omega arith) (omega (arith, marked-most s b, power-most s b)))
 
   c-small : (ps ws : List ℕ) → Low (plateC s ps ws)
   unfolding plateC
   c-small ps ws =
       either Low (not (rowsRight ps ws)) (omega arith)
       (either Low (isBelow (markedC s) 1) (omega arith)
-      (either Low (noRow s ps) (omega arith)
-      (either Low (untested s (liveLoad s ps ws)) (omega arith)
+      (either Low (lacksRow s ps) (omega arith)
+      (either Low (lacksTests s (liveLoad s ps ws)) (omega arith)
       (either Low (isBelow (persons s (liveLoad s ps ws)) 1) (omega arith)
       (omega (arith, c-most s b, persons-most s (liveLoad s ps ws) b))))))
 
@@ -118,7 +118,7 @@ printed-most t = go (ltb mostInput (length t)) refl
   where
     sheet : length t ≤ mostInput → (q : Found (List ℕ)) → readSheet (sheetPart t) ≡ q → length (printed t) ≤ mostPrinted
     sheet h (took k s) e =
-        rw (printed-rows t h e) (rows-most (drop 1 s) (read-bounds (sheetPart t) k s e) (enginePart t))
+        rw (printed-rows t h e) (rows-most (drop 1 s) (read-ok (sheetPart t) k s e) (enginePart t))
     sheet h (lost number at) e =
         rw (printed-fault t h e) (input-most number (low (sheet-fault (sheetPart t) number at e)))
 

@@ -1,17 +1,17 @@
 -- What is printed, path by path.
 use mathlib.Core.Path.{_≡_, refl}
+use mathlib.Core.Bool.{true}
 use mathlib.Core.List.{List}
 use Prim.Native.Nat.{ℕ, _≤_, _<_}
 use borrow.Author.Tests.{lt-ltb, le-ltb}
 use lib.ListN.{length, drop}
 use Rattle.form.specs.Parts.{Rows}
 use Rattle.form.specs.Outcome.{took, lost}
+use Rattle.sheet.specs.Sheet.{wordsOk}
 use Rattle.sheet.specs.SheetText.{readSheet}
 use Rattle.sheet.specs.EngineText.{readEngines, powersOf, weightsOf}
 use Rattle.sheet.proofs.Words.{words-of}
 use Rattle.sheet.proofs.SheetText.{reads-written}
-use Rattle.capacity.specs.Bounds.{Bounds}
-use Rattle.capacity.proofs.Within.{within-bounds}
 use Rattle.printout.specs.Input.{mostInput, sheetPart, enginePart}
 use Rattle.printout.specs.Printed.{inputText, platesText, rowsPrinted, printed}
 
@@ -39,6 +39,6 @@ module _ (t : List ℕ) (h : length t ≤ mostInput) where
   unfolding printed
   printed-rows e = rw (le-ltb mostInput (length t) h, e) refl
 
--- the words of a sheet that was read keep to the plates' bounds
-pub read-bounds : (t : List ℕ) (k : ℕ) (s : List ℕ) → readSheet t ≡ took k s → Bounds (drop 1 s)
-read-bounds t k s e = within-bounds (drop 1 s) (words-of s (reads-written t k s e .within))
+-- the words of a sheet that was read are within the limits
+pub read-ok : (t : List ℕ) (k : ℕ) (s : List ℕ) → readSheet t ≡ took k s → wordsOk (drop 1 s) ≡ true
+read-ok t k s e = words-of s (reads-written t k s e .within)

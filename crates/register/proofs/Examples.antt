@@ -17,7 +17,7 @@ use Rattle.sheet.specs.Sheet.{limitsOn, sheetLimits, fitText, fitsText, linesTe
 use Rattle.sheet.specs.Reading.{readLines, readFits, readEnd, readRest, readSheet}
 use Rattle.capacity.specs.Volume.{stationProduct, volumeN, netZ}
 use Rattle.capacity.specs.Weights.{addedUp, boatM}
-use Rattle.capacity.specs.PlateC.{exactX, markedC, rising, rowsRight, rowFor, noRow, engineWeight, liveLoad, persons, untested, plateC}
+use Rattle.capacity.specs.PlateC.{exactX, markedC, rising, rowsRight, rowFor, lacksRow, engineWeight, liveLoad, persons, lacksTests, plateC}
 use Rattle.capacity.specs.PlateA.{inboardX, loadX, markedA, formulaWatts, powerA, plateA}
 use Rattle.capacity.specs.PlateU.{ruleU, markedU, plateU}
 use Rattle.capacity.specs.Kinds.{PlateKind, kindA, kindC, kindU}
@@ -123,10 +123,10 @@ day =
     ∷ []
 
 a-day : day-right freshWords day ≡ true
-unfolding day-right same day text numbered-text stations rows grams freshWords entered opened fitted replaced dropped saved each hullOk draftOk formed hullRefusal deskRefusal roomRefusal openRefusal putRefusal takeRefusal saveRefusal readSheet readLines readLine agreed readNumbers readEntry fieldOf numberOf restOf readRest readFits readEnd allHold sheetLimits limitsOn sheetText linesText fitsText fitText numbersText digitsOf digitsIn stationProduct volumeN netZ addedUp boatM exactX markedC rising rowsRight rowFor noRow engineWeight liveLoad persons untested plateC inboardX loadX markedA formulaWatts powerA plateA ruleU markedU plateU
+unfolding day-right same day text numbered-text stations rows grams freshWords entered opened fitted replaced dropped saved each hullOk draftOk formed hullRefusal deskRefusal roomRefusal openRefusal putRefusal takeRefusal saveRefusal readSheet readLines readLine agreed readNumbers readEntry fieldOf numberOf restOf readRest readFits readEnd allHold sheetLimits limitsOn sheetText linesText fitsText fitText numbersText digitsOf digitsIn stationProduct volumeN netZ addedUp boatM exactX markedC rising rowsRight rowFor lacksRow engineWeight liveLoad persons lacksTests plateC inboardX loadX markedA formulaWatts powerA plateA ruleU markedU plateU
 a-day = refl
 
 -- the bytes of a hull's text: the register's number, and nothing beyond the text
 a-text : hullWrittenInto (newMemory (newMemory freshWords (text "200000")) (text "203334")) 1 (replicate 230 7) ≡ numbered-text "HULL\t1\n" "203334" ++ replicate 4 7
-unfolding text numbered-text stations freshWords entered opened fitted replaced dropped saved each hullOk draftOk formed hullRefusal deskRefusal roomRefusal openRefusal putRefusal takeRefusal saveRefusal readSheet readLines readLine agreed readNumbers readEntry fieldOf numberOf restOf readRest readFits readEnd allHold sheetLimits limitsOn sheetText linesText fitsText fitText numbersText digitsOf digitsIn stationProduct volumeN netZ addedUp boatM exactX markedC rising rowsRight rowFor noRow engineWeight liveLoad persons untested plateC inboardX loadX markedA formulaWatts powerA plateA
+unfolding text numbered-text stations freshWords entered opened fitted replaced dropped saved each hullOk draftOk formed hullRefusal deskRefusal roomRefusal openRefusal putRefusal takeRefusal saveRefusal readSheet readLines readLine agreed readNumbers readEntry fieldOf numberOf restOf readRest readFits readEnd allHold sheetLimits limitsOn sheetText linesText fitsText fitText numbersText digitsOf digitsIn stationProduct volumeN netZ addedUp boatM exactX markedC rising rowsRight rowFor lacksRow engineWeight liveLoad persons lacksTests plateC inboardX loadX markedA formulaWatts powerA plateA
 a-text = refl

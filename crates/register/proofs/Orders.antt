@@ -14,7 +14,7 @@ use Rattle.sheet.specs.Sheet.{limitsOn, sheetLimits, fitText, fitsText, linesTe
 use Rattle.sheet.specs.Reading.{readLines, readFits, readEnd, readRest, readSheet}
 use Rattle.capacity.specs.Volume.{stationProduct, volumeN, netZ}
 use Rattle.capacity.specs.Weights.{addedUp, boatM}
-use Rattle.capacity.specs.PlateC.{exactX, markedC, rising, rowsRight, rowFor, noRow, engineWeight, liveLoad, persons, untested, plateC}
+use Rattle.capacity.specs.PlateC.{exactX, markedC, rising, rowsRight, rowFor, lacksRow, engineWeight, liveLoad, persons, lacksTests, plateC}
 use Rattle.capacity.specs.PlateA.{inboardX, loadX, markedA, formulaWatts, powerA, plateA}
 use Rattle.capacity.specs.PlateU.{ruleU, markedU, plateU}
 use Rattle.capacity.specs.Kinds.{kindA, kindC, kindU}
@@ -101,7 +101,7 @@ calls =
     ∷ []
 
 calls-right : map (λ (a : Asked). a .given) calls ≡ map (λ (a : Asked). a .must) calls
-unfolding calls text outside ended small fifteen edited _gives_ full sheet hulls draft idle formed each hullOk draftOk hullRefusal deskRefusal roomRefusal openRefusal putRefusal takeRefusal saveRefusal readSheet readLines readLine agreed readNumbers readEntry fieldOf numberOf restOf readRest readFits readEnd allHold sheetLimits limitsOn sheetText linesText fitsText fitText numbersText digitsOf digitsIn stationProduct volumeN netZ addedUp boatM exactX markedC rising rowsRight rowFor noRow engineWeight liveLoad persons untested plateC inboardX loadX markedA formulaWatts powerA plateA ruleU markedU plateU
+unfolding calls text outside ended small fifteen edited _gives_ full sheet hulls draft idle formed each hullOk draftOk hullRefusal deskRefusal roomRefusal openRefusal putRefusal takeRefusal saveRefusal readSheet readLines readLine agreed readNumbers readEntry fieldOf numberOf restOf readRest readFits readEnd allHold sheetLimits limitsOn sheetText linesText fitsText fitText numbersText digitsOf digitsIn stationProduct volumeN netZ addedUp boatM exactX markedC rising rowsRight rowFor lacksRow engineWeight liveLoad persons lacksTests plateC inboardX loadX markedA formulaWatts powerA plateA ruleU markedU plateU
 calls-right = refl
 
 -- a hull is written under its own number, and nothing is touched beyond its text

@@ -1,5 +1,5 @@
 -- `plate_c` meets its contract. Assumes nothing.
-use Rattle.answering.proofs.Sheets.{hull-bounds}
+use Rattle.answering.proofs.Sheets.{hull-ok}
 use Rattle.answering.proofs.Settling.{answer-refused, answer-given}
 use borrow.Author.Needs.{needs}
 use Rattle.answering.proofs.plate_c.Statement.{statement}
@@ -15,7 +15,7 @@ hull-sheet-requires : tie.Need-hull-sheet-requires
 hull-sheet-requires c κs = search needs
 
 plate-c-requires : tie.Need-plate-c-requires
-plate-c-requires c κs = hull-bounds _ _ (c .before .before .hull-refusal .ensures) (c .before .if1 .left) (c .hull-sheet .ensures)
+plate-c-requires c κs = hull-ok _ _ (c .before .before .hull-refusal .ensures) (c .before .if1 .left) (c .hull-sheet .ensures)
 
 returns-2 : tie.Need-returns-2
 returns-2 c = answer-given (c .before .before .before .hull-refusal .ensures) (c .before .before .if1 .left) (rw (c .before .hull-sheet .ensures) at (c .plate-c .ensures))

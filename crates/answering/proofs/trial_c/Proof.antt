@@ -1,5 +1,5 @@
 -- `trial_c` meets its contract. Assumes nothing.
-use Rattle.answering.proofs.Sheets.{draft-bounds}
+use Rattle.answering.proofs.Sheets.{draft-ok}
 use Rattle.answering.proofs.Settling.{answer-refused, answer-given}
 use borrow.Author.Needs.{needs}
 use Rattle.answering.proofs.trial_c.Statement.{statement}
@@ -15,7 +15,7 @@ draft-sheet-requires : tie.Need-draft-sheet-requires
 draft-sheet-requires c κs = search needs
 
 plate-c-requires : tie.Need-plate-c-requires
-plate-c-requires c κs = draft-bounds _ _ (c .before .before .desk-refusal .ensures) (c .before .if1 .left) (c .draft-sheet .ensures)
+plate-c-requires c κs = draft-ok _ _ (c .before .before .desk-refusal .ensures) (c .before .if1 .left) (c .draft-sheet .ensures)
 
 returns-2 : tie.Need-returns-2
 returns-2 c = answer-given (c .before .before .before .desk-refusal .ensures) (c .before .before .if1 .left) (rw (c .before .draft-sheet .ensures) at (c .plate-c .ensures))

@@ -1,5 +1,6 @@
 -- `write_hull` meets its contract. Assumes nothing.
-use Rattle.answering.proofs.Sheets.{hull-bounds, written-given}
+use Rattle.capacity.proofs.Within.{words-many}
+use Rattle.answering.proofs.Sheets.{hull-ok, written-given}
 use Rattle.answering.proofs.Settling.{refused}
 use borrow.Author.Needs.{needs}
 use Rattle.answering.proofs.write_hull.Statement.{statement}
@@ -15,7 +16,8 @@ hull-sheet-requires : tie.Need-hull-sheet-requires
 hull-sheet-requires c κs = search needs
 
 numbered-requires : tie.Need-numbered-requires
-numbered-requires c κs = hull-bounds _ _ (c .before .before .hull-refusal .ensures) (c .before .if1 .left) (c .hull-sheet .ensures) .words
+numbered-requires c κs =
+    words-many _ (hull-ok _ _ (c .before .before .hull-refusal .ensures) (c .before .if1 .left) (c .hull-sheet .ensures))
 
 write-sheet-requires : tie.Need-write-sheet-requires
 write-sheet-requires c κs = search needs

@@ -2,7 +2,7 @@
 use mathlib.Core.Bool.{true}
 use mathlib.Core.Path.{sym}
 use lib.Seq.{length-take-le}
-use Rattle.printing.proofs.Laying.{sheet-printed, words-bounds, rows-printed}
+use Rattle.printing.proofs.Laying.{sheet-printed, words-ok, rows-printed}
 use Rattle.printout.proofs.Printed.{printed-long}
 use Rattle.printout.proofs.Input.{bytes-most}
 use native.Mathlib.Omega.{arith}
@@ -76,7 +76,7 @@ lay-rows-requires c κs =
     let at-sheet-bytes = c .before .before .before .before .before .before .before .before .before .before in
     let at-enum-told = c .before .before .before .before in
     let at-read-words = c .before .before .before .before .before .before .before in
-    (words-bounds (start .args .input .now) (at-if1 .if1 .left) (at-sheet-bytes .sheet-bytes .ensures) (rw (at-enum-told .enum-told .given .1) at (at-read-words .read-words .ensures)), rw (rows-printed (start .args .input .now) (at-if1 .if1 .left) (at-sheet-bytes .sheet-bytes .ensures) (rw (at-enum-told .enum-told .given .1) at (at-read-words .read-words .ensures))) (start .pre))
+    (words-ok (start .args .input .now) (at-if1 .if1 .left) (at-sheet-bytes .sheet-bytes .ensures) (rw (at-enum-told .enum-told .given .1) at (at-read-words .read-words .ensures)), rw (rows-printed (start .args .input .now) (at-if1 .if1 .left) (at-sheet-bytes .sheet-bytes .ensures) (rw (at-enum-told .enum-told .given .1) at (at-read-words .read-words .ensures))) (start .pre))
 
 same-length-2 : tie.Need-same-length-2
 same-length-2 c = search needs

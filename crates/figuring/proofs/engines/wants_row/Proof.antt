@@ -1,0 +1,17 @@
+-- `wants_row` meets its contract.
+use borrow.Author.Tests.{eq-eqb, ne-eqb}
+use Rattle.capacity.proofs.Within.{words-many}
+use native.Mathlib.Omega.{arith}
+use Rattle.figuring.proofs.engines.wants_row.Statement.{statement}
+use Rattle.figuring.proofs.engines.wants_row.Tie as tie
+
+returns : tie.Need-returns
+returns c = rw (eq-eqb _ _ (c .before .if1 .taken))
+
+returns-2 : tie.Need-returns-2
+returns-2 c = rw (ne-eqb _ _ (c .if1 .left))
+
+pub wants-row-spec : {M : Type 1} → statement M
+wants-row-spec =
+    tie.close
+    (tie.spec (omega (arith, words-many)) (omega (arith, words-many)) returns returns-2)

@@ -1,0 +1,25 @@
+-- `marked_c` meets its contract.
+use Rattle.capacity.proofs.Within.{words-many}
+use Rattle.capacity.proofs.Loads.{marked-high, marked-low}
+use Rattle.capacity.proofs.Most.{gain-most, weight-most, lost-most}
+use native.Mathlib.Omega.{arith}
+use borrow.Author.Needs.{needs}
+use Rattle.figuring.proofs.loads.marked_c.Statement.{statement}
+use Rattle.figuring.proofs.loads.marked_c.Tie as tie
+
+loss-of-requires : tie.Need-loss-of-requires
+loss-of-requires c κs = (omega (arith, words-many), omega (arith, weight-most))
+
+returns : tie.Need-returns
+returns c = cc (marked-high _ (c .before .if1 .taken))
+
+returns-2 : tie.Need-returns-2
+returns-2 c = cc (marked-low _ (c .before .if1 .left))
+
+pub marked-c-spec : {M : Type 1} → statement M
+marked-c-spec =
+    tie.close
+    (tie.spec (λ c κs. search needs) (λ c κs. search needs) (omega (arith, words-many))
+    (omega (arith, weight-most)) loss-of-requires (omega (arith, words-many)) (search needs)
+    (omega (arith, gain-most)) (omega (arith, lost-most)) (search needs) (search needs) returns
+    returns-2)

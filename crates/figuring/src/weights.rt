@@ -1,0 +1,57 @@
+// What a boat weighs, and what takes from the load.
+ghost use mathlib.Core.Path.{_≡_};
+ghost use mathlib.Core.Bool.{true};
+ghost use Prim.Native.Nat.{_+_, _*_, _≤_};
+ghost use lib.ListN.{length};
+ghost use Rattle.sheet.specs.Places.{sheetWords};
+ghost use Rattle.sheet.specs.Sheet.{wordsOk};
+ghost use Rattle.capacity.specs.Words.{well, flooding, fuel, machinery};
+ghost use Rattle.capacity.specs.Volume.{gram};
+ghost use Rattle.capacity.specs.Weights.{addedUp, boatM};
+ghost use Rattle.capacity.specs.Highs.{Weights, heaviest};
+use super::numbers::wide;
+use super::volume::GRAM;
+use sheet::BARE;
+use sheet::FITTED;
+use sheet::FLOODING;
+use sheet::FUEL;
+use sheet::MACHINERY;
+use sheet::WELL;
+
+// F, the sum of the fittings' weights.
+fn fittings_weight(weights: &[u32]) -> u64
+    requires { ⌜ Weights (now weights) ⌝ }
+    ensures { λ r. ⌜ r ≡ addedUp (now (weights .entry)) ⌝ }
+{
+    let mut total = 0;
+    let mut i = 0;
+    while i < weights.len() {
+        total += wide(weights[i]);
+        i += 1;
+    }
+    total
+}
+
+// M, the boat with its fittings.
+pub fn boat_of(sheet: &[u32]) -> u64
+    requires { ⌜ wordsOk (now sheet) ≡ true ⌝ }
+    ensures { λ r. ⌜ r ≡ boatM (now (sheet .entry)) ⌝ }
+{
+    wide(sheet[BARE]) + fittings_weight(&sheet[FITTED..])
+}
+
+// The tanks with fuel and the machinery.
+pub fn carried_of(sheet: &[u32]) -> u64
+    requires { ⌜ length (now sheet) ≡ sheetWords ⌝ }
+    ensures { λ r. ⌜ r ≡ fuel (now (sheet .entry)) + machinery (now (sheet .entry)) ⌝ }
+{
+    wide(sheet[FUEL]) + wide(sheet[MACHINERY])
+}
+
+// What takes from the load, of a boat that is taken to weigh so many grams.
+pub fn loss_of(sheet: &[u32], weight: u64) -> u64
+    requires { ⌜ (length (now sheet) ≡ sheetWords) × (weight ≤ heaviest) ⌝ }
+    ensures { λ r. ⌜ r ≡ gram * (well (now (sheet .entry)) + flooding (now (sheet .entry)) + weight) ⌝ }
+{
+    GRAM * (wide(sheet[WELL]) + wide(sheet[FLOODING]) + weight)
+}
