@@ -1,5 +1,5 @@
--- The words of a sheet stay within limits when the weight on a fitting line is changed within its own. Only a limit that caps a number by the one before it looks
--- back, and no fitting's does, so the words after the changed one are judged as before. Assumes nothing.
+-- The words of a sheet stay within limits when the weight on a fitting line is changed within its own. Only a limit
+-- that caps a number by the one before it looks back, and no fitting's does, so the words after are judged as before.
 use mathlib.Core.Path.{_≡_, refl, sym, _∙_}
 use mathlib.Core.Bool.{Bool, true, false, true≢false}
 use mathlib.Core.List.{List, [], _∷_, _++_}
@@ -14,18 +14,24 @@ use Rattle.ground.proofs.Booleans.{both-hold}
 use Rattle.text.proofs.Limit.{hold-length}
 use Rattle.sheet.specs.Lines.{lines, fittings, fittingHigh}
 use Rattle.sheet.specs.Sheet.{limitsOn, sheetLimits, wordsOk}
-use Rattle.sheet.specs.Places.{sheetWords}
+use Rattle.sheet.specs.Places.{fittingWord, fittingsAt, sheetWords}
 use Rattle.sheet.proofs.Held.{opens, hold-free}
 use Rattle.sheet.proofs.Most.{fitLimit}
 
 -- ---- one number changed among many
 
-hold-set : (ls : List Limit) (last : ℕ) (ns : List ℕ) (k w : ℕ) → k < length ls → ((before : ℕ) → holds (getD ls k fitLimit) before w ≡ true) → opens (drop (suc k) ls) ≡ true
-    → allHold ls last ns ≡ true → allHold ls last (set ns k w) ≡ true
+hold-set :
+    (ls : List Limit) (last : ℕ) (ns : List ℕ) (k w : ℕ)
+    → k < length ls
+    → ((before : ℕ) → holds (getD ls k fitLimit) before w ≡ true)
+    → opens (drop (suc k) ls) ≡ true
+    → allHold ls last ns ≡ true
+    → allHold ls last (set ns k w) ≡ true
 unfolding allHold
 hold-set [] last ns k w l f o h = absurd (omega arith)
 hold-set (x ∷ ls) last [] k w l f o h = absurd (true≢false (sym h))
-hold-set (x ∷ ls) last (n ∷ ns) zero w l f o h = rw (f last) (hold-free ls w n ns o ∙ both-hold (holds x last n) (allHold ls n ns) h .1)
+hold-set (x ∷ ls) last (n ∷ ns) zero w l f o h =
+    rw (f last) (hold-free ls w n ns o ∙ both-hold (holds x last n) (allHold ls n ns) h .1)
 hold-set (x ∷ ls) last (n ∷ ns) (suc k) w l f o h =
     let p = both-hold (holds x last n) (allHold ls n ns) h in
     rw (p .0) (hold-set ls n ns k w (omega arith) f o (p .1))
@@ -57,15 +63,22 @@ words-limits : drop 1 sheetLimits ≡ front ++ replicate fittings fitLimit
 unfolding sheetLimits limitsOn
 words-limits = refl
 
-front-length : length front ≡ 44
+front-length : length front ≡ fittingsAt
 unfolding limitsOn
 front-length = refl
 
 -- any limits, and then those of n weights
-weights-hold : (ls : List Limit) (n j w : ℕ) (s : List ℕ) → j < n → w ≤ fittingHigh → allHold (ls ++ replicate n fitLimit) 0 s ≡ true → allHold (ls ++ replicate n fitLimit) 0 (set s (length ls + j) w) ≡ true
+weights-hold :
+    (ls : List Limit) (n j w : ℕ) (s : List ℕ)
+    → j < n
+    → w ≤ fittingHigh
+    → allHold (ls ++ replicate n fitLimit) 0 s ≡ true
+    → allHold (ls ++ replicate n fitLimit) 0 (set s (length ls + j) w) ≡ true
 weights-hold ls n j w s l h a =
     let fits : List Limit = replicate n fitLimit in
-    let is-fit : getD (ls ++ fits) (length ls + j) fitLimit ≡ fitLimit = getD-append-add ls fits j fitLimit ∙ getD-replicate n j fitLimit fitLimit l in
+    let is-fit : getD (ls ++ fits) (length ls + j) fitLimit ≡ fitLimit =
+    getD-append-add ls fits j fitLimit ∙ getD-replicate n j fitLimit fitLimit l
+    in
     let next : suc (length ls + j) ≡ length ls + suc j = omega arith in
     hold-set (ls ++ fits) 0 s (length ls + j) w (omega (arith, length-append ls fits, length-replicate n fitLimit))
     (λ (before : ℕ). rw is-fit (weight-holds before w h))
@@ -75,8 +88,14 @@ pub words-length : (s : List ℕ) → wordsOk s ≡ true → length s ≡ sheetW
 unfolding sheetLimits limitsOn
 words-length s a = hold-length (drop 1 sheetLimits) 0 s a
 
-pub fitted-words : (s : List ℕ) (line w : ℕ) → wordsOk s ≡ true → 1 ≤ line → line ≤ fittings → w ≤ fittingHigh → wordsOk (set s (43 + line) w) ≡ true
+pub fitted-words :
+    (s : List ℕ) (line w : ℕ)
+    → wordsOk s ≡ true
+    → 1 ≤ line
+    → line ≤ fittings
+    → w ≤ fittingHigh
+    → wordsOk (set s (fittingWord line) w) ≡ true
 fitted-words s zero w a l k h = absurd (omega arith)
 fitted-words s (suc j) w a l k h =
-    let place : 43 + suc j ≡ length front + j = omega (arith, front-length) in
+    let place : fittingWord (suc j) ≡ length front + j = omega (arith, front-length) in
     rw (words-limits, place) (weights-hold front fittings j w s (omega arith) h (rw words-limits at a))
