@@ -1,7 +1,7 @@
 -- The changes to the memory, as the code makes them word after word.
 use mathlib.Core.Path.{_≡_, refl, sym, ap, _∙_}
-use mathlib.Core.Logic.{_⊎_, inl, inr}
-use mathlib.Core.List.{List, _++_, append-nil}
+use mathlib.Core.Logic.{inl, inr}
+use mathlib.Core.List.{List, [], _∷_, _++_, append-nil}
 use Prim.Native.Nat.{ℕ, suc, _+_, _-_, _≤_, _<_}
 use native.Mathlib.Omega.{arith}
 use lib.ListN.{length, getD, set, take, drop, replicate, length-take, length-drop}
@@ -9,18 +9,16 @@ use lib.Seq.{sets, take-all, drop-length}
 use Rattle.ground.proofs.Stores.{putBack, part-sets, rest-part, sets-start}
 use Rattle.sheet.specs.Places.{sheetWords}
 use Rattle.ground.specs.Lists.{putFirst}
-use Rattle.memory.specs.Layout.{hullAt, editAt, hullSheetAt, heldAt, draftHullAt, openingAt, draftSheetAt, part}
+use Rattle.memory.specs.Layout.{countAt, editAt, hullSheetAt, heldAt, draftHullAt, openingAt, draftSheetAt, part}
 use Rattle.memory.specs.Layout.{hullCount, edit, hullSheet, draftHull, draftSheet}
 use Rattle.memory.specs.Asked.{ToCopy}
 use Rattle.memory.specs.Updates.{entered, opened, dropped, saved}
-use Rattle.memory.proofs.Parts.{Outside, word-outside, set-before, part-length, part-word, write-more}
+use Rattle.memory.proofs.Parts.{Outside, word-outside, sets-before, part-length, part-word, write-more}
 
 -- ---- every word 0
 
-pub cleared-whole : (m : List ℕ) (i : ℕ) → i ≤ length m → length m ≤ i → replicate i 0 ++ drop i m ≡ replicate (length m) 0
-cleared-whole m i h l =
-    let q : i ≡ length m = omega arith in
-    rw (q, drop-length m) (append-nil (replicate (length m) 0))
+pub cleared-whole : (m : List ℕ) {i : ℕ} → i ≡ length m → replicate i 0 ++ drop i m ≡ replicate (length m) 0
+cleared-whole m q = rw (q, drop-length m) (append-nil (replicate (length m) 0))
 
 -- ---- a sheet copied within the memory
 
@@ -37,8 +35,8 @@ module _ (m : List ℕ) (from to : ℕ) (h : ToCopy m from to) where
       let xs : List ℕ = part m from sheetWords in
       let n : length xs ≡ sheetWords = part-length m from sheetWords (h .source) in
       let k : length (take i xs) ≤ sheetWords = omega (arith, length-take i xs) in
-      rw e (write-more m xs to i (omega arith)
-      (word-outside m to (take i xs) (from + i) (away i (length (take i xs)) l k) ∙ sym (part-word m from sheetWords i l)))
+      let same = word-outside m to (take i xs) (from + i) (away i (length (take i xs)) l k) in
+      rw e (write-more m xs to i (omega arith) (same ∙ sym (part-word m from sheetWords i l)))
 
   pub copied-whole :
       (i : ℕ) {o : List ℕ}
@@ -51,7 +49,11 @@ module _ (m : List ℕ) (from to : ℕ) (h : ToCopy m from to) where
 
 -- ---- a sheet laid from a place on
 
-pub sheet-laid : (m s ys : List ℕ) (at : ℕ) → at + length s ≤ length m → ys ≡ putFirst s (take (length m - at) (drop at m)) → putBack m at ys ≡ sets m at s
+pub sheet-laid :
+    (m s ys : List ℕ) (at : ℕ)
+    → at + length s ≤ length m
+    → ys ≡ putFirst s (take (length m - at) (drop at m))
+    → putBack m at ys ≡ sets m at s
 sheet-laid m s ys at h e =
     let d : List ℕ = drop at m in
     let n : length s ≤ length d = omega (arith, length-drop at m) in
@@ -62,11 +64,9 @@ sheet-laid m s ys at h e =
 pub entered-as :
     (m s : List ℕ) {o : List ℕ}
     → o ≡ sets (set m (editAt (hullCount m)) 0) (hullSheetAt (hullCount m)) s
-    → set o 0 (hullCount m + 1) ≡ entered m s
+    → set o countAt (hullCount m + 1) ≡ entered m s
 unfolding entered
-entered-as m s e =
-    let n : hullSheetAt (hullCount m) ≡ suc (editAt (hullCount m)) = omega arith in
-    rw (e, n) refl
+entered-as m s e = let n : hullSheetAt (hullCount m) ≡ suc (editAt (hullCount m)) = omega arith in rw (e, n) refl
 
 pub opened-as :
     (m : List ℕ) (d h : ℕ) {o : List ℕ}
@@ -74,21 +74,10 @@ pub opened-as :
     → set (set (set o (heldAt d) 1) (draftHullAt d) h) (openingAt d) (edit m h) ≡ opened m d h
 unfolding opened
 opened-as m d h e =
-    let s : List ℕ = hullSheet m h in
-    let x : List ℕ = set m (heldAt d) 1 in
-    let y : List ℕ = set x (draftHullAt d) h in
     let p : draftHullAt d ≡ suc (heldAt d) = omega arith in
     let q : openingAt d ≡ suc (suc (heldAt d)) = omega arith in
-    let r : draftSheetAt d ≡ suc (suc (suc (heldAt d))) = omega arith in
-    rw (
-      e,
-      set-before m (draftSheetAt d) s (heldAt d) 1 (omega arith),
-      set-before x (draftSheetAt d) s (draftHullAt d) h (omega arith),
-      set-before y (draftSheetAt d) s (openingAt d) (edit m h) (omega arith),
-      p,
-      q,
-      r,
-    ) refl
+    let r : draftSheetAt d ≡ heldAt d + 3 = omega arith in
+    rw (e, p, q, r) (sets-before m (heldAt d) (1 ∷ h ∷ edit m h ∷ []) (hullSheet m h))
 
 -- the edit number that a save answers
 pub saved-edit : (m : List ℕ) (d : ℕ) {i : ℕ} → i ≡ draftHull m d → edit m i + 1 ≡ edit m (draftHull m d) + 1
@@ -100,7 +89,8 @@ pub saved-as :
     → o ≡ sets m (hullSheetAt i) (draftSheet m d)
     → set (set o (editAt i) (edit m i + 1)) (heldAt d) 0 ≡ saved m d
 unfolding saved dropped
-saved-as m d {i} q e =
+saved-as m d q e =
     let h : ℕ = draftHull m d in
-    let n : hullSheetAt h ≡ suc (editAt h) = omega arith in
-    rw (e, q, set-before m (hullSheetAt h) (draftSheet m d) (editAt h) (edit m h + 1) (omega arith), n) refl
+    let n : hullSheetAt h ≡ editAt h + 1 = omega arith in
+    let laid = sets-before m (editAt h) ((edit m h + 1) ∷ []) (draftSheet m d) in
+    rw (e, q, n) (ap (λ (l : List ℕ). set l (heldAt d) 0) laid)

@@ -140,7 +140,8 @@ fn lay_sheet(mem: &mut [u32], at: usize, sheet: &[u32])
 // Enters a new hull, with edit number 0, and answers its number.
 pub fn enter_hull(mem: &mut [u32], sheet: &[u32]) -> u32
     requires { ⌜ ToEnter (now mem) (now sheet) ⌝ }
-    ensures { λ r. ⌜ (r ≡ hullCount (now (mem .entry))) × (now (mem .exit) ≡ entered (now (mem .entry)) (now (sheet .entry))) ⌝ }
+    ensures { λ r. ⌜ r ≡ hullCount (now (mem .entry)) ⌝ }
+    ensures { λ _. ⌜ now (mem .exit) ≡ entered (now (mem .entry)) (now (sheet .entry)) ⌝ }
 {
     let hull = mem[COUNT];
     let slot = HULL_WORDS * hull as usize;
@@ -153,7 +154,8 @@ pub fn enter_hull(mem: &mut [u32], sheet: &[u32]) -> u32
 // Opens a hull at a desk, whose draft is then the hull's sheet, and answers the hull's edit number.
 pub fn open_draft(mem: &mut [u32], desk: usize, hull: u32) -> u32
     requires { ⌜ ToOpen (now mem) desk hull ⌝ }
-    ensures { λ r. ⌜ (r ≡ edit (now (mem .entry)) hull) × (now (mem .exit) ≡ opened (now (mem .entry)) desk hull) ⌝ }
+    ensures { λ r. ⌜ r ≡ edit (now (mem .entry)) hull ⌝ }
+    ensures { λ _. ⌜ now (mem .exit) ≡ opened (now (mem .entry)) desk hull ⌝ }
 {
     let from = HULL_WORDS * hull as usize;
     let to = DRAFT_WORDS * desk;
@@ -192,7 +194,8 @@ pub fn drop_draft(mem: &mut [u32], desk: usize)
 // Saves a desk's draft as its hull's sheet and ends it; answers the hull's edit number, which is one more.
 pub fn save_draft(mem: &mut [u32], desk: usize) -> u32
     requires { ⌜ ToSave (now mem) desk ⌝ }
-    ensures { λ r. ⌜ (r ≡ edit (now (mem .entry)) (draftHull (now (mem .entry)) desk) + 1) × (now (mem .exit) ≡ saved (now (mem .entry)) desk) ⌝ }
+    ensures { λ r. ⌜ r ≡ edit (now (mem .entry)) (draftHull (now (mem .entry)) desk) + 1 ⌝ }
+    ensures { λ _. ⌜ now (mem .exit) ≡ saved (now (mem .entry)) desk ⌝ }
 {
     let from = DRAFT_WORDS * desk;
     let to = HULL_WORDS * draft_hull(&mem[..], desk);

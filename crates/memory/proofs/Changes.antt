@@ -13,9 +13,9 @@ use Rattle.memory.specs.Layout.{hullCount, edit, hullSheet, held, draftH
 use Rattle.memory.specs.Updates.{freshWords, entered, opened, fitted, replaced, dropped, saved}
 use Rattle.memory.proofs.Parts.{word-inside, word-first, zero-word}
 use Rattle.memory.proofs.Parts.{part-written, part-after, part-set}
-use Rattle.memory.proofs.Slots.{hull-long, draft-long, SameHull, SameDraft, hull-twice, draft-twice, count-hulls, count-drafts}
-use Rattle.memory.proofs.Slots.{hull-count, hull-others, hull-drafts}
-use Rattle.memory.proofs.OneSlot.{only-in, Laid, hull-laid, ButDesk, but-desk, SheetChanges, sheet-changes}
+use Rattle.memory.proofs.Slots.{hull-long, draft-long, SameHull, SameDraft}
+use Rattle.memory.proofs.Slots.{leaves, leaves-both, kept-hull, kept-draft}
+use Rattle.memory.proofs.OneSlot.{Laid, hull-laid, ButDesk, but-desk, SheetChanges, sheet-changes}
 
 -- ---- the whole memory, and a hull's slot with the count
 
@@ -41,14 +41,16 @@ entered-changes m s h l e =
     let n : ℕ = hullCount m in
     let o : List ℕ = sets m (hullAt n) (hullSlot 0 s) in
     let a : Laid m n 0 s = hull-laid m n 0 s h l e in
-    let w = only-in o countAt 1 countAt ((n + 1) ∷ []) (a .only .same-size) (omega arith) (omega arith) in
+    let count = leaves o countAt ((n + 1) ∷ []) (a .rest .same-size) in
+    let new = kept-hull count n l (λ k u v x y. omega arith) in
+    let both = leaves-both count (a .rest) in
     record {
-      size = w .same-size;
-      counts = getD-set-same o countAt (n + 1) 0 (omega (arith, a .only .same-size));
-      number = count-hulls w n l .number ∙ a .number;
-      sheet = count-hulls w n l .sheet ∙ a .sheet;
-      others = λ i k q. hull-twice (count-hulls w i k) (hull-others l (a .only) i k q);
-      drafts = λ d k. draft-twice (count-drafts w d k) (hull-drafts l (a .only) d k);
+      size = count .same-size;
+      counts = getD-set-same o countAt (n + 1) 0 (omega (arith, a .rest .same-size));
+      number = new .number ∙ a .number;
+      sheet = new .sheet ∙ a .sheet;
+      others = λ i k q. kept-hull both i k (λ j u v. (λ x y. omega arith, λ x y. q (omega arith)));
+      drafts = λ d k. kept-draft both d k (λ j u v. (λ x y. omega arith, λ x y. omega arith));
     }
 
 -- ---- a desk's slot alone
@@ -118,19 +120,21 @@ pub record SavedChanges (m : List ℕ) (d : ℕ) : Type 0 where
   pub holds : held (saved m d) d ≡ 0
 
 pub saved-changes : (m : List ℕ) (d : ℕ) → Sized m → d < desks → draftHull m d < mostHulls → SavedChanges m d
-unfolding saved
+unfolding saved dropped
 saved-changes m d h l k =
     let i : ℕ = draftHull m d in
     let n : ℕ = edit m i + 1 in
-    let s : List ℕ = draftSheet m d in
-    let a : Laid m i n s = hull-laid m i n s h k (draft-long m d h l) in
-    let c : DroppedChanges (sets m (hullAt i) (hullSlot n s)) d = dropped-changes _ d (a .only .same-size) l in
+    let o : List ℕ = sets m (hullAt i) (hullSlot n (draftSheet m d)) in
+    let a : Laid m i n (draftSheet m d) = hull-laid m i n (draftSheet m d) h k (draft-long m d h l) in
+    let mark = leaves o (heldAt d) (0 ∷ []) (a .rest .same-size) in
+    let new = kept-hull mark i k (λ j u v x y. omega arith) in
+    let both = leaves-both mark (a .rest) in
     record {
-      size = c .rest .size;
-      counts = c .rest .counts ∙ hull-count k (a .only);
-      number = c .rest .hulls i k .number ∙ a .number;
-      sheet = c .rest .hulls i k .sheet ∙ a .sheet;
-      others = λ j f q. hull-twice (c .rest .hulls j f) (hull-others k (a .only) j f q);
-      drafts = λ e f q. draft-twice (c .rest .others e f q) (hull-drafts k (a .only) e f);
-      holds = c .holds;
+      size = mark .same-size;
+      counts = both .word countAt (λ x y. omega arith, λ x y. omega arith);
+      number = new .number ∙ a .number;
+      sheet = new .sheet ∙ a .sheet;
+      others = λ j f q. kept-hull both j f (λ p u v. (λ x y. omega arith, λ x y. q (omega arith)));
+      drafts = λ e f q. kept-draft both e f (λ p u v. (λ x y. q (omega arith), λ x y. omega arith));
+      holds = word-first o (heldAt d) 0 [] (omega (arith, a .rest .same-size));
     }

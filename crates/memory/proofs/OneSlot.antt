@@ -4,38 +4,25 @@ use mathlib.Core.List.{List, [], _∷_}
 use Prim.Native.Nat.{ℕ, _+_, _≤_, _<_}
 use native.Mathlib.Omega.{arith}
 use lib.ListN.{length}
-use lib.Seq.{sets, length-sets}
+use lib.Seq.{sets}
 use Rattle.sheet.specs.Places.{sheetWords}
 use Rattle.memory.specs.Layout.{mostHulls, desks, hullWords, draftWords, Sized, hullSlot, hullAt, draftAt}
-use Rattle.memory.specs.Layout.{hullSheetAt, heldAt, draftHullAt, openingAt, draftSheetAt}
+use Rattle.memory.specs.Layout.{countAt, hullSheetAt, heldAt, draftHullAt, openingAt, draftSheetAt}
 use Rattle.memory.specs.Layout.{hullCount, edit, hullSheet, held, draftHull, opening, draftSheet}
-use Rattle.memory.proofs.Parts.{word-outside, word-first, part-after}
-use Rattle.memory.proofs.Slots.{SameHull, SameDraft, OnlyIn, draft-count, draft-hulls, draft-others}
-
-pub only-in :
-    (m : List ℕ) (at n p : ℕ) (xs : List ℕ)
-    → Sized m
-    → at ≤ p
-    → p + length xs ≤ at + n
-    → OnlyIn (sets m p xs) m at n
-only-in m at n p xs h a b =
-    record {
-      size = h;
-      same-size = length-sets m p xs ∙ h;
-      outside = λ k o. word-outside m p xs k (λ x y. o (omega arith) (omega arith));
-    }
+use Rattle.memory.proofs.Parts.{Outside, word-outside, word-first, part-after}
+use Rattle.memory.proofs.Slots.{SameHull, SameDraft, Leaves, leaves, kept-hull, kept-draft}
 
 -- ---- hull h's slot laid anew: its number n, its sheet s
 
 pub record Laid (m : List ℕ) (h n : ℕ) (s : List ℕ) : Type 0 where
-  pub only : OnlyIn (sets m (hullAt h) (hullSlot n s)) m (hullAt h) hullWords
+  pub rest : Leaves (sets m (hullAt h) (hullSlot n s)) m (Outside (hullAt h) hullWords)
   pub number : edit (sets m (hullAt h) (hullSlot n s)) h ≡ n
   pub sheet : hullSheet (sets m (hullAt h) (hullSlot n s)) h ≡ s
 
 pub hull-laid : (m : List ℕ) (h n : ℕ) (s : List ℕ) → Sized m → h < mostHulls → length s ≡ sheetWords → Laid m h n s
 hull-laid m h n s k l e =
     record {
-      only = only-in m (hullAt h) hullWords (hullAt h) (hullSlot n s) k (omega arith) (omega arith);
+      rest = rw e at (leaves m (hullAt h) (hullSlot n s) k);
       number = word-first m (hullAt h) n s (omega arith);
       sheet = part-after m (hullAt h) (n ∷ []) s (hullSheetAt h) (omega arith) e (omega arith);
     }
@@ -56,8 +43,13 @@ pub but-desk :
     → p + length xs ≤ draftAt d + draftWords
     → ButDesk (sets m p xs) m d
 but-desk m d p xs h l a b =
-    let w = only-in m (draftAt d) draftWords p xs h a b in
-    record { size = w .same-size; counts = draft-count l w; hulls = draft-hulls l w; others = draft-others l w }
+    let w = leaves m p xs h in
+    record {
+      size = w .same-size;
+      counts = w .word countAt (λ x y. omega arith);
+      hulls = λ (i : ℕ) (k : i < mostHulls). kept-hull w i k (λ j u v x y. omega arith);
+      others = λ (e : ℕ) (k : e < desks) (n : e ≡ d → ⊥). kept-draft w e k (λ j u v x y. n (omega arith));
+    }
 
 -- desk d's draft has the sheet s, and all else is as it was
 pub record SheetChanges (o m : List ℕ) (d : ℕ) (s : List ℕ) : Type 0 where

@@ -2,6 +2,7 @@
 use mathlib.Core.Path.{_≡_, refl, sym, ap, _∙_}
 use mathlib.Core.List.{List, [], _∷_, _++_, append-assoc}
 use Prim.Native.Nat.{ℕ, zero, suc, _+_, _≤_, _<_}
+use native.Mathlib.Nat.{add-zero}
 use native.Mathlib.Numerals.{add-one}
 use native.Mathlib.Omega.{arith}
 use lib.ListN.{length, getD, set, take, drop, replicate, length-drop, List·getD-append}
@@ -62,14 +63,18 @@ part-after m at ws xs p e q h =
     rw (e, sets-append m at ws xs) (part-written (sets m at ws) (at + length ws) xs q (omega arith))
 
 -- a word before a write may be set before it or after it
-pub set-before :
-    (l : List ℕ) (at : ℕ) (xs : List ℕ) (k v : ℕ)
-    → k < at
-    → set (sets l at xs) k v ≡ sets (set l k v) at xs
+set-before : (l : List ℕ) (at : ℕ) (xs : List ℕ) (k v : ℕ) → k < at → set (sets l at xs) k v ≡ sets (set l k v) at xs
 set-before l at [] k v h = refl
 set-before l at (x ∷ xs) k v h =
     set-before (set l at x) (suc at) xs k v (omega arith)
     ∙ ap (λ (m : List ℕ). sets m (suc at) xs) (set-comm l at k x v (λ e. omega arith))
+
+-- and so may the words that come to stand just before it
+pub sets-before : (l : List ℕ) (a : ℕ) (ws xs : List ℕ) → sets (sets l (a + length ws) xs) a ws ≡ sets l a (ws ++ xs)
+sets-before m at [] xs = rw (add-zero at) refl
+sets-before m at (w ∷ ws) xs =
+    let n : at + suc (length ws) ≡ suc at + length ws = omega arith in
+    rw (set-before m (at + suc (length ws)) xs at w (omega arith), n) (sets-before (set m at w) (suc at) ws xs)
 
 -- ---- parts
 

@@ -1,4 +1,4 @@
--- What the code asks before it reads or changes a slot: a memory of the right size, a slot that it has, a sheet's words.
+-- What the code asks before it reads or changes a slot: a memory of the right size, a slot that it has, a whole sheet.
 use mathlib.Core.Path.{_≡_}
 use mathlib.Core.Logic.{_⊎_}
 use mathlib.Core.List.{List}

@@ -14,7 +14,8 @@ is-formed-requires c κs = search needs
 returns : tie.Need-returns
 returns c =
     let start = c .before .before .before .before in
-    desk-high (start .args .mem .now) (start .args .desk) (sym (c .before .before .is-formed .ensures) ∙ c .before .if1 .taken) (c .if2 .taken)
+    let ok = sym (c .before .before .is-formed .ensures) ∙ c .before .if1 .taken in
+    desk-high (start .args .mem .now) (start .args .desk) ok (c .if2 .taken)
 
 held-requires : tie.Need-held-requires
 held-requires c κs =

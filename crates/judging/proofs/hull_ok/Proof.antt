@@ -11,7 +11,8 @@ use Rattle.judging.proofs.hull_ok.Tie as tie
 words-ok-requires : tie.Need-words-ok-requires
 words-ok-requires c κs =
     let start = c .before .before .before .before in
-    ap length (c .hull-sheet .ensures) ∙ hull-long (start .args .mem .now) (start .args .hull) (start .pre .size) (start .pre .hull)
+    ap length (c .hull-sheet .ensures)
+    ∙ hull-long (start .args .mem .now) (start .args .hull) (start .pre .size) (start .pre .hull)
 
 returns : tie.Need-returns
 unfolding hullOk

@@ -17,10 +17,13 @@ abbrev μ-loop : tie.MeasureT-loop
 
 loop-again : tie.Need-loop-again Inv-loop μ-loop
 loop-again c =
-    (omega arith, each-more _ _ (c .before .before .before .loop .inv .1) (sym (c .before .hull-ok .ensures) ∙ c .if1 .taken))
+    let held = sym (c .before .hull-ok .ensures) ∙ c .if1 .taken in
+    (omega arith, each-more _ _ (c .before .before .before .loop .inv .1) held)
 
 returns : tie.Need-returns Inv-loop μ-loop
-returns c = sym (each-fails _ _ _ (c .before .before .loop-test .taken) (sym (c .before .hull-ok .ensures) ∙ c .if1 .left))
+returns c =
+    let failed = sym (c .before .hull-ok .ensures) ∙ c .if1 .left in
+    sym (each-fails _ _ _ (c .before .before .loop-test .taken) failed)
 
 returns-2 : tie.Need-returns-2 Inv-loop μ-loop
 returns-2 c = let l = c .before .loop in sym (each-whole _ _ (l .i) (l .inv .0) (c .loop-test .left) (l .inv .1))

@@ -21,7 +21,9 @@ loop-again c =
     (omega arith, simp length-set (inv .1), rw (inv .2) (fill-more (c .before .loop .i) 0 _ (omega arith)))
 
 returns : tie.Need-returns Inv-loop μ-loop
-returns c = c .before .loop .inv .2 ∙ cleared-whole _ (c .before .loop .i) (omega arith) (omega arith)
+returns c =
+    let whole : c .before .loop .i ≡ length (c .before .before .args .mem .now) = omega arith in
+    c .before .loop .inv .2 ∙ cleared-whole _ whole
 
 pub clear-spec : {M : Type 1} → statement M
 clear-spec =

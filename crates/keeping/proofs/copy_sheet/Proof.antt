@@ -23,7 +23,8 @@ loop-holds c = (omega arith, refl, refl)
 loop-again : tie.Need-loop-again Inv-loop μ-loop
 loop-again c =
     let inv = c .before .before .loop .inv in
-    (omega arith, simp length-set (inv .1), copied-more _ _ _ (c .before .before .before .pre) _ (c .before .loop-test .taken) (inv .2))
+    let copied = copied-more _ _ _ (c .before .before .before .pre) _ (c .before .loop-test .taken) (inv .2) in
+    (omega arith, simp length-set (inv .1), copied)
 
 same-length : tie.Need-same-length Inv-loop μ-loop
 same-length c = c .before .loop .inv .1

@@ -10,4 +10,10 @@ returns c = simp add-sub-cancel-left
 pub sheet-at-spec : {M : Type 1} → statement M
 sheet-at-spec =
     tie.close
-    (tie.spec (λ c. search needs) (λ c. search needs) (λ c. search needs) (λ c. search needs) (λ c. search needs) returns)
+    (tie.spec
+    (λ c. search needs)
+    (λ c. search needs)
+    (λ c. search needs)
+    (λ c. search needs)
+    (λ c. search needs)
+    returns)
