@@ -3,7 +3,7 @@ use mathlib.Core.Path.{_≡_, _∙_}
 use mathlib.Core.List.{List, [], _∷_}
 use Prim.Native.Nat.{ℕ, _+_, _≤_, _<_}
 use native.Mathlib.Omega.{arith}
-use lib.ListN.{length, getD, set, replicate, length-replicate}
+use lib.ListN.{length, getD, set, length-replicate}
 use lib.Seq.{sets, getD-set-same}
 use Rattle.sheet.specs.Places.{sheetWords, fittingWord}
 use Rattle.sheet.specs.Lines.{fittings}

@@ -6,9 +6,9 @@ use native.Mathlib.Omega.{arith}
 use lib.ListN.{length, getD}
 use lib.Seq.{sets, length-sets}
 use Rattle.sheet.specs.Places.{sheetWords}
-use Rattle.memory.specs.Layout.{mostHulls, desks, hullWords, draftWords, registerWords, Sized, countAt, hullAt}
+use Rattle.memory.specs.Layout.{mostHulls, desks, hullWords, draftWords, registerWords, Sized, hullAt}
 use Rattle.memory.specs.Layout.{editAt, hullSheetAt, draftAt, heldAt, draftHullAt, openingAt, draftSheetAt}
-use Rattle.memory.specs.Layout.{part, hullCount, edit, hullSheet, held, draftHull, opening, draftSheet}
+use Rattle.memory.specs.Layout.{part, edit, hullSheet, held, draftHull, opening, draftSheet}
 use Rattle.memory.proofs.Parts.{Outside, word-outside, part-length, part-same}
 
 -- a sheet in the memory has all of its words

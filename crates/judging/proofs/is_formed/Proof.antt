@@ -1,5 +1,4 @@
 -- `is_formed` meets its contract.
-use mathlib.Core.Path.{refl, sym, _∙_}
 use mathlib.Core.Bool.{and-true, and-false}
 use borrow.Author.Tests.{eq-eqb, ne-eqb, le-leb, lt-leb}
 use Rattle.memory.specs.Formed.{formed}
