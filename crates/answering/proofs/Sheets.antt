@@ -2,7 +2,7 @@
 use mathlib.Core.Path.{_≡_, sym, ap, _∙_}
 use mathlib.Core.Bool.{true}
 use mathlib.Core.List.{List, [], _∷_, _++_, append-nil}
-use Prim.Native.Nat.{ℕ, _+_, _-_, _≤_, _<_}
+use Prim.Native.Nat.{ℕ, _-_}
 use native.Mathlib.Omega.{arith}
 use lib.ListN.{length, take, drop, replicate, length-drop}
 use lib.Seq.{take-all}
@@ -16,7 +16,8 @@ use Rattle.answers.specs.Settled.{Settled}
 use Rattle.sheet.specs.Calls.{writeAnswer, writeInto}
 use Rattle.ground.specs.Lists.{putFirst}
 use Rattle.sheet.proofs.Whole.{sheet-count, sheet-stored}
-use Rattle.memory.specs.Layout.{mostHulls, desks, hullAt, draftAt, hullSheet, draftSheet}
+use Rattle.memory.specs.Layout.{hullSheet, draftSheet}
+use Rattle.memory.specs.Asked.{AtHull, AtDesk}
 use Rattle.memory.proofs.Sound.{sound}
 use Rattle.register.specs.Refusals.{hullRefusal, deskRefusal, sheetOf}
 use Rattle.register.specs.Hulls.{hullWritten, hullWrittenInto}
@@ -25,19 +26,14 @@ use Rattle.answering.proofs.Settling.{accepted}
 
 -- ---- a hull's sheet, and a draft's, where nothing refuses the call
 
-module _ (m : List ℕ) (h : ℕ) (z : hullRefusal m h ≡ 0) where
-  pub hull-low : h < mostHulls
-  hull-low = let g = hull-goes m h z in omega (arith, sound m (g .ok) .few, g .entered)
+pub at-hull : {m : List ℕ} {h : ℕ} → hullRefusal m h ≡ 0 → AtHull m h
+at-hull {m} {h} z =
+    let g = hull-goes m h z in
+    let s = sound m (g .ok) in
+    record { size = s .size; hull = omega (arith, s .few, g .entered) }
 
-  pub hull-in : hullAt h + 1 + sheetWords ≤ length m
-  hull-in = omega (arith, sound m (hull-goes m h z .ok) .size, hull-low)
-
-module _ (m : List ℕ) (d : ℕ) (z : deskRefusal m d ≡ 0) where
-  pub desk-low : d < desks
-  desk-low = desk-goes m d z .desk
-
-  pub draft-in : draftAt d + 3 + sheetWords ≤ length m
-  draft-in = omega (arith, sound m (desk-goes m d z .ok) .size, desk-low)
+pub at-desk : {m : List ℕ} {d : ℕ} → deskRefusal m d ≡ 0 → AtDesk m d
+at-desk {m} {d} z = let g = desk-goes m d z in record { size = sound m (g .ok) .size; desk = g .desk }
 
 -- what the plates ask of it, by the refusal that the code has found
 pub hull-ok : (m : List ℕ) (h : ℕ) {s : List ℕ} {f : ℕ} → f ≡ hullRefusal m h → f ≡ 0 → s ≡ hullSheet m h → wordsOk s ≡ true

@@ -11,6 +11,7 @@ ghost use Rattle.register.specs.Hulls.{freshAnswer, freshMemory, roomRefusal, n
 ghost use Rattle.register.specs.Drafts.{openRefusal, openAnswer, openMemory, putRefusal, putAnswer, putMemory, takeRefusal, takeAnswer, takeMemory, replaceAnswer, replaceMemory, trial, saveRefusal, saveAnswer, saveMemory, dropAnswer, dropMemory};
 use answers::Answer;
 use answers::OUTSIDE_LIMITS;
+use memory::COUNT;
 use memory::DESKS;
 use memory::MOST_EDITS;
 use memory::MOST_HULLS;
@@ -44,7 +45,7 @@ fn hull_refusal(mem: &[u32], hull: u32) -> u32
     ensures { λ r. ⌜ r ≡ hullRefusal (now (mem .entry)) hull ⌝ }
 {
     if judging::is_formed(mem) {
-        if hull < mem[0] { 0 } else { NO_HULL }
+        if hull < mem[COUNT] { 0 } else { NO_HULL }
     } else {
         BAD_MEMORY
     }
@@ -59,8 +60,11 @@ fn desk_refusal(mem: &[u32], desk: u32) -> u32
         if DESKS <= d {
             return NO_DESK;
         }
-        let at = keeping::draft_at(d);
-        if mem[at] == 0 { NO_DRAFT } else { 0 }
+        if keeping::held(mem, d) == 0 {
+            NO_DRAFT
+        } else {
+            0
+        }
     } else {
         BAD_MEMORY
     }
@@ -73,7 +77,7 @@ fn hull_sheet(mem: &[u32], hull: u32) -> &[u32]
     requires { ⌜ hullRefusal (now mem) hull ≡ 0 ⌝ }
     ensures { λ r. ⌜ now r ≡ hullSheet (now (mem .entry)) hull ⌝ }
 {
-    keeping::sheet_at(mem, keeping::hull_at(hull as usize) + 1)
+    keeping::hull_sheet(mem, hull as usize)
 }
 
 // The sheet of a desk's draft, still the caller's own words.
@@ -81,7 +85,7 @@ fn draft_sheet(mem: &[u32], desk: u32) -> &[u32]
     requires { ⌜ deskRefusal (now mem) desk ≡ 0 ⌝ }
     ensures { λ r. ⌜ now r ≡ draftSheet (now (mem .entry)) desk ⌝ }
 {
-    keeping::sheet_at(mem, keeping::draft_at(desk as usize) + 3)
+    keeping::draft_sheet(mem, desk as usize)
 }
 
 // ---- hulls
@@ -102,7 +106,7 @@ fn room_refusal(mem: &[u32]) -> u32
     ensures { λ r. ⌜ r ≡ roomRefusal (now (mem .entry)) ⌝ }
 {
     if judging::is_formed(mem) {
-        if keeping::number_at(mem, 0) < MOST_HULLS {
+        if keeping::hull_count(mem) < MOST_HULLS {
             0
         } else {
             FULL
@@ -193,7 +197,7 @@ fn open_refusal(mem: &[u32], desk: u32, hull: u32) -> u32
         if DESKS <= desk as usize {
             return NO_DESK;
         }
-        if mem[0] <= hull {
+        if mem[COUNT] <= hull {
             return NO_HULL;
         }
         0
@@ -340,12 +344,12 @@ fn save_refusal(mem: &[u32], desk: u32) -> u32
     if refusal != 0 {
         return refusal;
     }
-    let draft = keeping::draft_at(desk as usize);
-    let edits = keeping::hull_at(keeping::number_at(mem, draft + 1));
-    if mem[edits] != mem[draft + 2] {
+    let d = desk as usize;
+    let edits = keeping::edit(mem, keeping::draft_hull(mem, d));
+    if edits != keeping::opening(mem, d) {
         return EDITED_SINCE;
     }
-    if mem[edits] == MOST_EDITS {
+    if edits == MOST_EDITS {
         return EDITS_SPENT;
     }
     0

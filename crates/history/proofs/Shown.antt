@@ -8,7 +8,7 @@ use mathlib.Core.List.{List}
 use mathlib.Core.Option.{Option, none, some}
 use lib.Dec.{eqb}
 use borrow.Author.Tests.{eqb-true, eqb-false}
-use Rattle.memory.specs.Layout.{mostHulls, desks, hullAt, draftAt, hullCount, edit, hullSheet, held, draftHull, opening, draftSheet}
+use Rattle.memory.specs.Layout.{mostHulls, desks, editAt, heldAt, hullCount, edit, hullSheet, held, draftHull, opening, draftSheet}
 use Rattle.memory.specs.Formed.{formed}
 use Rattle.memory.specs.Updates.{freshWords}
 use Rattle.memory.proofs.Sound.{sound, held-draft}
@@ -40,9 +40,9 @@ fresh-shows =
     record {
       ok = fresh-formed;
       counts = zeros 0;
-      numbers = λ h l. zeros (hullAt h);
+      numbers = λ h l. zeros (editAt h);
       sheets = λ h l. refl;
-      drafts = λ d l. rw (zeros (draftAt d));
+      drafts = λ d l. rw (zeros (heldAt d));
     }
 
 -- ---- a desk's slot

@@ -15,13 +15,13 @@ use Rattle.ground.proofs.Booleans.{both-hold}
 use Rattle.answers.specs.declared.Answer.{Answer}
 use Rattle.answers.specs.declared.Answer.the-variants.{Refused, Done, Count, Plate}
 use Rattle.sheet.specs.Lines.{fittings}
-use Rattle.sheet.specs.Places.{sheetWords}
+use Rattle.sheet.specs.Places.{sheetWords, fittingWord}
 use Rattle.sheet.specs.Reading.{readSheet}
-use Rattle.memory.specs.Layout.{draftAt, fittingAt, draftSheet}
+use Rattle.memory.specs.Layout.{draftSheetAt, fittingAt, draftSheet}
 use Rattle.memory.specs.Formed.{formed}
 use Rattle.memory.proofs.Parts.{part-word}
 use Rattle.memory.proofs.Sound.{sound}
-use Rattle.memory.proofs.Changes.{SheetChanges}
+use Rattle.memory.proofs.OneSlot.{SheetChanges}
 use Rattle.register.specs.Refusals.{deskRefusal, orRefused, onText}
 use Rattle.register.specs.Drafts.{putRefusal, putAnswer, takeOwn, takeRefusal, takeAnswer, replaceAnswer}
 use Rattle.register.proofs.Keeps.{put-keeps, take-keeps, replace-keeps}
@@ -98,8 +98,8 @@ take-same : (m : List ℕ) (d line : ℕ) → takeOwn m d line ≡ takeFrom (dra
 take-same m d line = go (leb 1 line && leb line fittings) refl
   where
     go : (t : Bool) → (leb 1 line && leb line fittings) ≡ t
-        → _≡_ {A = ℕ} (cond t (cond (eqb (getD m (fittingAt d line) 0) 0) 17 0) 3) (cond t (cond (eqb (getD (draftSheet m d) (43 + line) 0) 0) 17 0) 3)
-    go true e = let a = both-hold (leb 1 line) (leb line fittings) e in rw (part-word m (draftAt d + 3) sheetWords (43 + line) (omega (arith, leb-true line fittings (a .1)))) refl
+        → _≡_ {A = ℕ} (cond t (cond (eqb (getD m (fittingAt d line) 0) 0) 17 0) 3) (cond t (cond (eqb (getD (draftSheet m d) (fittingWord line) 0) 0) 17 0) 3)
+    go true e = let a = both-hold (leb 1 line) (leb line fittings) e in rw (part-word m (draftSheetAt d) sheetWords (fittingWord line) (omega (arith, leb-true line fittings (a .1)))) refl
     go false e = refl
 
 work-replies : (m : List ℕ) (d : ℕ) (w : Work) → deskRefusal m d ≡ 0 → workReply m d w ≡ workSays w (draftSheet m d)

@@ -1,40 +1,30 @@
-// The register's memory, lent as words: where things stand and the changes that calls make. Callers see first that it is well formed (crate judging).
+// The register's memory, lent as words: the words of each slot by name, and the changes that calls make. Callers see
+// first that it is well formed (crate judging).
 ghost use mathlib.Core.Path.{_≡_};
-ghost use mathlib.Core.Logic.{_⊎_};
 ghost use Prim.Native.Nat.{_+_, _≤_, _<_};
 ghost use lib.ListN.{length, getD, replicate};
 ghost use lib.Seq.{sets};
 ghost use Rattle.sheet.specs.Places.{sheetWords};
-ghost use Rattle.memory.specs.Layout.{mostHulls, desks, registerWords, hullAt, draftAt, part, hullCount, edit, draftHull, fittingAt};
-ghost use Rattle.memory.specs.Formed.{mostEdits};
+ghost use Rattle.memory.specs.Layout.{Sized, part, hullCount, edit, hullSheet};
+ghost use Rattle.memory.specs.Layout.{held, draftHull, opening, draftSheet, fitting};
+ghost use Rattle.memory.specs.Asked.{AtHull, AtDesk, AtLine, ToEnter, ToOpen, ToReplace, ToSave, ToLay, ToCopy};
 ghost use Rattle.memory.specs.Updates.{entered, opened, fitted, replaced, dropped, saved};
+use memory::COUNT;
+use memory::DRAFT_HULL;
+use memory::DRAFT_SHEET;
 use memory::DRAFT_WORDS;
-use memory::DRAFTS;
-use memory::FITTINGS_BEFORE;
+use memory::EDIT;
+use memory::HELD;
+use memory::HULL_SHEET;
 use memory::HULL_WORDS;
-use memory::HULLS;
+use memory::OPENING;
 use sheet::SHEET_WORDS;
+use sheet::TESTED;
 
-// ---- places
-
-// Where a hull starts: its edit number, and then its sheet.
-pub fn hull_at(hull: usize) -> usize
-    requires { ⌜ hull ≤ mostHulls ⌝ }
-    ensures { λ r. ⌜ r ≡ hullAt hull ⌝ }
-{
-    HULLS + HULL_WORDS * hull
-}
-
-// Where a desk starts: whether it holds a draft, its hull, the hull's edit number at the open, and then the sheet.
-pub fn draft_at(desk: usize) -> usize
-    requires { ⌜ desk ≤ desks ⌝ }
-    ensures { λ r. ⌜ r ≡ draftAt desk ⌝ }
-{
-    DRAFTS + DRAFT_WORDS * desk
-}
+// ---- the words of each slot
 
 // A word as a number to index by.
-pub fn number_at(mem: &[u32], at: usize) -> usize
+fn number_at(mem: &[u32], at: usize) -> usize
     requires { ⌜ at < length (now mem) ⌝ }
     ensures { λ r. ⌜ r ≡ getD (now (mem .entry)) at 0 ⌝ }
 {
@@ -42,7 +32,7 @@ pub fn number_at(mem: &[u32], at: usize) -> usize
 }
 
 // The sheet that starts at a place, still the caller's own words.
-pub fn sheet_at(mem: &[u32], at: usize) -> &[u32]
+fn sheet_at(mem: &[u32], at: usize) -> &[u32]
     requires { ⌜ at + sheetWords ≤ length (now mem) ⌝ }
     ensures { λ r. ⌜ now r ≡ part (now (mem .entry)) at sheetWords ⌝ }
 {
@@ -50,21 +40,68 @@ pub fn sheet_at(mem: &[u32], at: usize) -> &[u32]
     &mem[at..end]
 }
 
-// The place of the weight on a fitting line of a desk's draft.
-fn fitting_at(desk: usize, line: usize) -> usize
-    requires { ⌜ (desk < desks) × (line ≤ 24) ⌝ }
-    ensures { λ r. ⌜ r ≡ fittingAt desk line ⌝ }
+// How many hulls are entered.
+pub fn hull_count(mem: &[u32]) -> usize
+    requires { ⌜ Sized (now mem) ⌝ }
+    ensures { λ r. ⌜ r ≡ hullCount (now (mem .entry)) ⌝ }
 {
-    draft_at(desk) + 3 + (FITTINGS_BEFORE + line)
+    number_at(mem, COUNT)
+}
+
+// A hull's edit number.
+pub fn edit(mem: &[u32], hull: usize) -> u32
+    requires { ⌜ AtHull (now mem) hull ⌝ }
+    ensures { λ r. ⌜ r ≡ edit (now (mem .entry)) hull ⌝ }
+{
+    mem[EDIT + HULL_WORDS * hull]
+}
+
+// A hull's sheet, still the caller's own words.
+pub fn hull_sheet(mem: &[u32], hull: usize) -> &[u32]
+    requires { ⌜ AtHull (now mem) hull ⌝ }
+    ensures { λ r. ⌜ now r ≡ hullSheet (now (mem .entry)) hull ⌝ }
+{
+    sheet_at(mem, HULL_SHEET + HULL_WORDS * hull)
+}
+
+// A desk's mark: 1 if it holds a draft, and 0 if not.
+pub fn held(mem: &[u32], desk: usize) -> u32
+    requires { ⌜ AtDesk (now mem) desk ⌝ }
+    ensures { λ r. ⌜ r ≡ held (now (mem .entry)) desk ⌝ }
+{
+    mem[HELD + DRAFT_WORDS * desk]
+}
+
+// The hull of a desk's draft.
+pub fn draft_hull(mem: &[u32], desk: usize) -> usize
+    requires { ⌜ AtDesk (now mem) desk ⌝ }
+    ensures { λ r. ⌜ r ≡ draftHull (now (mem .entry)) desk ⌝ }
+{
+    number_at(mem, DRAFT_HULL + DRAFT_WORDS * desk)
+}
+
+// The edit number that the hull of a desk's draft had at the open.
+pub fn opening(mem: &[u32], desk: usize) -> u32
+    requires { ⌜ AtDesk (now mem) desk ⌝ }
+    ensures { λ r. ⌜ r ≡ opening (now (mem .entry)) desk ⌝ }
+{
+    mem[OPENING + DRAFT_WORDS * desk]
+}
+
+// The sheet of a desk's draft, still the caller's own words.
+pub fn draft_sheet(mem: &[u32], desk: usize) -> &[u32]
+    requires { ⌜ AtDesk (now mem) desk ⌝ }
+    ensures { λ r. ⌜ now r ≡ draftSheet (now (mem .entry)) desk ⌝ }
+{
+    sheet_at(mem, DRAFT_SHEET + DRAFT_WORDS * desk)
 }
 
 // The weight on a fitting line of a desk's draft, 0 for an empty line.
 pub fn fitting(mem: &[u32], desk: usize, line: usize) -> u32
-    requires { ⌜ (length (now mem) ≡ registerWords) × (desk < desks) × (line ≤ 24) ⌝ }
-    ensures { λ r. ⌜ r ≡ getD (now (mem .entry)) (fittingAt desk line) 0 ⌝ }
+    requires { ⌜ AtLine (now mem) desk line ⌝ }
+    ensures { λ r. ⌜ r ≡ fitting (now (mem .entry)) desk line ⌝ }
 {
-    let at = fitting_at(desk, line);
-    mem[at]
+    mem[DRAFT_SHEET + DRAFT_WORDS * desk + (TESTED + line)]
 }
 
 // ---- the changes
@@ -82,7 +119,7 @@ pub fn clear(mem: &mut [u32])
 
 // Copies the sheet from one place to another that it does not overlap.
 fn copy_sheet(mem: &mut [u32], from: usize, to: usize)
-    requires { ⌜ (from + sheetWords ≤ length (now mem)) × (to + sheetWords ≤ length (now mem)) × ((to + sheetWords ≤ from) ⊎ (from + sheetWords ≤ to)) ⌝ }
+    requires { ⌜ ToCopy (now mem) from to ⌝ }
     ensures { λ _. ⌜ now (mem .exit) ≡ sets (now (mem .entry)) to (part (now (mem .entry)) from sheetWords) ⌝ }
 {
     let mut i = 0;
@@ -94,7 +131,7 @@ fn copy_sheet(mem: &mut [u32], from: usize, to: usize)
 
 // Lays a sheet from a place on.
 fn lay_sheet(mem: &mut [u32], at: usize, sheet: &[u32])
-    requires { ⌜ (at + sheetWords ≤ length (now mem)) × (length (now sheet) ≡ sheetWords) ⌝ }
+    requires { ⌜ ToLay (now mem) at (now sheet) ⌝ }
     ensures { λ _. ⌜ now (mem .exit) ≡ sets (now (mem .entry)) at (now (sheet .entry)) ⌝ }
 {
     ground::copy_numbers(sheet, &mut mem[at..]);
@@ -102,69 +139,69 @@ fn lay_sheet(mem: &mut [u32], at: usize, sheet: &[u32])
 
 // Enters a new hull, with edit number 0, and answers its number.
 pub fn enter_hull(mem: &mut [u32], sheet: &[u32]) -> u32
-    requires { ⌜ (length (now mem) ≡ registerWords) × (hullCount (now mem) < mostHulls) × (length (now sheet) ≡ sheetWords) ⌝ }
-    ensures { λ r. ⌜ (r ≡ hullCount (now (mem .entry))) × (now (mem .exit) ≡ entered (now (mem .entry)) (now (sheet .entry))) ⌝ }
+    requires { ⌜ ToEnter (now mem) (now sheet) ⌝ }
+    ensures { λ r. ⌜ r ≡ hullCount (now (mem .entry)) ⌝ }
+    ensures { λ _. ⌜ now (mem .exit) ≡ entered (now (mem .entry)) (now (sheet .entry)) ⌝ }
 {
-    let hull = mem[0];
-    let at = hull_at(hull as usize);
-    mem[at] = 0;
-    lay_sheet(&mut mem[..], at + 1, sheet);
-    mem[0] = hull + 1;
+    let hull = mem[COUNT];
+    let slot = HULL_WORDS * hull as usize;
+    mem[EDIT + slot] = 0;
+    lay_sheet(&mut mem[..], HULL_SHEET + slot, sheet);
+    mem[COUNT] = hull + 1;
     hull
 }
 
 // Opens a hull at a desk, whose draft is then the hull's sheet, and answers the hull's edit number.
 pub fn open_draft(mem: &mut [u32], desk: usize, hull: u32) -> u32
-    requires { ⌜ (length (now mem) ≡ registerWords) × (desk < desks) × (hull < mostHulls) ⌝ }
-    ensures { λ r. ⌜ (r ≡ edit (now (mem .entry)) hull) × (now (mem .exit) ≡ opened (now (mem .entry)) desk hull) ⌝ }
+    requires { ⌜ ToOpen (now mem) desk hull ⌝ }
+    ensures { λ r. ⌜ r ≡ edit (now (mem .entry)) hull ⌝ }
+    ensures { λ _. ⌜ now (mem .exit) ≡ opened (now (mem .entry)) desk hull ⌝ }
 {
-    let at = draft_at(desk);
-    let from = hull_at(hull as usize);
-    let edits = mem[from];
-    copy_sheet(&mut mem[..], from + 1, at + 3);
-    mem[at] = 1;
-    mem[at + 1] = hull;
-    mem[at + 2] = edits;
+    let from = HULL_WORDS * hull as usize;
+    let to = DRAFT_WORDS * desk;
+    let edits = mem[EDIT + from];
+    copy_sheet(&mut mem[..], HULL_SHEET + from, DRAFT_SHEET + to);
+    mem[HELD + to] = 1;
+    mem[DRAFT_HULL + to] = hull;
+    mem[OPENING + to] = edits;
     edits
 }
 
 // Sets the weight on a fitting line of a desk's draft, 0 for an empty line.
 pub fn set_fitting(mem: &mut [u32], desk: usize, line: usize, weight: u32)
-    requires { ⌜ (length (now mem) ≡ registerWords) × (desk < desks) × (1 ≤ line) × (line ≤ 24) ⌝ }
+    requires { ⌜ AtLine (now mem) desk line ⌝ }
     ensures { λ _. ⌜ now (mem .exit) ≡ fitted (now (mem .entry)) desk line weight ⌝ }
 {
-    let at = fitting_at(desk, line);
-    mem[at] = weight;
+    mem[DRAFT_SHEET + DRAFT_WORDS * desk + (TESTED + line)] = weight;
 }
 
 // Makes a desk's draft another sheet.
 pub fn replace_sheet(mem: &mut [u32], desk: usize, sheet: &[u32])
-    requires { ⌜ (length (now mem) ≡ registerWords) × (desk < desks) × (length (now sheet) ≡ sheetWords) ⌝ }
+    requires { ⌜ ToReplace (now mem) desk (now sheet) ⌝ }
     ensures { λ _. ⌜ now (mem .exit) ≡ replaced (now (mem .entry)) desk (now (sheet .entry)) ⌝ }
 {
-    let at = draft_at(desk);
-    lay_sheet(mem, at + 3, sheet);
+    lay_sheet(mem, DRAFT_SHEET + DRAFT_WORDS * desk, sheet);
 }
 
 // Ends a desk's draft.
 pub fn drop_draft(mem: &mut [u32], desk: usize)
-    requires { ⌜ (length (now mem) ≡ registerWords) × (desk < desks) ⌝ }
+    requires { ⌜ AtDesk (now mem) desk ⌝ }
     ensures { λ _. ⌜ now (mem .exit) ≡ dropped (now (mem .entry)) desk ⌝ }
 {
-    let held = draft_at(desk);
-    mem[held] = 0;
+    mem[HELD + DRAFT_WORDS * desk] = 0;
 }
 
 // Saves a desk's draft as its hull's sheet and ends it; answers the hull's edit number, which is one more.
 pub fn save_draft(mem: &mut [u32], desk: usize) -> u32
-    requires { ⌜ (length (now mem) ≡ registerWords) × (desk < desks) × (draftHull (now mem) desk < mostHulls) × (edit (now mem) (draftHull (now mem) desk) < mostEdits) ⌝ }
-    ensures { λ r. ⌜ (r ≡ edit (now (mem .entry)) (draftHull (now (mem .entry)) desk) + 1) × (now (mem .exit) ≡ saved (now (mem .entry)) desk) ⌝ }
+    requires { ⌜ ToSave (now mem) desk ⌝ }
+    ensures { λ r. ⌜ r ≡ edit (now (mem .entry)) (draftHull (now (mem .entry)) desk) + 1 ⌝ }
+    ensures { λ _. ⌜ now (mem .exit) ≡ saved (now (mem .entry)) desk ⌝ }
 {
-    let from = draft_at(desk);
-    let at = hull_at(number_at(&mem[..], from + 1));
-    let edits = mem[at] + 1;
-    copy_sheet(&mut mem[..], from + 3, at + 1);
-    mem[at] = edits;
-    mem[from] = 0;
+    let from = DRAFT_WORDS * desk;
+    let to = HULL_WORDS * draft_hull(&mem[..], desk);
+    let edits = mem[EDIT + to] + 1;
+    copy_sheet(&mut mem[..], DRAFT_SHEET + from, HULL_SHEET + to);
+    mem[EDIT + to] = edits;
+    mem[HELD + from] = 0;
     edits
 }

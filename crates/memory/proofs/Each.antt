@@ -1,4 +1,4 @@
--- A test of each number below n, as a loop makes it and as a reader uses it. Assumes nothing.
+-- A test of each number below n, as a loop makes it and as a reader uses it.
 use mathlib.Core.Path.{_≡_, refl, sym, ap, _∙_}
 use mathlib.Core.Bool.{Bool, true, false, _&&_, and-false}
 use mathlib.Core.Logic.{inl, inr}
@@ -33,7 +33,9 @@ module _ (f : ℕ → Bool) where
   pub each-at : (n i : ℕ) → i < n → each n f ≡ true → f i ≡ true
   unfolding each
   each-at zero i l e = absurd (omega arith)
-  each-at (suc n) i l e = elim (eq-or-lt-of-le {n = i} {m = n} (omega arith)) [ inl q ↦ ap f q ∙ both-hold (each n f) (f n) e .1 | inr h ↦ each-at n i h (both-hold (each n f) (f n) e .0) ]
+  each-at (suc n) i l e =
+      let p = both-hold (each n f) (f n) e in
+      elim (eq-or-lt-of-le {n = i} {m = n} (omega arith)) [ inl q ↦ ap f q ∙ p .1 | inr h ↦ each-at n i h (p .0) ]
 
   pub each-every : (n : ℕ) → ((i : ℕ) → i < n → f i ≡ true) → each n f ≡ true
   unfolding each

@@ -1,5 +1,5 @@
--- Memories laid out by the table of docs/REGISTER.md, apart from `Layout`: a full one at every end of its limits, and changes of it that are one beside. Computed: which of
--- them are well formed, and where each thing stands. Assumes nothing.
+-- Memories laid out by the table of docs/REGISTER.md, apart from `Layout`: a full one at every end of its limits, and
+-- changes of it that are one beside. Computed: which of them are well formed, and where each thing stands.
 use mathlib.Core.Path.{_≡_, refl}
 use mathlib.Core.Bool.{true, false}
 use mathlib.Core.List.{List, [], _∷_, _++_, map}
@@ -8,7 +8,8 @@ use lib.ListN.{set, take, replicate}
 use Rattle.text.specs.Limit.{allHold}
 use Rattle.text.proofs.Examples.{upFrom}
 use Rattle.sheet.specs.Sheet.{limitsOn, sheetLimits}
-use Rattle.memory.specs.Layout.{registerWords, hullCount, edit, hullSheet, held, draftHull, opening, draftSheet, fittingAt}
+use Rattle.memory.specs.Layout.{registerWords, fittingAt}
+use Rattle.memory.specs.Layout.{hullCount, edit, hullSheet, held, draftHull, opening, draftSheet}
 use Rattle.memory.specs.Formed.{each, hullOk, draftOk, formed}
 
 -- ---- a full register
@@ -18,7 +19,10 @@ station = 1000 ∷ replicate 6 500
 
 -- 01's printed sheet, as the register holds it
 unfoldable pub sheet : List ℕ
-sheet = 4500 ∷ 4000 ∷ 1200 ∷ 500 ∷ 0 ∷ 1 ∷ (station ++ (station ++ (station ++ (station ++ (0 ∷ 0 ∷ 0 ∷ 200000 ∷ 0 ∷ 0 ∷ 1 ∷ 20000 ∷ 5 ∷ 3 ∷ 3334 ∷ replicate 23 0)))))
+sheet =
+    4500 ∷ 4000 ∷ 1200 ∷ 500 ∷ 0 ∷ 1
+    ∷ (station ++ (station ++ (station ++ (station
+    ++ (0 ∷ 0 ∷ 0 ∷ 200000 ∷ 0 ∷ 0 ∷ 1 ∷ 20000 ∷ 5 ∷ 3 ∷ 3334 ∷ replicate 23 0)))))
 
 -- so many hulls at an edit number
 unfoldable pub hulls : ℕ → ℕ → List ℕ
@@ -56,7 +60,9 @@ formed-right = refl
 
 -- a hull: its edit number, and the first and last word of its sheet
 hulls-right :
-    map (λ (m : List ℕ). hullOk m 15) (full ∷ set full 1036 65534 ∷ set full 1036 65536 ∷ set full 1037 1999 ∷ set full 1104 500000 ∷ set full 1104 500001 ∷ [])
+    map (λ (m : List ℕ). hullOk m 15)
+    (full ∷ set full 1036 65534 ∷ set full 1036 65536 ∷ set full 1037 1999
+    ∷ set full 1104 500000 ∷ set full 1104 500001 ∷ [])
     ≡ true ∷ true ∷ false ∷ false ∷ true ∷ false ∷ []
 unfolding full sheet hulls draft idle hullOk allHold sheetLimits limitsOn
 hulls-right = refl
@@ -64,7 +70,8 @@ hulls-right = refl
 -- a desk: its mark, and of its draft the hull, the opening number, the first and last word of its sheet
 drafts-right :
     map (λ (m : List ℕ). draftOk m 7)
-    (full ∷ set full 1602 0 ∷ set full 1602 2 ∷ set full 1603 14 ∷ set full 1603 16 ∷ set full 1604 65534 ∷ set full 1604 65536 ∷ set full 1605 1999 ∷ set full 1672 500000 ∷ set full 1672 500001 ∷ [])
+    (full ∷ set full 1602 0 ∷ set full 1602 2 ∷ set full 1603 14 ∷ set full 1603 16
+    ∷ set full 1604 65534 ∷ set full 1604 65536 ∷ set full 1605 1999 ∷ set full 1672 500000 ∷ set full 1672 500001 ∷ [])
     ≡ true ∷ true ∷ false ∷ false ∷ false ∷ true ∷ false ∷ false ∷ true ∷ false ∷ []
 unfolding full sheet hulls draft idle draftOk allHold sheetLimits limitsOn
 drafts-right = refl
@@ -76,8 +83,11 @@ m = upFrom 1673 0
 
 -- the words that each getter finds in a memory of 0, 1, 2, .., and in one of none
 places-right :
-    (registerWords ∷ hullCount m ∷ edit m 0 ∷ edit m 15 ∷ held m 0 ∷ draftHull m 0 ∷ opening m 0 ∷ held m 7 ∷ draftHull m 7 ∷ opening m 7 ∷ [] ≡ 1673 ∷ 0 ∷ 1 ∷ 1036 ∷ 1105 ∷ 1106 ∷ 1107 ∷ 1602 ∷ 1603 ∷ 1604 ∷ [])
-    × (hullSheet m 0 ≡ upFrom 68 2) × (hullSheet m 15 ≡ upFrom 68 1037) × (draftSheet m 0 ≡ upFrom 68 1108) × (draftSheet m 7 ≡ upFrom 68 1605)
+    (registerWords ∷ hullCount m ∷ edit m 0 ∷ edit m 15 ∷ [] ≡ 1673 ∷ 0 ∷ 1 ∷ 1036 ∷ [])
+    × (held m 0 ∷ draftHull m 0 ∷ opening m 0 ∷ [] ≡ upFrom 3 1105)
+    × (held m 7 ∷ draftHull m 7 ∷ opening m 7 ∷ [] ≡ upFrom 3 1602)
+    × (hullSheet m 0 ∷ hullSheet m 15 ∷ [] ≡ upFrom 68 2 ∷ upFrom 68 1037 ∷ [])
+    × (draftSheet m 0 ∷ draftSheet m 7 ∷ [] ≡ upFrom 68 1108 ∷ upFrom 68 1605 ∷ [])
     × (hullCount [] ∷ edit [] 0 ∷ held [] 0 ∷ draftHull [] 0 ∷ opening [] 0 ∷ [] ≡ replicate 5 0)
     × (fittingAt 0 1 ∷ fittingAt 0 24 ∷ fittingAt 7 1 ∷ fittingAt 7 24 ∷ [] ≡ 1152 ∷ 1175 ∷ 1649 ∷ 1672 ∷ [])
 unfolding upFrom

@@ -1,43 +1,80 @@
--- Words and parts of the memory: what stands in one after a write there, and that a write elsewhere leaves a word. Assumes nothing.
+-- Words and parts of the memory: what stands in one after a write there, and that a write elsewhere leaves a word.
 use mathlib.Core.Path.{_≡_, refl, sym, ap, _∙_}
-use mathlib.Core.Logic.{_⊎_, inl, inr}
-use mathlib.Core.List.{List, [], _∷_}
+use mathlib.Core.List.{List, [], _∷_, _++_, append-assoc}
 use Prim.Native.Nat.{ℕ, zero, suc, _+_, _≤_, _<_}
 use native.Mathlib.Nat.{add-zero}
 use native.Mathlib.Numerals.{add-one}
 use native.Mathlib.Omega.{arith}
-use lib.ListN.{length, getD, set, take, drop, length-drop, length-set}
-use lib.Seq.{sets, length-sets, length-take-le, take-set-lt, drop-set-add, getD-take, getD-drop, getD-set-same, getD-set-other, set-comm, ext-getD}
+use lib.ListN.{length, getD, set, take, drop, replicate, length-drop, List·getD-append}
+use lib.Seq.{sets, sets-eq, length-sets, length-take-le, take-suc, take-at, drop-at, take-set-lt, drop-set-add}
+use lib.Seq.{getD-take, getD-drop, getD-set-same, getD-set-other, set-comm, ext-getD}
+use Rattle.ground.proofs.Stores.{sets-append, sets-snoc}
 use Rattle.memory.specs.Layout.{part}
 
--- k is outside the n words from at on
+-- k is none of the n words from at on
 abbrev pub Outside : ℕ → ℕ → ℕ → Type 0
-Outside at n k = (k < at) ⊎ (at + n ≤ k)
+Outside at n k = at ≤ k → k < at + n → ⊥
 
 -- ---- words after a write
 
-pub word-outside : (l : List ℕ) (at : ℕ) (xs : List ℕ) (k : ℕ) → Outside at (length xs) k → getD (sets l at xs) k 0 ≡ getD l k 0
+pub word-outside :
+    (l : List ℕ) (at : ℕ) (xs : List ℕ) (k : ℕ)
+    → Outside at (length xs) k
+    → getD (sets l at xs) k 0 ≡ getD l k 0
 word-outside l at [] k o = refl
-word-outside l at (x ∷ xs) k (inl h) = word-outside (set l at x) (suc at) xs k (inl (omega arith)) ∙ getD-set-other l at k x 0 (λ e. omega arith)
-word-outside l at (x ∷ xs) k (inr h) = word-outside (set l at x) (suc at) xs k (inr (omega arith)) ∙ getD-set-other l at k x 0 (λ e. omega arith)
-
-pub word-inside : (l : List ℕ) (at : ℕ) (xs : List ℕ) (j : ℕ) → at + length xs ≤ length l → j < length xs → getD (sets l at xs) (at + j) 0 ≡ getD xs j 0
-word-inside l at [] j h k = absurd (omega arith)
-word-inside l at (x ∷ xs) zero h k =
-    let z : at + 0 ≡ at = add-zero at in
-    rw z (word-outside (set l at x) (suc at) xs at (inl (omega arith)) ∙ getD-set-same l at x 0 (omega arith))
-word-inside l at (x ∷ xs) (suc j) h k =
-    let z : at + suc j ≡ suc at + j = omega arith in
-    rw z (word-inside (set l at x) (suc at) xs j (omega (arith, length-set l at x)) (omega arith))
+word-outside l at (x ∷ xs) k o =
+    word-outside (set l at x) (suc at) xs k (λ a b. o (omega arith) (omega arith))
+    ∙ getD-set-other l at k x 0 (λ e. o (omega arith) (omega arith))
 
 pub word-first : (l : List ℕ) (at x : ℕ) (xs : List ℕ) → at < length l → getD (sets l at (x ∷ xs)) at 0 ≡ x
-word-first l at x xs h = word-outside (set l at x) (suc at) xs at (inl (omega arith)) ∙ getD-set-same l at x 0 h
+word-first l at x xs h = word-outside (set l at x) (suc at) xs at (λ a b. omega arith) ∙ getD-set-same l at x 0 h
+
+module _ (l : List ℕ) (at : ℕ) (xs : List ℕ) where
+  -- from its place on: what was written, and then what stood there
+  drop-written : at + length xs ≤ length l → drop at (sets l at xs) ≡ xs ++ drop (at + length xs) l
+  drop-written h =
+      let d : List ℕ = drop (at + length xs) l in
+      rw (sets-eq xs l at h, append-assoc (take at l) xs d)
+      (drop-at (take at l) (xs ++ d) at (length-take-le at l (omega arith)))
+
+  -- word j of them, which stands at k
+  pub word-inside :
+      (j : ℕ) {k : ℕ}
+      → k ≡ at + j
+      → at + length xs ≤ length l
+      → j < length xs
+      → getD (sets l at xs) k 0 ≡ getD xs j 0
+  word-inside j q h n =
+      rw (q, ← getD-drop at (sets l at xs) j 0, drop-written h) (List·getD-append xs (drop (at + length xs) l) 0 j n)
+
+  -- a part that was written
+  pub part-written : {n : ℕ} → length xs ≡ n → at + n ≤ length l → part (sets l at xs) at n ≡ xs
+  part-written {n} q h = rw (drop-written (omega arith)) (take-at xs (drop (at + length xs) l) n q)
+
+-- and one that was written after other words
+pub part-after :
+    (m : List ℕ) (at : ℕ) (ws xs : List ℕ) (p : ℕ) {n : ℕ}
+    → p ≡ at + length ws
+    → length xs ≡ n
+    → p + n ≤ length m
+    → part (sets m at (ws ++ xs)) p n ≡ xs
+part-after m at ws xs p e q h =
+    let n = length-sets m at ws in
+    rw (e, sets-append m at ws xs) (part-written (sets m at ws) (at + length ws) xs q (omega arith))
 
 -- a word before a write may be set before it or after it
-pub set-before : (l : List ℕ) (at : ℕ) (xs : List ℕ) (k v : ℕ) → k < at → set (sets l at xs) k v ≡ sets (set l k v) at xs
+set-before : (l : List ℕ) (at : ℕ) (xs : List ℕ) (k v : ℕ) → k < at → set (sets l at xs) k v ≡ sets (set l k v) at xs
 set-before l at [] k v h = refl
 set-before l at (x ∷ xs) k v h =
-    set-before (set l at x) (suc at) xs k v (omega arith) ∙ ap (λ (m : List ℕ). sets m (suc at) xs) (set-comm l at k x v (λ e. omega arith))
+    set-before (set l at x) (suc at) xs k v (omega arith)
+    ∙ ap (λ (m : List ℕ). sets m (suc at) xs) (set-comm l at k x v (λ e. omega arith))
+
+-- and so may the words that come to stand just before it
+pub sets-before : (l : List ℕ) (a : ℕ) (ws xs : List ℕ) → sets (sets l (a + length ws) xs) a ws ≡ sets l a (ws ++ xs)
+sets-before m at [] xs = rw (add-zero at) refl
+sets-before m at (w ∷ ws) xs =
+    let n : at + suc (length ws) ≡ suc at + length ws = omega arith in
+    rw (set-before m (at + suc (length ws)) xs at w (omega arith), n) (sets-before (set m at w) (suc at) ws xs)
 
 -- ---- parts
 
@@ -47,37 +84,35 @@ part-length m at n h = length-take-le n (drop at m) (simp length-drop (omega ari
 pub part-word : (m : List ℕ) (at n j : ℕ) → j < n → getD (part m at n) j 0 ≡ getD m (at + j) 0
 part-word m at n j h = getD-take n (drop at m) j 0 h ∙ getD-drop at m j 0
 
--- two parts of the same words
-pub part-same : (m o : List ℕ) (a b n : ℕ) → a + n ≤ length m → b + n ≤ length o → ((j : ℕ) → j < n → getD m (a + j) 0 ≡ getD o (b + j) 0) → part m a n ≡ part o b n
-part-same m o a b n h k e =
-    ext-getD 0 (part m a n) (part o b n) (part-length m a n h ∙ sym (part-length o b n k))
-    (λ (i : ℕ) (l : i < length (part m a n)). let j : i < n = omega (arith, part-length m a n h) in part-word m a n i j ∙ e i j ∙ sym (part-word o b n i j))
+-- the same words at the same place in two memories
+pub part-same :
+    (o m : List ℕ) (at n : ℕ)
+    → at + n ≤ length o
+    → at + n ≤ length m
+    → ((j : ℕ) → j < n → getD o (at + j) 0 ≡ getD m (at + j) 0)
+    → part o at n ≡ part m at n
+part-same o m at n h k e =
+    let q = part-length o at n h in
+    ext-getD 0 (part o at n) (part m at n) (q ∙ sym (part-length m at n k)) (λ (j : ℕ) (l : j < length (part o at n)).
+    let i : j < n = omega arith in part-word o at n j i ∙ e j i ∙ sym (part-word m at n j i))
 
--- a part that was written
-part-written : (m : List ℕ) (at : ℕ) (xs : List ℕ) → at + length xs ≤ length m → part (sets m at xs) at (length xs) ≡ xs
-part-written m at xs h =
-    let n : at + length xs ≤ length (sets m at xs) = omega (arith, length-sets m at xs) in
-    ext-getD 0 (part (sets m at xs) at (length xs)) xs (part-length (sets m at xs) at (length xs) n)
-    (λ (i : ℕ) (l : i < length (part (sets m at xs) at (length xs))). let j : i < length xs = omega (arith, part-length (sets m at xs) at (length xs) n) in part-word (sets m at xs) at (length xs) i j ∙ word-inside m at xs i h j)
-
--- a part of what was written, and a part with one word set
-pub part-inside : (m : List ℕ) (at : ℕ) (xs : List ℕ) (a n : ℕ) → at + length xs ≤ length m → a + n ≤ length xs → part (sets m at xs) (at + a) n ≡ part xs a n
-part-inside m at xs a n h k =
-    part-same (sets m at xs) xs (at + a) a n (omega (arith, length-sets m at xs)) k
-    (λ (j : ℕ) (l : j < n). let q : at + a + j ≡ at + (a + j) = omega arith in rw q (word-inside m at xs (a + j) h (omega arith)))
-
-pub part-whole : (m : List ℕ) (at : ℕ) (xs : List ℕ) {n : ℕ} → length xs ≡ n → at + length xs ≤ length m → part (sets m at xs) at n ≡ xs
-part-whole m at xs q h = rw (← q) (part-written m at xs h)
-
+-- a part with one word set
 pub part-set : (m : List ℕ) (at n j w : ℕ) → j < n → part (set m (at + j) w) at n ≡ set (part m at n) j w
 part-set m at n j w l = ap (take n) (drop-set-add at m j w) ∙ take-set-lt n (drop at m) j w l
 
 -- ---- a write word by word, of the words of a part
 
-write-next : (m xs : List ℕ) (at i : ℕ) → i < length xs → set (sets m at (take i xs)) (at + i) (getD xs i 0) ≡ sets m at (take (suc i) xs)
-write-next m [] at i h = absurd (omega arith)
-write-next m (x ∷ xs) at zero h = let z : at + 0 ≡ at = add-zero at in rw z refl
-write-next m (x ∷ xs) at (suc i) h = let z : at + suc i ≡ suc at + i = omega arith in rw z (write-next (set m at x) xs (suc at) i (omega arith))
+pub write-more :
+    (m xs : List ℕ) (at i : ℕ) {v : ℕ}
+    → i < length xs
+    → v ≡ getD xs i 0
+    → set (sets m at (take i xs)) (at + i) v ≡ sets m at (take (i + 1) xs)
+write-more m xs at i h e =
+    let n : at + i ≡ at + length (take i xs) = omega (arith, length-take-le i xs (omega arith)) in
+    rw (e, n, add-one i, take-suc xs i 0) (sets-snoc m at (take i xs) (getD xs i 0))
 
-pub write-more : (m xs : List ℕ) (at i : ℕ) {v : ℕ} → i < length xs → v ≡ getD xs i 0 → set (sets m at (take i xs)) (at + i) v ≡ sets m at (take (i + 1) xs)
-write-more m xs at i h e = rw (e, add-one i) (write-next m xs at i h)
+-- a word of zeros, or past their end
+pub zero-word : (n k : ℕ) → _≡_ {A = ℕ} (getD (replicate n 0) k 0) 0
+zero-word zero k = refl
+zero-word (suc n) zero = refl
+zero-word (suc n) (suc k) = zero-word n k

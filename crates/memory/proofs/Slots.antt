@@ -1,16 +1,22 @@
--- One law for a hull's slot and one for a desk's: a memory that differs from another only there has every other slot and the count as they were. Assumes nothing.
-use mathlib.Core.Path.{_≡_, refl}
-use mathlib.Core.Logic.{_⊎_, inl, inr}
+-- One law for a hull's slot and one for a desk's: a write that leaves its places leaves it as it was.
+use mathlib.Core.Path.{_≡_, _∙_}
 use mathlib.Core.List.{List}
-use mathlib.Core.Bool.{Bool, true, false}
 use Prim.Native.Nat.{ℕ, _+_, _≤_, _<_}
 use native.Mathlib.Omega.{arith}
-use borrow.Author.Tests.{ltb-true, ltb-false}
-use lib.Dec.{ltb}
 use lib.ListN.{length, getD}
+use lib.Seq.{sets, length-sets}
 use Rattle.sheet.specs.Places.{sheetWords}
-use Rattle.memory.specs.Layout.{mostHulls, desks, hullWords, draftWords, registerWords, hullAt, draftAt, hullCount, edit, hullSheet, held, draftHull, opening, draftSheet}
-use Rattle.memory.proofs.Parts.{Outside, part-same}
+use Rattle.memory.specs.Layout.{mostHulls, desks, hullWords, draftWords, registerWords, Sized, hullAt}
+use Rattle.memory.specs.Layout.{editAt, hullSheetAt, draftAt, heldAt, draftHullAt, openingAt, draftSheetAt}
+use Rattle.memory.specs.Layout.{part, edit, hullSheet, held, draftHull, opening, draftSheet}
+use Rattle.memory.proofs.Parts.{Outside, word-outside, part-length, part-same}
+
+-- a sheet in the memory has all of its words
+pub hull-long : (m : List ℕ) (h : ℕ) → Sized m → h < mostHulls → length (hullSheet m h) ≡ sheetWords
+hull-long m h k l = part-length m (hullSheetAt h) sheetWords (omega arith)
+
+pub draft-long : (m : List ℕ) (d : ℕ) → Sized m → d < desks → length (draftSheet m d) ≡ sheetWords
+draft-long m d k l = part-length m (draftSheetAt d) sheetWords (omega arith)
 
 -- hull i, and desk d, are in o as they were in m
 pub record SameHull (o m : List ℕ) (i : ℕ) : Type 0 where
@@ -23,73 +29,47 @@ pub record SameDraft (o m : List ℕ) (d : ℕ) : Type 0 where
   pub opened : opening o d ≡ opening m d
   pub sheet : draftSheet o d ≡ draftSheet m d
 
--- o differs from m in the n words from at on alone
-pub record OnlyIn (o m : List ℕ) (at n : ℕ) : Type 0 where
-  pub size : length m ≡ registerWords
-  pub same-size : length o ≡ registerWords
-  pub outside : (k : ℕ) → Outside at n k → getD o k 0 ≡ getD m k 0
+-- ---- a write leaves the places of P, and two writes those that both leave
 
--- ---- slots that lie outside
+pub record Leaves (o m : List ℕ) (P : ℕ → Type 0) : Type 0 where
+  pub size : Sized m
+  pub same-size : Sized o
+  pub word : (k : ℕ) → P k → getD o k 0 ≡ getD m k 0
 
-module _ {o m : List ℕ} {at n : ℕ} (w : OnlyIn o m at n) where
-  pub kept-count : 1 ≤ at → hullCount o ≡ hullCount m
-  kept-count l = w .outside 0 (inl (omega arith))
+pub leaves : (m : List ℕ) (at : ℕ) (xs : List ℕ) → Sized m → Leaves (sets m at xs) m (Outside at (length xs))
+leaves m at xs h =
+    record { size = h; same-size = length-sets m at xs ∙ h; word = λ k o. word-outside m at xs k o }
 
-  pub kept-hull : (i : ℕ) → i < mostHulls → (hullAt i + hullWords ≤ at) ⊎ (at + n ≤ hullAt i) → SameHull o m i
-  kept-hull i l (inl a) =
-      record {
-        number = w .outside (hullAt i) (inl (omega arith));
-        sheet = part-same o m (hullAt i + 1) (hullAt i + 1) sheetWords (omega (arith, w .same-size)) (omega (arith, w .size)) (λ (j : ℕ) (h : j < sheetWords). w .outside (hullAt i + 1 + j) (inl (omega arith)));
-      }
-  kept-hull i l (inr a) =
-      record {
-        number = w .outside (hullAt i) (inr (omega arith));
-        sheet = part-same o m (hullAt i + 1) (hullAt i + 1) sheetWords (omega (arith, w .same-size)) (omega (arith, w .size)) (λ (j : ℕ) (h : j < sheetWords). w .outside (hullAt i + 1 + j) (inr (omega arith)));
-      }
+pub leaves-both : {o p m : List ℕ} {P Q : ℕ → Type 0} → Leaves o p P → Leaves p m Q → Leaves o m (λ k. P k × Q k)
+leaves-both a b =
+    record { size = b .size; same-size = a .same-size; word = λ k l. a .word k (l .0) ∙ b .word k (l .1) }
 
-  pub kept-draft : (d : ℕ) → d < desks → (draftAt d + draftWords ≤ at) ⊎ (at + n ≤ draftAt d) → SameDraft o m d
-  kept-draft d l (inl a) =
+module _ {o m : List ℕ} {P : ℕ → Type 0} (w : Leaves o m P) where
+  -- it leaves the n words from a on
+  abbrev pub LeavesFrom : ℕ → ℕ → Type 0
+  LeavesFrom a n = (k : ℕ) → a ≤ k → k < a + n → P k
+
+  kept-part :
+      (a : ℕ)
+      → a + sheetWords ≤ registerWords
+      → LeavesFrom a sheetWords
+      → part o a sheetWords ≡ part m a sheetWords
+  kept-part a l b =
+      part-same o m a sheetWords (omega (arith, w .same-size)) (omega (arith, w .size))
+      (λ (j : ℕ) (h : j < sheetWords). w .word (a + j) (b (a + j) (omega arith) (omega arith)))
+
+  pub kept-hull : (i : ℕ) → i < mostHulls → LeavesFrom (hullAt i) hullWords → SameHull o m i
+  kept-hull i l b =
       record {
-        holds = w .outside (draftAt d) (inl (omega arith));
-        hull = w .outside (draftAt d + 1) (inl (omega arith));
-        opened = w .outside (draftAt d + 2) (inl (omega arith));
-        sheet = part-same o m (draftAt d + 3) (draftAt d + 3) sheetWords (omega (arith, w .same-size)) (omega (arith, w .size)) (λ (j : ℕ) (h : j < sheetWords). w .outside (draftAt d + 3 + j) (inl (omega arith)));
-      }
-  kept-draft d l (inr a) =
-      record {
-        holds = w .outside (draftAt d) (inr (omega arith));
-        hull = w .outside (draftAt d + 1) (inr (omega arith));
-        opened = w .outside (draftAt d + 2) (inr (omega arith));
-        sheet = part-same o m (draftAt d + 3) (draftAt d + 3) sheetWords (omega (arith, w .same-size)) (omega (arith, w .size)) (λ (j : ℕ) (h : j < sheetWords). w .outside (draftAt d + 3 + j) (inr (omega arith)));
+        number = w .word (editAt i) (b (editAt i) (omega arith) (omega arith));
+        sheet = kept-part (hullSheetAt i) (omega arith) (λ k x y. b k (omega arith) (omega arith));
       }
 
-apart : (i h : ℕ) → (i ≡ h → ⊥) → (i < h) ⊎ (h < i)
-apart i h n = go (ltb i h) refl
-  where
-    go : (t : Bool) → ltb i h ≡ t → (i < h) ⊎ (h < i)
-    go true e = inl (ltb-true i h e)
-    go false e = inr (omega (arith, ltb-false i h e))
-
--- ---- a write to hull h's slot
-
-module _ {o m : List ℕ} {h : ℕ} (l : h < mostHulls) (w : OnlyIn o m (hullAt h) hullWords) where
-  pub hull-count : hullCount o ≡ hullCount m
-  hull-count = kept-count w (omega arith)
-
-  pub hull-others : (i : ℕ) → i < mostHulls → (i ≡ h → ⊥) → SameHull o m i
-  hull-others i k n = elim (apart i h n) [ inl a ↦ kept-hull w i k (inl (omega arith)) | inr a ↦ kept-hull w i k (inr (omega arith)) ]
-
-  pub hull-drafts : (d : ℕ) → d < desks → SameDraft o m d
-  hull-drafts d k = kept-draft w d k (inr (omega arith))
-
--- ---- a write to desk d's slot
-
-module _ {o m : List ℕ} {d : ℕ} (l : d < desks) (w : OnlyIn o m (draftAt d) draftWords) where
-  pub draft-count : hullCount o ≡ hullCount m
-  draft-count = kept-count w (omega arith)
-
-  pub draft-hulls : (i : ℕ) → i < mostHulls → SameHull o m i
-  draft-hulls i k = kept-hull w i k (inl (omega arith))
-
-  pub draft-others : (e : ℕ) → e < desks → (e ≡ d → ⊥) → SameDraft o m e
-  draft-others e k n = elim (apart e d n) [ inl a ↦ kept-draft w e k (inl (omega arith)) | inr a ↦ kept-draft w e k (inr (omega arith)) ]
+  pub kept-draft : (d : ℕ) → d < desks → LeavesFrom (draftAt d) draftWords → SameDraft o m d
+  kept-draft d l b =
+      record {
+        holds = w .word (heldAt d) (b (heldAt d) (omega arith) (omega arith));
+        hull = w .word (draftHullAt d) (b (draftHullAt d) (omega arith) (omega arith));
+        opened = w .word (openingAt d) (b (openingAt d) (omega arith) (omega arith));
+        sheet = kept-part (draftSheetAt d) (omega arith) (λ k x y. b k (omega arith) (omega arith));
+      }

@@ -1,4 +1,4 @@
--- What a well-formed memory has, slot by slot, and that a memory that has it is well formed. Assumes nothing.
+-- What a well-formed memory has, slot by slot, and that a memory that has it is well formed.
 use mathlib.Core.Path.{_≡_, refl}
 use mathlib.Core.Bool.{Bool, true, false, _&&_}
 use mathlib.Core.Logic.{_⊎_, inl, inr}
@@ -9,7 +9,8 @@ use lib.Dec.{eqb, leb, ltb}
 use lib.ListN.{length}
 use Rattle.ground.proofs.Booleans.{both-hold}
 use Rattle.sheet.specs.Sheet.{wordsOk}
-use Rattle.memory.specs.Layout.{mostHulls, desks, registerWords, hullCount, edit, hullSheet, held, draftHull, opening, draftSheet}
+use Rattle.memory.specs.Layout.{mostHulls, desks, registerWords, Sized, Drafting}
+use Rattle.memory.specs.Layout.{hullCount, edit, hullSheet, held, draftHull, opening, draftSheet}
 use Rattle.memory.specs.Formed.{mostEdits, each, hullOk, draftOk, formed}
 use Rattle.memory.proofs.Each.{each-at, each-every}
 
@@ -26,12 +27,19 @@ pub record Draft (m : List ℕ) (d : ℕ) : Type 0 where
   pub sheet : wordsOk (draftSheet m d) ≡ true
 
 pub record Sound (m : List ℕ) : Type 0 where
-  pub size : length m ≡ registerWords
+  pub size : Sized m
   pub few : hullCount m ≤ mostHulls
   pub hulls : (i : ℕ) → i < hullCount m → Hull m i
   pub drafts : (d : ℕ) → d < desks → (held m d ≡ 0) ⊎ Draft m d
 
 -- ---- what a test that holds says of its slot
+
+four-hold : (a b c d : Bool) → (a && (b && (c && d))) ≡ true → (a ≡ true) × (b ≡ true) × (c ≡ true) × (d ≡ true)
+four-hold a b c d e =
+    let p = both-hold a (b && (c && d)) e in
+    let q = both-hold b (c && d) (p .1) in
+    let r = both-hold c d (q .1) in
+    (p .0, q .0, r .0, r .1)
 
 hull-sound : (m : List ℕ) (i : ℕ) → hullOk m i ≡ true → Hull m i
 unfolding hullOk
@@ -43,40 +51,34 @@ draft-sound : (m : List ℕ) (d : ℕ) → draftOk m d ≡ true → (held m d �
 unfolding draftOk
 draft-sound m d e = go (eqb (held m d) 0) refl
   where
-    known : Bool
-    known = ltb (draftHull m d) (hullCount m)
-
-    ordered : Bool
-    ordered = leb (opening m d) (edit m (draftHull m d))
-
     go : (t : Bool) → eqb (held m d) 0 ≡ t → (held m d ≡ 0) ⊎ Draft m d
     go true z = inl (eqb-true (held m d) 0 z)
     go false z =
-        let f : (eqb (held m d) 1 && (known && (ordered && wordsOk (draftSheet m d)))) ≡ true = rw z at e in
-        let p = both-hold (eqb (held m d) 1) (known && (ordered && wordsOk (draftSheet m d))) f in
-        let q = both-hold known (ordered && wordsOk (draftSheet m d)) (p .1) in
-        let r = both-hold ordered (wordsOk (draftSheet m d)) (q .1) in
+        let known : Bool = ltb (draftHull m d) (hullCount m) in
+        let ordered : Bool = leb (opening m d) (edit m (draftHull m d)) in
+        let p = four-hold (eqb (held m d) 1) known ordered (wordsOk (draftSheet m d)) (rw z at e) in
         inr (record {
           holds = eqb-true (held m d) 1 (p .0);
-          entered = ltb-true (draftHull m d) (hullCount m) (q .0);
-          opened = leb-true (opening m d) (edit m (draftHull m d)) (r .0);
-          sheet = r .1;
+          entered = ltb-true (draftHull m d) (hullCount m) (p .1);
+          opened = leb-true (opening m d) (edit m (draftHull m d)) (p .2);
+          sheet = p .3;
         })
 
 pub sound : (m : List ℕ) → formed m ≡ true → Sound m
 unfolding formed
 sound m e =
-    let hulls : Bool = each (hullCount m) (hullOk m) in
-    let drafts : Bool = each desks (draftOk m) in
-    let p = both-hold (eqb (length m) registerWords) (leb (hullCount m) mostHulls && (hulls && drafts)) e in
-    let q = both-hold (leb (hullCount m) mostHulls) (hulls && drafts) (p .1) in
-    let r = both-hold hulls drafts (q .1) in
+    let n : ℕ = hullCount m in
+    let p = four-hold (eqb (length m) registerWords) (leb n mostHulls) (each n (hullOk m)) (each desks (draftOk m)) e in
     record {
       size = eqb-true (length m) registerWords (p .0);
-      few = leb-true (hullCount m) mostHulls (q .0);
-      hulls = λ (i : ℕ) (l : i < hullCount m). hull-sound m i (each-at (hullOk m) (hullCount m) i l (r .0));
-      drafts = λ (d : ℕ) (l : d < desks). draft-sound m d (each-at (draftOk m) desks d l (r .1));
+      few = leb-true n mostHulls (p .1);
+      hulls = λ (i : ℕ) (l : i < n). hull-sound m i (each-at (hullOk m) n i l (p .2));
+      drafts = λ (d : ℕ) (l : d < desks). draft-sound m d (each-at (draftOk m) desks d l (p .3));
     }
+
+-- a desk that is not free holds a draft that is as it should be
+pub held-draft : (m : List ℕ) (d : ℕ) → formed m ≡ true → d < desks → Drafting m d → Draft m d
+held-draft m d e l n = elim (sound m e .drafts d l) [ inl z ↦ absurd (n z) | inr h ↦ h ]
 
 -- ---- the other way
 
@@ -88,15 +90,12 @@ draft-holds : (m : List ℕ) (d : ℕ) → (held m d ≡ 0) ⊎ Draft m d → dr
 unfolding draftOk
 draft-holds m d (inl z) = rw (eq-eqb (held m d) 0 z) refl
 draft-holds m d (inr h) =
-    rw (h .holds, lt-ltb (draftHull m d) (hullCount m) (h .entered), le-leb (opening m d) (edit m (draftHull m d)) (h .opened), h .sheet) refl
+    let i : ℕ = draftHull m d in
+    rw (h .holds, lt-ltb i (hullCount m) (h .entered), le-leb (opening m d) (edit m i) (h .opened), h .sheet) refl
 
 pub sound-formed : (m : List ℕ) → Sound m → formed m ≡ true
 unfolding formed
 sound-formed m s =
-    let hulls : each (hullCount m) (hullOk m) ≡ true = each-every (hullOk m) (hullCount m) (λ (i : ℕ) (l : i < hullCount m). hull-holds m i (s .hulls i l)) in
-    let drafts : each desks (draftOk m) ≡ true = each-every (draftOk m) desks (λ (d : ℕ) (l : d < desks). draft-holds m d (s .drafts d l)) in
+    let hulls = each-every (hullOk m) (hullCount m) (λ i l. hull-holds m i (s .hulls i l)) in
+    let drafts = each-every (draftOk m) desks (λ d l. draft-holds m d (s .drafts d l)) in
     rw (eq-eqb (length m) registerWords (s .size), le-leb (hullCount m) mostHulls (s .few), hulls, drafts) refl
-
--- a desk that is not free holds a draft that is as it should be
-pub held-draft : (m : List ℕ) (d : ℕ) → formed m ≡ true → d < desks → (held m d ≡ 0 → ⊥) → Draft m d
-held-draft m d e l n = elim (sound m e .drafts d l) [ inl z ↦ absurd (n z) | inr h ↦ h ]

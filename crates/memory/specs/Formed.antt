@@ -1,12 +1,13 @@
--- 01, Refusal 1: a memory that is well formed is not refused with it. Its size and every number in it that is in use are judged; what stands in the slots of hulls
--- not entered and of desks without a draft is free. Assumes nothing: these are definitions.
+-- 01, Refusal 1: a memory that is well formed is not refused with it. Its size and every number in it that is in use
+-- are judged; what stands in the slots of hulls not entered and of desks without a draft is free.
 use Prim.Native.Nat.{ℕ, zero, suc}
 use mathlib.Core.Bool.{Bool, true, _&&_, _||_}
 use mathlib.Core.List.{List}
 use lib.Dec.{eqb, leb, ltb}
 use lib.ListN.{length}
 use Rattle.sheet.specs.Sheet.{wordsOk}
-use Rattle.memory.specs.Layout.{mostHulls, desks, registerWords, hullCount, edit, hullSheet, held, draftHull, opening, draftSheet}
+use Rattle.memory.specs.Layout.{mostHulls, desks, registerWords}
+use Rattle.memory.specs.Layout.{hullCount, edit, hullSheet, held, draftHull, opening, draftSheet}
 
 abbrev pub mostEdits : ℕ
 mostEdits = 65535
@@ -22,7 +23,15 @@ hullOk m i = leb (edit m i) mostEdits && wordsOk (hullSheet m i)
 -- of a draft: its hull is entered, its opening number is not above the hull's, its sheet is within limits
 unfoldable pub draftOk : List ℕ → ℕ → Bool
 draftOk m d =
-    eqb (held m d) 0 || (eqb (held m d) 1 && (ltb (draftHull m d) (hullCount m) && (leb (opening m d) (edit m (draftHull m d)) && wordsOk (draftSheet m d))))
+    eqb (held m d) 0
+    || (eqb (held m d) 1
+    && (ltb (draftHull m d) (hullCount m)
+    && (leb (opening m d) (edit m (draftHull m d))
+    && wordsOk (draftSheet m d))))
 
 unfoldable pub formed : List ℕ → Bool
-formed m = eqb (length m) registerWords && (leb (hullCount m) mostHulls && (each (hullCount m) (hullOk m) && each desks (draftOk m)))
+formed m =
+    eqb (length m) registerWords
+    && (leb (hullCount m) mostHulls
+    && (each (hullCount m) (hullOk m)
+    && each desks (draftOk m)))

@@ -1,8 +1,10 @@
--- 01, What the office does: sixteen hulls at most and eight desks, each with a draft or none. What a slot of each has, and where it stands among the words of the
--- lent memory (docs/REGISTER.md). Assumes nothing: these are definitions.
-use Prim.Native.Nat.{ℕ, _+_, _*_}
-use mathlib.Core.List.{List}
-use lib.ListN.{getD, take, drop}
+-- 01, What the office does: sixteen hulls at most and eight desks, each with a draft or none. What a slot of each has,
+-- and where it stands among the words of the lent memory (docs/REGISTER.md). The one list of the memory's places: each
+-- follows from the one before.
+use mathlib.Core.Path.{_≡_}
+use Prim.Native.Nat.{ℕ, _+_, _-_, _*_}
+use mathlib.Core.List.{List, _∷_}
+use lib.ListN.{length, getD, take, drop}
 use Rattle.sheet.specs.Places.{sheetWords, fittingWord}
 
 abbrev pub mostHulls : ℕ
@@ -11,22 +13,79 @@ mostHulls = 16
 abbrev pub desks : ℕ
 desks = 8
 
--- a hull's slot: its edit number, then its sheet; after the count of hulls come the slots
+-- ---- where each word of the first slot stands: the count of hulls, then the hulls, then the desks
+
+abbrev pub countAt : ℕ
+countAt = 0
+
+-- a hull's slot: its edit number, its sheet
+abbrev firstEdit : ℕ
+firstEdit = 1 + countAt
+
+abbrev firstHullSheet : ℕ
+firstHullSheet = 1 + firstEdit
+
 abbrev pub hullWords : ℕ
-hullWords = 1 + sheetWords
+hullWords = firstHullSheet + sheetWords - firstEdit
+
+abbrev pub hullSlot : ℕ → List ℕ → List ℕ
+hullSlot number sheet = number ∷ sheet
+
+-- a desk's slot: 1 if it holds a draft and 0 if not, the draft's hull, its opening number, its sheet
+abbrev firstHeld : ℕ
+firstHeld = firstEdit + hullWords * mostHulls
+
+abbrev firstDraftHull : ℕ
+firstDraftHull = 1 + firstHeld
+
+abbrev firstOpening : ℕ
+firstOpening = 1 + firstDraftHull
+
+abbrev firstDraftSheet : ℕ
+firstDraftSheet = 1 + firstOpening
+
+abbrev pub draftWords : ℕ
+draftWords = firstDraftSheet + sheetWords - firstHeld
+
+abbrev pub draftSlot : ℕ → ℕ → List ℕ → List ℕ
+draftSlot hull number sheet = 1 ∷ hull ∷ number ∷ sheet
+
+-- ---- and of every slot, which starts with its first word
+
+abbrev pub editAt : ℕ → ℕ
+editAt i = firstEdit + hullWords * i
+
+abbrev pub hullSheetAt : ℕ → ℕ
+hullSheetAt i = firstHullSheet + hullWords * i
 
 abbrev pub hullAt : ℕ → ℕ
-hullAt i = 1 + hullWords * i
+hullAt i = editAt i
 
--- a desk's slot: 1 if it holds a draft and 0 if not, the draft's hull, its opening number, its sheet; after the hulls come the desks
-abbrev pub draftWords : ℕ
-draftWords = 3 + sheetWords
+abbrev pub heldAt : ℕ → ℕ
+heldAt d = firstHeld + draftWords * d
+
+abbrev pub draftHullAt : ℕ → ℕ
+draftHullAt d = firstDraftHull + draftWords * d
+
+abbrev pub openingAt : ℕ → ℕ
+openingAt d = firstOpening + draftWords * d
+
+abbrev pub draftSheetAt : ℕ → ℕ
+draftSheetAt d = firstDraftSheet + draftWords * d
 
 abbrev pub draftAt : ℕ → ℕ
-draftAt d = hullAt mostHulls + draftWords * d
+draftAt d = heldAt d
+
+-- the weight on a fitting line of a desk's draft
+abbrev pub fittingAt : ℕ → ℕ → ℕ
+fittingAt d line = draftSheetAt d + fittingWord line
 
 abbrev pub registerWords : ℕ
 registerWords = draftAt desks
+
+-- m has the size of a register's memory
+abbrev pub Sized : List ℕ → Type 0
+Sized m = length m ≡ registerWords
 
 -- ---- what stands there
 
@@ -34,26 +93,29 @@ abbrev pub part : List ℕ → ℕ → ℕ → List ℕ
 part m at n = take n (drop at m)
 
 abbrev pub hullCount : List ℕ → ℕ
-hullCount m = getD m 0 0
+hullCount m = getD m countAt 0
 
 abbrev pub edit : List ℕ → ℕ → ℕ
-edit m i = getD m (hullAt i) 0
+edit m i = getD m (editAt i) 0
 
 abbrev pub hullSheet : List ℕ → ℕ → List ℕ
-hullSheet m i = part m (hullAt i + 1) sheetWords
+hullSheet m i = part m (hullSheetAt i) sheetWords
 
 abbrev pub held : List ℕ → ℕ → ℕ
-held m d = getD m (draftAt d) 0
+held m d = getD m (heldAt d) 0
 
 abbrev pub draftHull : List ℕ → ℕ → ℕ
-draftHull m d = getD m (draftAt d + 1) 0
+draftHull m d = getD m (draftHullAt d) 0
 
 abbrev pub opening : List ℕ → ℕ → ℕ
-opening m d = getD m (draftAt d + 2) 0
+opening m d = getD m (openingAt d) 0
 
 abbrev pub draftSheet : List ℕ → ℕ → List ℕ
-draftSheet m d = part m (draftAt d + 3) sheetWords
+draftSheet m d = part m (draftSheetAt d) sheetWords
 
--- where the weight on a fitting line of a desk's draft stands
-abbrev pub fittingAt : ℕ → ℕ → ℕ
-fittingAt d line = draftAt d + 3 + fittingWord line
+abbrev pub fitting : List ℕ → ℕ → ℕ → ℕ
+fitting m d line = getD m (fittingAt d line) 0
+
+-- desk d holds a draft
+abbrev pub Drafting : List ℕ → ℕ → Type 0
+Drafting m d = held m d ≡ 0 → ⊥

@@ -1,4 +1,5 @@
--- The register's memory: where things stand, when it is well formed, and how the calls change it.
-pub mod Layout
-pub mod Formed
-pub mod Updates
+-- The register's memory.
+pub mod Layout  -- where things stand
+pub mod Formed  -- when it is well formed
+pub mod Updates  -- how the calls change it
+pub mod Asked  -- what the code asks before it reads or changes a slot

@@ -1,24 +1,35 @@
-// What the register's memory is, when it is well formed and how calls change it: definitions in specs/, laws in proofs/, and the layout's numbers for the code,
-// which is the crates judging and keeping.
-use sheet::FITTED;
+// What the register's memory is, when it is well formed and how calls change it: definitions in specs/, laws in
+// proofs/, and the layout's numbers for the code, which is the crates judging and keeping.
 use sheet::SHEET_WORDS;
 
 pub const MOST_HULLS: usize = 16;
 
 pub const DESKS: usize = 8;
 
-pub const HULL_WORDS: usize = 1 + SHEET_WORDS;
-
-pub const DRAFT_WORDS: usize = 3 + SHEET_WORDS;
-
-pub const HULLS: usize = 1;
-
-pub const DRAFTS: usize = HULLS + HULL_WORDS * MOST_HULLS;
-
-// The size of the lent memory, in words of 32 bits.
-pub const REGISTER_WORDS: usize = DRAFTS + DRAFT_WORDS * DESKS;
-
 pub const MOST_EDITS: u32 = 65_535;
 
-// The words of a sheet before fitting line 1, less one, since lines are counted from 1.
-pub const FITTINGS_BEFORE: usize = FITTED - 1;
+// ---- where each word of the first slot stands: the count of hulls, then the hulls, then the desks. Each follows from
+// the one before, and in the next slot it stands HULL_WORDS or DRAFT_WORDS further on.
+
+pub const COUNT: usize = 0;
+
+// A hull's slot: its edit number, and its sheet.
+pub const EDIT: usize = COUNT + 1;
+
+pub const HULL_SHEET: usize = EDIT + 1;
+
+pub const HULL_WORDS: usize = HULL_SHEET + SHEET_WORDS - EDIT;
+
+// A desk's slot: 1 if it holds a draft and 0 if not, the draft's hull, its opening number, and its sheet.
+pub const HELD: usize = EDIT + HULL_WORDS * MOST_HULLS;
+
+pub const DRAFT_HULL: usize = HELD + 1;
+
+pub const OPENING: usize = DRAFT_HULL + 1;
+
+pub const DRAFT_SHEET: usize = OPENING + 1;
+
+pub const DRAFT_WORDS: usize = DRAFT_SHEET + SHEET_WORDS - HELD;
+
+// The size of the lent memory, in words of 32 bits.
+pub const REGISTER_WORDS: usize = HELD + DRAFT_WORDS * DESKS;

@@ -1,8 +1,9 @@
--- `desk_refusal` meets its contract. Assumes nothing.
-use Rattle.register.proofs.Refusals.{desk-unformed, desk-high, desk-idle, desk-holds}
+-- `desk_refusal` meets its contract.
+use Rattle.register.proofs.Refusals.{desk-unformed, desk-high}
+use Rattle.register.specs.Refusals.{deskRefusal}
 use Rattle.memory.proofs.Sound.{sound}
 use mathlib.Core.Path.{sym, _∙_}
-use native.Mathlib.Omega.{arith}
+use borrow.Author.Tests.{eq-eqb, ne-eqb, lt-ltb}
 use borrow.Author.Needs.{needs}
 use Rattle.answering.proofs.desk_refusal.Statement.{statement}
 use Rattle.answering.proofs.desk_refusal.Tie as tie
@@ -13,36 +14,38 @@ is-formed-requires c κs = search needs
 returns : tie.Need-returns
 returns c =
     let start = c .before .before .before .before in
-    desk-high (start .args .mem .now) (start .args .desk) (sym (c .before .before .is-formed .ensures) ∙ c .before .if1 .taken) (c .if2 .taken)
+    let ok = sym (c .before .before .is-formed .ensures) ∙ c .before .if1 .taken in
+    desk-high (start .args .mem .now) (start .args .desk) ok (c .if2 .taken)
 
-draft-at-requires : tie.Need-draft-at-requires
-draft-at-requires c κs = search needs
-
-mul-if3 : tie.Need-mul-if3
-mul-if3 c = search needs
-
-shared-slice-read-if3 : tie.Need-shared-slice-read-if3
-shared-slice-read-if3 c =
-    let start = c .before .before .before .before .before .before in
-    let at-is-formed = c .before .before .before .before in
-    let at-if1 = c .before .before .before in
-    omega (arith, sound (start .args .mem .now) (sym (at-is-formed .is-formed .ensures) ∙ at-if1 .if1 .taken) .size, c .before .draft-at .ensures)
+held-requires : tie.Need-held-requires
+held-requires c κs =
+    let start = c .before .before .before .before in
+    let ok = sym (c .before .before .is-formed .ensures) ∙ c .before .if1 .taken in
+    record { size = sound (start .args .mem .now) ok .size; desk = c .if2 .left }
 
 returns-2 : tie.Need-returns-2
+unfolding deskRefusal
 returns-2 c =
-    let start = c .before .before .before .before .before .before .before in
-    let at-is-formed = c .before .before .before .before .before in
-    let at-if1 = c .before .before .before .before in
-    let at-if2 = c .before .before .before in
-    desk-idle (start .args .mem .now) (start .args .desk) (sym (at-is-formed .is-formed .ensures) ∙ at-if1 .if1 .taken) (at-if2 .if2 .left) (c .before .before .draft-at .ensures) (c .if3 .taken)
+    let high = c .before .before in
+    simp (
+      ← high .before .before .is-formed .ensures,
+      high .before .if1 .taken,
+      lt-ltb _ _ (high .if2 .left),
+      ← c .before .held .ensures,
+      eq-eqb _ _ (c .if3 .taken),
+    )
 
 returns-3 : tie.Need-returns-3
+unfolding deskRefusal
 returns-3 c =
-    let start = c .before .before .before .before .before .before .before in
-    let at-is-formed = c .before .before .before .before .before in
-    let at-if1 = c .before .before .before .before in
-    let at-if2 = c .before .before .before in
-    desk-holds (start .args .mem .now) (start .args .desk) (sym (at-is-formed .is-formed .ensures) ∙ at-if1 .if1 .taken) (at-if2 .if2 .left) (c .before .before .draft-at .ensures) (c .if3 .left)
+    let high = c .before .before in
+    simp (
+      ← high .before .before .is-formed .ensures,
+      high .before .if1 .taken,
+      lt-ltb _ _ (high .if2 .left),
+      ← c .before .held .ensures,
+      ne-eqb _ _ (c .if3 .left),
+    )
 
 returns-4 : tie.Need-returns-4
 returns-4 c =
@@ -55,9 +58,7 @@ desk-refusal-spec =
     (tie.spec
     is-formed-requires
     returns
-    draft-at-requires
-    mul-if3
-    shared-slice-read-if3
+    held-requires
     returns-2
     returns-3
     returns-4)

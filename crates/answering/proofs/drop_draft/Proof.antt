@@ -20,7 +20,7 @@ drop-draft-requires : tie.Need-drop-draft-requires
 drop-draft-requires c κs =
     let start = c .before .before .before .before .before in
     let g = desk-goes (start .args .mem .now) (start .args .desk) (sym (c .before .before .desk-refusal .ensures) ∙ c .before .if1 .left) in
-    (sound (start .args .mem .now) (g .ok) .size, g .desk)
+    record { size = sound (start .args .mem .now) (g .ok) .size; desk = g .desk }
 
 same-length-2 : tie.Need-same-length-2
 same-length-2 c = search needs

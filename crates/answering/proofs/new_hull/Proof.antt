@@ -51,7 +51,11 @@ enter-hull-requires c κs =
     let at-enum-told = c .before .before .before in
     let at-read-words = c .before .before .before .before .before .before in
     let g = room-goes (start .args .mem .now) (sym (at-room-refusal .room-refusal .ensures) ∙ at-if1 .if1 .left) in
-    (sound (start .args .mem .now) (g .ok) .size, g .room, read-long (start .args .text .now) (rw (at-enum-told .enum-told .given .1) at (at-read-words .read-words .ensures)))
+    record {
+      size = sound (start .args .mem .now) (g .ok) .size;
+      room = g .room;
+      sheet = read-long (start .args .text .now) (rw (at-enum-told .enum-told .given .1) at (at-read-words .read-words .ensures));
+    }
 
 same-length-2 : tie.Need-same-length-2
 same-length-2 c = search needs

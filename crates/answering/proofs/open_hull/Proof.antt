@@ -23,7 +23,7 @@ open-draft-requires c κs =
     let start = c .before .before .before .before .before in
     let g = open-goes (start .args .mem .now) (start .args .desk) (start .args .hull) (sym (c .before .before .open-refusal .ensures) ∙ c .before .if1 .left) in
     let s = sound (start .args .mem .now) (g .ok) in
-    (s .size, g .desk, omega (arith, s .few, g .entered))
+    record { size = s .size; desk = g .desk; hull = omega (arith, s .few, g .entered) }
 
 same-length-2 : tie.Need-same-length-2
 same-length-2 c = search needs

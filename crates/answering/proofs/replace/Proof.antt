@@ -50,7 +50,11 @@ replace-sheet-requires c κs =
     let at-enum-told = c .before .before .before in
     let at-read-words = c .before .before .before .before .before .before in
     let g = desk-goes (start .args .mem .now) (start .args .desk) (sym (at-desk-refusal .desk-refusal .ensures) ∙ at-if1 .if1 .left) in
-    (sound (start .args .mem .now) (g .ok) .size, g .desk, read-long (start .args .text .now) (rw (at-enum-told .enum-told .given .1) at (at-read-words .read-words .ensures)))
+    record {
+      size = sound (start .args .mem .now) (g .ok) .size;
+      desk = g .desk;
+      sheet = read-long (start .args .text .now) (rw (at-enum-told .enum-told .given .1) at (at-read-words .read-words .ensures));
+    }
 
 same-length-2 : tie.Need-same-length-2
 same-length-2 c = search needs

@@ -2,7 +2,6 @@
 use Rattle.register.proofs.Refusals.{room-unformed, room-none, room-left}
 use Rattle.memory.proofs.Sound.{sound}
 use mathlib.Core.Path.{sym, _∙_}
-use native.Mathlib.Omega.{arith}
 use borrow.Author.Needs.{needs}
 use Rattle.answering.proofs.room_refusal.Statement.{statement}
 use Rattle.answering.proofs.room_refusal.Tie as tie
@@ -10,22 +9,22 @@ use Rattle.answering.proofs.room_refusal.Tie as tie
 is-formed-requires : tie.Need-is-formed-requires
 is-formed-requires c κs = search needs
 
-number-at-requires : tie.Need-number-at-requires
-number-at-requires c κs =
+hull-count-requires : tie.Need-hull-count-requires
+hull-count-requires c κs =
     let start = c .before .before .before in
-    omega (arith, sound (start .args .mem .now) (sym (c .before .is-formed .ensures) ∙ c .if1 .taken) .size)
+    sound (start .args .mem .now) (sym (c .before .is-formed .ensures) ∙ c .if1 .taken) .size
 
 returns : tie.Need-returns
 returns c =
     let start = c .before .before .before .before .before in
     let at-is-formed = c .before .before .before in
-    room-left (start .args .mem .now) (sym (at-is-formed .is-formed .ensures) ∙ c .before .before .if1 .taken) (c .before .number-at .ensures) (c .if2 .taken)
+    room-left (start .args .mem .now) (sym (at-is-formed .is-formed .ensures) ∙ c .before .before .if1 .taken) (c .before .hull-count .ensures) (c .if2 .taken)
 
 returns-2 : tie.Need-returns-2
 returns-2 c =
     let start = c .before .before .before .before .before in
     let at-is-formed = c .before .before .before in
-    room-none (start .args .mem .now) (sym (at-is-formed .is-formed .ensures) ∙ c .before .before .if1 .taken) (c .before .number-at .ensures) (c .if2 .left)
+    room-none (start .args .mem .now) (sym (at-is-formed .is-formed .ensures) ∙ c .before .before .if1 .taken) (c .before .hull-count .ensures) (c .if2 .left)
 
 returns-3 : tie.Need-returns-3
 returns-3 c =
@@ -34,4 +33,4 @@ returns-3 c =
 
 pub room-refusal-spec : {M : Type 1} → statement M
 room-refusal-spec =
-    tie.close (tie.spec is-formed-requires number-at-requires returns returns-2 returns-3)
+    tie.close (tie.spec is-formed-requires hull-count-requires returns returns-2 returns-3)

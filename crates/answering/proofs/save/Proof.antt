@@ -25,7 +25,12 @@ save-draft-requires c κs =
     let p = save-goes (start .args .mem .now) (start .args .desk) (sym (c .before .before .save-refusal .ensures) ∙ c .before .if1 .left) in
     let g = desk-goes (start .args .mem .now) (start .args .desk) (p .desk-passes) in
     let s = sound (start .args .mem .now) (g .ok) in
-    (s .size, g .desk, omega (arith, s .few, g .draft .entered), omega (arith, p .unspent, s .hulls _ (g .draft .entered) .number))
+    record {
+      size = s .size;
+      desk = g .desk;
+      hull = omega (arith, s .few, g .draft .entered);
+      number = omega (arith, p .unspent, s .hulls _ (g .draft .entered) .number);
+    }
 
 same-length-2 : tie.Need-same-length-2
 same-length-2 c = search needs

@@ -22,7 +22,7 @@ set-fitting-requires c κs =
     let start = c .before .before .before .before .before in
     let p = take-goes (start .args .mem .now) (start .args .desk) (start .args .line) (sym (c .before .before .take-refusal .ensures) ∙ c .before .if1 .left) in
     let g = desk-goes (start .args .mem .now) (start .args .desk) (p .desk-passes) in
-    (sound (start .args .mem .now) (g .ok) .size, g .desk, p .low, p .high)
+    record { size = sound (start .args .mem .now) (g .ok) .size; desk = g .desk; line = p .high }
 
 same-length-2 : tie.Need-same-length-2
 same-length-2 c = search needs

@@ -34,7 +34,7 @@ fitting-requires c κs =
     let start = c .before .before .before .before .before in
     let at-desk-refusal = c .before .before .before in
     let g = desk-goes (start .args .mem .now) (start .args .desk) (sym (at-desk-refusal .desk-refusal .ensures) ∙ c .before .before .if1 .left) in
-    (sound (start .args .mem .now) (g .ok) .size, g .desk, c .if3 .left)
+    record { size = sound (start .args .mem .now) (g .ok) .size; desk = g .desk; line = c .if3 .left }
 
 returns-4 : tie.Need-returns-4
 unfolding takeRefusal

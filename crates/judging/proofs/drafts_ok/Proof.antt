@@ -1,4 +1,4 @@
--- `drafts_ok` meets its contract. Assumes nothing.
+-- `drafts_ok` meets its contract.
 use mathlib.Core.Path.{_≡_, sym, _∙_}
 use mathlib.Core.Bool.{true}
 use Prim.Native.Nat.{_-_, _≤_}
@@ -6,6 +6,7 @@ use Rattle.memory.specs.Layout.{desks}
 use Rattle.memory.specs.Formed.{each, draftOk}
 use Rattle.memory.proofs.Each.{each-none, each-more, each-fails, each-whole}
 use native.Mathlib.Omega.{arith}
+use borrow.Author.Needs.{needs}
 use Rattle.judging.proofs.drafts_ok.Statement.{statement}
 use Rattle.judging.proofs.drafts_ok.Tie as tie
 
@@ -15,36 +16,18 @@ Inv-loop mem desk₀ desk = (desk ≤ desks) × (each desk (draftOk mem) ≡ tru
 abbrev μ-loop : tie.MeasureT-loop
 μ-loop mem desk₀ desk = desks - desk
 
-loop-holds : tie.Need-loop-holds Inv-loop μ-loop
-loop-holds c = (omega arith, each-none (draftOk (c .before .args .mem .now)))
-
-draft-ok-requires : tie.Need-draft-ok-requires Inv-loop μ-loop
-draft-ok-requires c κs =
-    let start = c .before .before .before in
-    (start .pre .0, start .pre .1, omega arith)
-
-add-desk : tie.Need-add-desk Inv-loop μ-loop
-add-desk c = omega arith
-
-loop-less : tie.Need-loop-less Inv-loop μ-loop
-loop-less c = omega arith
-
 loop-again : tie.Need-loop-again Inv-loop μ-loop
 loop-again c =
-    let start = c .before .before .before .before .before in
-    let at-loop = c .before .before .before in
-    (omega arith, each-more (draftOk (start .args .mem .now)) (at-loop .loop .desk) (at-loop .loop .inv .1) (sym (c .before .draft-ok .ensures) ∙ c .if1 .taken))
+    let held = sym (c .before .draft-ok .ensures) ∙ c .if1 .taken in
+    (omega arith, each-more _ _ (c .before .before .before .loop .inv .1) held)
 
 returns : tie.Need-returns Inv-loop μ-loop
 returns c =
-    let start = c .before .before .before .before .before in
-    let at-loop = c .before .before .before in
-    sym (each-fails (draftOk (start .args .mem .now)) desks (at-loop .loop .desk) (c .before .before .loop-test .taken) (sym (c .before .draft-ok .ensures) ∙ c .if1 .left))
+    let failed = sym (c .before .draft-ok .ensures) ∙ c .if1 .left in
+    sym (each-fails _ desks _ (c .before .before .loop-test .taken) failed)
 
 returns-2 : tie.Need-returns-2 Inv-loop μ-loop
-returns-2 c =
-    let start = c .before .before .before in
-    sym (each-whole (draftOk (start .args .mem .now)) desks (c .before .loop .desk) (c .before .loop .inv .0) (c .loop-test .left) (c .before .loop .inv .1))
+returns-2 c = let l = c .before .loop in sym (each-whole _ desks (l .desk) (l .inv .0) (c .loop-test .left) (l .inv .1))
 
 pub drafts-ok-spec : {M : Type 1} → statement M
 drafts-ok-spec =
@@ -52,10 +35,10 @@ drafts-ok-spec =
     (tie.spec
     Inv-loop
     μ-loop
-    loop-holds
-    draft-ok-requires
-    add-desk
-    loop-less
+    (λ c. (omega arith, each-none _))
+    (λ c κs. search needs)
+    (λ c. omega arith)
+    (λ c. omega arith)
     loop-again
     returns
     returns-2)

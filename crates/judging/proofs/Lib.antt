@@ -1,2 +1,0 @@
--- The laws of the check.
-pub mod Checks
