@@ -1,10 +1,10 @@
 -- 01, Refusal numbers: a line is refused with 2 or 3 and with no other number.
-use mathlib.Core.Path.{_≡_, refl, sym}
-use mathlib.Core.Bool.{Bool, true, false, _&&_, _||_, true≢false}
+use mathlib.Core.Path.{_≡_, refl}
+use mathlib.Core.Bool.{Bool, true, _&&_, _||_}
 use mathlib.Core.Logic.{_⊎_, inl, inr}
 use mathlib.Core.List.{List, [], _∷_}
 use Prim.Native.Nat.{ℕ}
-use borrow.Author.Tests.{eqb-true, eqb-false}
+use borrow.Author.Tests.{eqb-true, ne-eqb}
 use lib.Dec.{eqb}
 use lib.ListN.{length, drop}
 use Rattle.answers.specs.Refusals.{brokenLine, outsideLimits}
@@ -18,8 +18,9 @@ use Rattle.text.specs.Quoted.{dash}
 use Rattle.text.specs.Field.{fieldOf, begins, agreed}
 use Rattle.text.specs.Number.{numberOf}
 use Rattle.text.specs.Limit.{Limit, orNone, within}
-use Rattle.text.specs.Line.{Line, Reading, shiftBy, onEntry, judged, ender, readEntry, readNumbers, readLine}
-use Rattle.ground.proofs.Booleans.{either}
+use Rattle.text.specs.Line.{Line, Reading, shiftBy, judged, ender, readEntry, readNumbers, readLine}
+use Rattle.ground.proofs.Booleans.{either, by-equal}
+use Rattle.text.proofs.Entry.{by-entry}
 use Rattle.text.proofs.Line.{line-tagged, line-untagged}
 
 -- whether a number is one of the two
@@ -27,12 +28,8 @@ abbrev pub twoOrThree : ℕ → Bool
 twoOrThree number = eqb number brokenLine || eqb number outsideLimits
 
 pub two-or-three : (number : ℕ) → twoOrThree number ≡ true → (number ≡ 2) ⊎ (number ≡ 3)
-two-or-three number h = go (eqb number 2) (eqb number 3) refl refl h
-  where
-    go : (a b : Bool) → eqb number 2 ≡ a → eqb number 3 ≡ b → (a || b) ≡ true → (number ≡ 2) ⊎ (number ≡ 3)
-    go true b e f h = inl (eqb-true number 2 e)
-    go false true e f h = inr (eqb-true number 3 f)
-    go false false e f h = absurd (true≢false (sym h))
+two-or-three number h =
+    by-equal number 2 inl (λ n. inr (eqb-true number 3 (rw (ne-eqb number 2 n) at h)))
 
 -- whether a reading ended well, or with one of them
 abbrev byNumber : LineRead → Bool
@@ -64,27 +61,20 @@ entry-textual l last e t =
     either EntryTextual (eqb (l .rule) orNone && begins dash t) (either EntryTextual (begins e (drop 1 t)) refl refl)
     (judged-textual (numberOf (fieldOf t)) l last e (length (fieldOf t)) (drop (length (fieldOf t)) t))
 
-on-entry : (r : EntryRead) (rest : ℕ → List ℕ → Reading) (t : List ℕ) → EntryTextual r
-    → ((n : ℕ) (u : List ℕ) → Textual (rest n u))
-    → Textual (onEntry r rest t)
-on-entry (Misread number at) rest t h ih = h
-on-entry (Number n k) rest t h ih = shifted k (rest n (drop k t) .ended) (ih n (drop k t))
-
 numbers-textual : (ls : List Limit) (last : ℕ) (t : List ℕ) → Textual (readNumbers ls last t)
 unfolding readNumbers
 numbers-textual [] last t = refl
 numbers-textual (l ∷ ls) last t =
-    on-entry (readEntry l last (ender ls) t) (readNumbers ls) t (entry-textual l last (ender ls) t) (numbers-textual ls)
+    let h = entry-textual l last (ender ls) t in
+    by-entry (readEntry l last (ender ls) t)
+    (λ n k v. rw v (shifted k (readNumbers ls n (drop k t) .ended) (numbers-textual ls n (drop k t))))
+    (λ number at v. rw v (rw v at h))
 
 pub line-textual : (l : Line) (t : List ℕ) → Textual (readLine l t)
-line-textual l t = go (eqb (agreed (l .tag) t) n) refl
-  where
-    n : ℕ
-    n = length (l .tag)
-
-    go : (u : Bool) → eqb (agreed (l .tag) t) n ≡ u → Textual (readLine l t)
-    go true e =
-        let rest : Reading = readNumbers (l .limits) 0 (drop n t) in
-        rw (line-tagged l t (eqb-true (agreed (l .tag) t) n e))
-        (shifted n (rest .ended) (numbers-textual (l .limits) 0 (drop n t)))
-    go false e = rw (line-untagged l t (eqb-false (agreed (l .tag) t) n e)) refl
+line-textual l t =
+    let n : ℕ = length (l .tag) in
+    by-equal (agreed (l .tag) t) n
+    (λ e.
+    let rest : Reading = readNumbers (l .limits) 0 (drop n t) in
+    rw (line-tagged l t e) (shifted n (rest .ended) (numbers-textual (l .limits) 0 (drop n t))))
+    (λ e. rw (line-untagged l t e) refl)

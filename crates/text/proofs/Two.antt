@@ -1,12 +1,12 @@
 -- A line of two numbers.
-use mathlib.Core.Path.{_≡_, refl, sym}
-use mathlib.Core.Bool.{true, false, _&&_, true≢false}
+use mathlib.Core.Path.{_≡_, refl}
+use mathlib.Core.Bool.{true, false, _&&_}
 use mathlib.Core.List.{List, [], _∷_}
 use Prim.Native.Nat.{ℕ, _≤_}
 use borrow.Author.Tests.{leb-true, le-leb}
 use lib.Dec.{leb}
 use Rattle.text.specs.Limit.{ranging, holds, allHold}
-use Rattle.ground.proofs.Booleans.{both-hold}
+use Rattle.ground.proofs.Booleans.{both-hold, false-true}
 
 -- two numbers, from a to b and from c to d
 pub record Two (a b c d : ℕ) (ns : List ℕ) : Type 0 where
@@ -35,16 +35,20 @@ module _ (a b c d : ℕ) where
 
   pub two-numbers : (ns : List ℕ) → allHold (ranging a b ∷ ranging c d ∷ []) 0 ns ≡ true → Two a b c d ns
   unfolding allHold
-  two-numbers [] h = absurd (true≢false (sym h))
-  two-numbers (n ∷ []) h = absurd (true≢false (sym (both-hold (holds (ranging a b) 0 n) false h .1)))
+  two-numbers [] h = false-true h
+  two-numbers (n ∷ []) h = false-true (both-hold (holds (ranging a b) 0 n) false h .1)
   two-numbers (n ∷ w ∷ []) h =
       let p = both-hold (holds (ranging a b) 0 n) (holds (ranging c d) n w && true) h in
       two-ranging n w (p .0) (both-hold (holds (ranging c d) n w) true (p .1) .0)
   two-numbers (n ∷ w ∷ m ∷ ns) h =
       let p = both-hold (holds (ranging a b) 0 n) (holds (ranging c d) n w && false) h in
-      absurd (true≢false (sym (both-hold (holds (ranging c d) n w) false (p .1) .1)))
+      false-true (both-hold (holds (ranging c d) n w) false (p .1) .1)
 
-  pub numbers-two : (n w : ℕ) → a ≤ n → n ≤ b → c ≤ w → w ≤ d
+  pub numbers-two : (n w : ℕ)
+      → a ≤ n
+      → n ≤ b
+      → c ≤ w
+      → w ≤ d
       → allHold (ranging a b ∷ ranging c d ∷ []) 0 (n ∷ w ∷ []) ≡ true
   unfolding allHold
   numbers-two n w e f g h = rw (le-leb a n e, le-leb n b f, le-leb c w g, le-leb w d h)
