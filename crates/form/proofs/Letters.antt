@@ -11,7 +11,7 @@ use Rattle.text.specs.Field.{begins}
 use Rattle.text.specs.Limit.{Limit}
 use Rattle.text.specs.Line.{Line, numbersText, lineText}
 use Rattle.ground.proofs.Booleans.{both-hold}
-use Rattle.text.proofs.EntryTrip.{narrow}
+use Rattle.text.proofs.Limit.{narrow}
 use Rattle.form.specs.Parts.{letterOf, kindOf, risen, raised}
 use Rattle.form.specs.Reading.{kindAt}
 

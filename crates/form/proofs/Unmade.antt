@@ -6,7 +6,7 @@ use Rattle.text.specs.Quoted.{bytes}
 use Rattle.text.specs.Number.{digitsIn, digitsOf}
 use Rattle.text.specs.Limit.{ranging}
 use Rattle.text.specs.Line.{Line}
-use Rattle.text.proofs.EntryTrip.{narrow}
+use Rattle.text.proofs.Limit.{narrow}
 use Rattle.text.proofs.Most.{numbersMost}
 use Rattle.form.specs.Parts.{Form, someLines, risingLines, oneLine, maybeLine, kindOf}
 use Rattle.form.proofs.Letters.{lineMade, kindsMade}

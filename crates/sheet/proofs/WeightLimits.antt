@@ -9,8 +9,7 @@ use lib.Dec.{eqb}
 use lib.ListN.{length, replicate, replicate-append-replicate}
 use Rattle.text.specs.Limit.{Limit, isNone, allHold, holds}
 use Rattle.ground.proofs.Booleans.{both-hold}
-use Rattle.text.proofs.Limit.{within-high}
-use Rattle.text.proofs.EntryTrip.{holds-within}
+use Rattle.text.proofs.Limit.{within-high, holds-within}
 use Rattle.form.proofs.Pairs.{pair-ok}
 use Rattle.form.specs.Parts.{Rows, nextAfter}
 use Rattle.form.specs.Writing.{rowOk, rowsOk}

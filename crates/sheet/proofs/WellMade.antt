@@ -2,7 +2,7 @@
 use mathlib.Core.Path.{_≡_, refl}
 use mathlib.Core.Bool.{true}
 use Rattle.text.specs.Number.{digitsIn, digitsOf}
-use Rattle.text.proofs.EntryTrip.{narrow}
+use Rattle.text.proofs.Limit.{narrow}
 use Rattle.form.specs.Parts.{kindOf}
 use Rattle.form.proofs.Letters.{lineMade, kindsMade}
 use Rattle.text.proofs.Most.{numbersMost}

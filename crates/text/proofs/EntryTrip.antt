@@ -22,8 +22,6 @@ use Rattle.text.proofs.NumberTrip.{read-writes, written-reads, field-di
 use Rattle.text.proofs.Limit.{none-zero, within-some, holds-within, within-holds}
 use Rattle.text.proofs.Entry.{dash-ended, taken}
 use Rattle.text.proofs.Led.{Led}
-unfoldable pub use Rattle.text.proofs.Limit.{narrow}
-pub use Rattle.text.proofs.Limit.{holds-within}
 
 -- ---- a number and the byte that ends it
 
