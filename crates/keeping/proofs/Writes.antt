@@ -76,8 +76,9 @@ unfolding opened
 opened-as m d h e =
     let p : draftHullAt d ≡ suc (heldAt d) = omega arith in
     let q : openingAt d ≡ suc (suc (heldAt d)) = omega arith in
-    let r : draftSheetAt d ≡ heldAt d + 3 = omega arith in
-    rw (e, p, q, r) (sets-before m (heldAt d) (1 ∷ h ∷ edit m h ∷ []) (hullSheet m h))
+    let words : List ℕ = 1 ∷ h ∷ edit m h ∷ [] in
+    let r : draftSheetAt d ≡ heldAt d + length words = omega arith in
+    rw (e, p, q, r) (sets-before m (heldAt d) words (hullSheet m h))
 
 -- the edit number that a save answers
 pub saved-edit : (m : List ℕ) (d : ℕ) {i : ℕ} → i ≡ draftHull m d → edit m i + 1 ≡ edit m (draftHull m d) + 1
@@ -91,6 +92,6 @@ pub saved-as :
 unfolding saved dropped
 saved-as m d q e =
     let h : ℕ = draftHull m d in
-    let n : hullSheetAt h ≡ editAt h + 1 = omega arith in
-    let laid = sets-before m (editAt h) ((edit m h + 1) ∷ []) (draftSheet m d) in
-    rw (e, q, n) (ap (λ (l : List ℕ). set l (heldAt d) 0) laid)
+    let words : List ℕ = (edit m h + 1) ∷ [] in
+    let n : hullSheetAt h ≡ editAt h + length words = omega arith in
+    rw (e, q, n) (ap (λ (l : List ℕ). set l (heldAt d) 0) (sets-before m (editAt h) words (draftSheet m d)))
