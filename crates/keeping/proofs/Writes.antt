@@ -1,7 +1,7 @@
 -- The changes to the memory, as the code makes them word after word.
 use mathlib.Core.Path.{_≡_, refl, sym, ap, _∙_}
 use mathlib.Core.Logic.{inl, inr}
-use mathlib.Core.List.{List, [], _∷_, _++_, append-nil}
+use mathlib.Core.List.{List, _++_, append-nil}
 use Prim.Native.Nat.{ℕ, suc, _+_, _-_, _≤_, _<_}
 use native.Mathlib.Omega.{arith}
 use lib.ListN.{length, getD, set, take, drop, replicate, length-take, length-drop}
@@ -10,7 +10,7 @@ use Rattle.ground.proofs.Stores.{putBack, part-sets, rest-part, sets-start}
 use Rattle.sheet.specs.Places.{sheetWords}
 use Rattle.ground.specs.Lists.{putFirst}
 use Rattle.memory.specs.Layout.{countAt, editAt, hullSheetAt, heldAt, draftHullAt, openingAt, draftSheetAt, part}
-use Rattle.memory.specs.Layout.{hullCount, edit, hullSheet, draftHull, draftSheet}
+use Rattle.memory.specs.Layout.{hullFront, draftFront, hullCount, edit, hullSheet, draftHull, draftSheet}
 use Rattle.memory.specs.Asked.{ToCopy}
 use Rattle.memory.specs.Updates.{entered, opened, dropped, saved}
 use Rattle.memory.proofs.Parts.{Outside, word-outside, sets-before, part-length, part-word, write-more}
@@ -76,7 +76,7 @@ unfolding opened
 opened-as m d h e =
     let p : draftHullAt d ≡ suc (heldAt d) = omega arith in
     let q : openingAt d ≡ suc (suc (heldAt d)) = omega arith in
-    let words : List ℕ = 1 ∷ h ∷ edit m h ∷ [] in
+    let words : List ℕ = draftFront h (edit m h) in
     let r : draftSheetAt d ≡ heldAt d + length words = omega arith in
     rw (e, p, q, r) (sets-before m (heldAt d) words (hullSheet m h))
 
@@ -92,6 +92,6 @@ pub saved-as :
 unfolding saved dropped
 saved-as m d q e =
     let h : ℕ = draftHull m d in
-    let words : List ℕ = (edit m h + 1) ∷ [] in
+    let words : List ℕ = hullFront (edit m h + 1) in
     let n : hullSheetAt h ≡ editAt h + length words = omega arith in
     rw (e, q, n) (ap (λ (l : List ℕ). set l (heldAt d) 0) (sets-before m (editAt h) words (draftSheet m d)))

@@ -7,7 +7,7 @@ use lib.ListN.{length, getD, set, length-replicate}
 use lib.Seq.{sets, getD-set-same}
 use Rattle.sheet.specs.Places.{sheetWords, fittingWord}
 use Rattle.sheet.specs.Lines.{fittings}
-use Rattle.memory.specs.Layout.{mostHulls, desks, registerWords, Sized, hullSlot, draftSlot}
+use Rattle.memory.specs.Layout.{mostHulls, desks, registerWords, Sized, hullSlot, draftFront, draftSlot}
 use Rattle.memory.specs.Layout.{countAt, hullAt, draftAt, heldAt, draftSheetAt, fittingAt}
 use Rattle.memory.specs.Layout.{hullCount, edit, hullSheet, held, draftHull, opening, draftSheet}
 use Rattle.memory.specs.Updates.{freshWords, entered, opened, fitted, replaced, dropped, saved}
@@ -82,10 +82,10 @@ module _ (m : List ℕ) (d : ℕ) where
       let fits : draftAt d + length xs ≤ length m = omega arith in
       record {
         rest = but-desk m d (draftAt d) xs k l (omega arith) (omega arith);
-        holds = word-first m (draftAt d) 1 (h ∷ edit m h ∷ s) (omega arith);
+        holds = word-inside m (draftAt d) xs 0 (omega arith) fits (omega arith);
         hull = word-inside m (draftAt d) xs 1 (omega arith) fits (omega arith);
         number = word-inside m (draftAt d) xs 2 (omega arith) fits (omega arith);
-        sheet = part-after m (draftAt d) (1 ∷ h ∷ edit m h ∷ []) s (draftSheetAt d) (omega arith) n (omega arith);
+        sheet = part-after m (draftAt d) (draftFront h (edit m h)) s (draftSheetAt d) (omega arith) n (omega arith);
       }
 
   pub fitted-changes : (line w : ℕ) → Sized m → d < desks → 1 ≤ line → line ≤ fittings → FittedChanges m d line w

@@ -1,15 +1,15 @@
 -- A write within one slot: what is laid there, and that every other slot is as it was.
 use mathlib.Core.Path.{_≡_}
-use mathlib.Core.List.{List, [], _∷_}
+use mathlib.Core.List.{List}
 use Prim.Native.Nat.{ℕ, _+_, _≤_, _<_}
 use native.Mathlib.Omega.{arith}
 use lib.ListN.{length}
 use lib.Seq.{sets}
 use Rattle.sheet.specs.Places.{sheetWords}
-use Rattle.memory.specs.Layout.{mostHulls, desks, hullWords, draftWords, Sized, hullSlot, hullAt, draftAt}
-use Rattle.memory.specs.Layout.{countAt, hullSheetAt, heldAt, draftHullAt, openingAt, draftSheetAt}
+use Rattle.memory.specs.Layout.{mostHulls, desks, hullWords, draftWords, Sized, hullFront, hullSlot, countAt}
+use Rattle.memory.specs.Layout.{hullAt, draftAt, hullSheetAt, heldAt, draftHullAt, openingAt, draftSheetAt}
 use Rattle.memory.specs.Layout.{hullCount, edit, hullSheet, held, draftHull, opening, draftSheet}
-use Rattle.memory.proofs.Parts.{Outside, word-outside, word-first, part-after}
+use Rattle.memory.proofs.Parts.{Outside, word-outside, word-inside, part-after}
 use Rattle.memory.proofs.Slots.{SameHull, SameDraft, Leaves, leaves, kept-hull, kept-draft}
 
 -- ---- hull h's slot laid anew: its number n, its sheet s
@@ -23,8 +23,8 @@ pub hull-laid : (m : List ℕ) (h n : ℕ) (s : List ℕ) → Sized m → h < mo
 hull-laid m h n s k l e =
     record {
       rest = rw e at (leaves m (hullAt h) (hullSlot n s) k);
-      number = word-first m (hullAt h) n s (omega arith);
-      sheet = part-after m (hullAt h) (n ∷ []) s (hullSheetAt h) (omega arith) e (omega arith);
+      number = word-inside m (hullAt h) (hullSlot n s) 0 (omega arith) (omega arith) (omega arith);
+      sheet = part-after m (hullAt h) (hullFront n) s (hullSheetAt h) (omega arith) e (omega arith);
     }
 
 -- ---- a write within desk d's slot: o is m in all but desk d

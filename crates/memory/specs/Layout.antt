@@ -3,7 +3,7 @@
 -- follows from the one before.
 use mathlib.Core.Path.{_≡_}
 use Prim.Native.Nat.{ℕ, _+_, _-_, _*_}
-use mathlib.Core.List.{List, _∷_}
+use mathlib.Core.List.{List, [], _∷_, _++_}
 use lib.ListN.{length, getD, take, drop}
 use Rattle.sheet.specs.Places.{sheetWords, fittingWord}
 
@@ -28,8 +28,12 @@ firstHullSheet = 1 + firstEdit
 abbrev pub hullWords : ℕ
 hullWords = firstHullSheet + sheetWords - firstEdit
 
+-- its words before the sheet, and all of them
+abbrev pub hullFront : ℕ → List ℕ
+hullFront number = number ∷ []
+
 abbrev pub hullSlot : ℕ → List ℕ → List ℕ
-hullSlot number sheet = number ∷ sheet
+hullSlot number sheet = hullFront number ++ sheet
 
 -- a desk's slot: 1 if it holds a draft and 0 if not, the draft's hull, its opening number, its sheet
 abbrev firstHeld : ℕ
@@ -47,8 +51,11 @@ firstDraftSheet = 1 + firstOpening
 abbrev pub draftWords : ℕ
 draftWords = firstDraftSheet + sheetWords - firstHeld
 
+abbrev pub draftFront : ℕ → ℕ → List ℕ
+draftFront hull number = 1 ∷ hull ∷ number ∷ []
+
 abbrev pub draftSlot : ℕ → ℕ → List ℕ → List ℕ
-draftSlot hull number sheet = 1 ∷ hull ∷ number ∷ sheet
+draftSlot hull number sheet = draftFront hull number ++ sheet
 
 -- ---- and of every slot, which starts with its first word
 
