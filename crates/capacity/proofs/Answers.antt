@@ -118,6 +118,6 @@ unfolding plateU
 u-listed s = either OfList (isBelow (markedU s) 1) refl refl
 
 pub plate-listed : (k : PlateKind) (s : List ℕ) → OfList (plateOf k s)
-plate-listed kindA s = a-listed s
-plate-listed (kindC ps ws) s = c-listed s ps ws
-plate-listed kindU s = u-listed s
+plate-listed kindA s = search (a-listed, c-listed, u-listed)
+plate-listed (kindC ps ws) s = search (a-listed, c-listed, u-listed)
+plate-listed kindU s = search (a-listed, c-listed, u-listed)

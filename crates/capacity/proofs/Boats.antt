@@ -41,38 +41,12 @@ all-within (t ∷ ts) = wordsOk (t .sheet) && all-within ts
 -- the base hull with another drive, declared power or masses
 unfoldable pub massed : ℕ → ℕ → ℕ → ℕ → ℕ → List ℕ
 massed outboard declared bare fuel machinery =
-    words 4000
-    (record {
-      long = 4500;
-      wide = 1200;
-      flat = 0;
-      remote = 0;
-      bare = bare;
-      fuel = fuel;
-      machinery = machinery;
-      outboard = outboard;
-      declared = declared;
-      tested = 0;
-      fitting = 0;
-    })
+    words (4500 ∷ 4000 ∷ 1200 ∷ 500 ∷ 0 ∷ 0 ∷ []) (bare ∷ fuel ∷ machinery ∷ outboard ∷ declared ∷ 5 ∷ 0 ∷ 0 ∷ [])
 
 -- an outboard of this station T, reference length and bare boat
 unfoldable pub stationed : List ℕ → ℕ → ℕ → List ℕ
 stationed t reference bare =
-    wordsTo t reference
-    (record {
-      long = 6000;
-      wide = 1200;
-      flat = 0;
-      remote = 0;
-      bare = bare;
-      fuel = 0;
-      machinery = 0;
-      outboard = 1;
-      declared = 20000;
-      tested = 0;
-      fitting = 0;
-    })
+    wordsTo (6000 ∷ reference ∷ 1200 ∷ 500 ∷ 0 ∷ 0 ∷ []) t (bare ∷ 0 ∷ 0 ∷ 1 ∷ 20000 ∷ 5 ∷ 0 ∷ 0 ∷ [])
 
 -- a launch of which no two stations, volumes or weights are alike, by its drive, declared power, bare boat and
 -- machinery; its fittings stand on lines 1, 2, 13 and 24

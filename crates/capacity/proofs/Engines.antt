@@ -8,7 +8,7 @@ use lib.Dec.{eqb, leb}
 use lib.ListN.{length, getD, drop, drop-of-length-le, List·getD-eq-default}
 use Rattle.ground.proofs.Booleans.{both-hold}
 use Rattle.ground.proofs.Stores.{drop-more}
-use Rattle.sheet.specs.Lines.{enginePowerHigh, engineWeightHigh, mostRows}
+use Rattle.sheet.specs.Lines.{enginePowerHigh, mostRows}
 use Rattle.capacity.specs.Words.{outboard, declared}
 use Rattle.capacity.specs.PlateC.{rowFits, rising, leastRows, rowsRight, wantsRow, rowFor, lacksRow, engineWeight}
 
@@ -17,8 +17,8 @@ use Rattle.capacity.specs.PlateC.{rowFits, rising, leastRows, rowsRight,
 -- a row that fits has a power that the next may be above
 pub fits-low : (next p w : ℕ) {fits : Bool} → fits ≡ rowFits next p w → fits ≡ true → p ≤ enginePowerHigh
 fits-low next p w e f =
-    let high = both-hold (leb next p) (leb p enginePowerHigh && leb w engineWeightHigh) (sym e ∙ f) .1 in
-    leb-true p enginePowerHigh (both-hold (leb p enginePowerHigh) (leb w engineWeightHigh) high .0)
+    let high = both-hold (leb next p) _ (sym e ∙ f) .1 in
+    leb-true p enginePowerHigh (both-hold (leb p enginePowerHigh) _ high .0)
 
 module _ (ps ws : List ℕ) (i next : ℕ) (h : i < length ps) (k : i < length ws) {fits : Bool}
     (e : fits ≡ rowFits next (getD ps i 0) (getD ws i 0)) where

@@ -12,7 +12,8 @@ use Rattle.capacity.specs.Words.{machinery, outboard, declared}
 use Rattle.capacity.specs.Volume.{gram}
 use Rattle.capacity.specs.Weights.{boatM}
 use Rattle.capacity.specs.PlateU.{Figure, figure, boatB, outboardFifth, outboardTenths, inboardFifth}
-use Rattle.capacity.specs.PlateU.{inboardSeventh, Rule, twoHorses, finer, poundFine, divisorU, pounds, poundsBy, markedU}
+use Rattle.capacity.specs.PlateU.{inboardSeventh, Rule, twoHorses, finer, poundFine, divisorU, pounds, poundsBy}
+use Rattle.capacity.specs.PlateU.{markedU}
 use Rattle.capacity.specs.Highs.{heaviest}
 use Rattle.capacity.proofs.Order.{whole-greatest}
 use Rattle.capacity.proofs.Loads.{gain, loss, wholePart, net-less, times-sub}

@@ -61,7 +61,7 @@ module _ (s : List ℕ) {p : ℕ} (e : p ≡ factorP s) where
 
   pub first-row : eqb (outboard s) 1 ≡ true → eqb (flatBottom s) 1 ≡ true → leb p 2250000 ≡ lacksPower s
   unfolding rowFor
-  first-row a b = rw (a, b, ← e) (go (leb p 2250000) _)
+  first-row a b = simp (a, b) (rw (← e) (go (leb p 2250000) _))
     where
       go : (t : Bool) (k : ℕ) → t ≡ eqb (elim t [ true ↦ 0 | false ↦ suc k ]) 0
       go true k = refl

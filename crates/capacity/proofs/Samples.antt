@@ -61,8 +61,9 @@ hull = 4500 ∷ 4000 ∷ 1200 ∷ 0 ∷ 1 ∷ []
 -- remote steering
 told : Case → List ℕ
 told c =
-    declared (c .sheet) ∷ bare (c .sheet) ∷ getD (fittingsOf (c .sheet)) 0 0 ∷ hullLength (c .sheet)
-    ∷ reference (c .sheet) ∷ transomWidth (c .sheet) ∷ flatBottom (c .sheet) ∷ remote (c .sheet) ∷ []
+    let s = c .sheet in
+    declared s ∷ bare s ∷ getD (fittingsOf s) 0 0 ∷ hullLength s ∷ reference s ∷ transomWidth s ∷ flatBottom s
+    ∷ remote s ∷ []
 
 cases-told :
     map told cases

@@ -58,34 +58,34 @@ module _ (s : List ℕ) (ok : wordsOk s ≡ true) where
   -- ---- by name
 
   pub long-most : hullLength s ≤ highAt lengthAt
-  long-most = word-most lengthAt
+  long-most = word-most _
 
   pub reference-most : reference s ≤ highAt referenceAt
-  reference-most = word-most referenceAt
+  reference-most = word-most _
 
   pub wide-most : transomWidth s ≤ highAt transomWidthAt
-  wide-most = word-most transomWidthAt
+  wide-most = word-most _
 
   pub aft-most : aft s ≤ highAt aftAt
-  aft-most = word-most aftAt
+  aft-most = word-most _
 
   pub well-most : well s ≤ highAt wellAt
-  well-most = word-most wellAt
+  well-most = word-most _
 
   pub flooding-most : flooding s ≤ highAt floodingAt
-  flooding-most = word-most floodingAt
+  flooding-most = word-most _
 
   pub bare-most : bare s ≤ highAt bareAt
-  bare-most = word-most bareAt
+  bare-most = word-most _
 
   pub fuel-most : fuel s ≤ highAt fuelAt
-  fuel-most = word-most fuelAt
+  fuel-most = word-most _
 
   pub machinery-most : machinery s ≤ highAt machineryAt
-  machinery-most = word-most machineryAt
+  machinery-most = word-most _
 
   pub positions-most : positions s ≤ highAt positionsAt
-  positions-most = word-most positionsAt
+  positions-most = word-most _
 
   -- ---- the fittings
 
@@ -105,20 +105,15 @@ module _ (s : List ℕ) (ok : wordsOk s ≡ true) where
 
   -- ---- the stations
 
-  reading-most : (i : ℕ) {h : List ℕ}
-      → take readings (drop (stationAt i) highs) ≡ h
-      → (j : ℕ)
-      → j < readings
-      → getD (station s i) j 0 ≤ getD h j 0
-  reading-most i e j l =
-      rw (← e, getD-take, getD-drop, getD-take, getD-drop) (word-most (stationAt i + j))
+  reading-most : (at : ℕ) {h : List ℕ} → take readings (drop at highs) ≡ h
+      → (j : ℕ) → j < readings → getD (take readings (drop at s)) j 0 ≤ getD h j 0
+  reading-most at e j l = rw (← e, getD-take, getD-drop, getD-take, getD-drop) (word-most (at + j))
 
   -- one whose limits are those of station Q
-  alike-within : (i : ℕ)
-      → take readings (drop (stationAt i) highs) ≡ take readings (drop (stationAt 0) highs)
-      → Readings (station s i)
-  alike-within i e =
-      let most = reading-most i e in
+  alike-within : (at : ℕ) → take readings (drop at highs) ≡ take readings (drop (stationAt 0) highs)
+      → Readings (take readings (drop at s))
+  alike-within at e =
+      let most = reading-most at e in
       record {
         b = most 0 (omega arith);
         q = most 1 (omega arith);
@@ -133,10 +128,14 @@ module _ (s : List ℕ) (ok : wordsOk s ≡ true) where
   pub stations-within : {q r t u : List ℕ} → q ≡ station s 0 → r ≡ station s 1 → t ≡ station s 2 → u ≡ station s 3
       → Stations (q ∷ r ∷ t ∷ u ∷ []) (reference s)
   stations-within a b c d =
+      let q = alike-within (stationAt 0) refl in
+      let r = alike-within (stationAt 1) refl in
+      let s = alike-within (stationAt 2) refl in
+      let t = alike-within (stationAt 3) refl in
       record {
-        at0 = rw a (alike-within 0 refl);
-        at1 = rw b (alike-within 1 refl);
-        at2 = rw c (alike-within 2 refl);
-        at3 = rw d (alike-within 3 refl);
+        at0 = rw a (search);
+        at1 = rw b (search);
+        at2 = rw c (search);
+        at3 = rw d (search);
         reference-most = reference-most;
       }

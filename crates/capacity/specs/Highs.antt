@@ -26,6 +26,10 @@ highs = drop 1 (highsOn lines ++ replicate fittings fittingHigh)
 abbrev pub highAt : ℕ → ℕ
 highAt place = getD highs place 0
 
+-- what 32 bits hold, whatever the table says
+abbrev pub wordMost : ℕ
+wordMost = 4294967295
+
 -- ---- stations, which are all alike
 
 abbrev pub breadthHigh : ℕ

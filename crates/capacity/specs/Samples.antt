@@ -15,90 +15,32 @@ use Rattle.capacity.specs.PlateA.{markedA, plateA}
 
 -- ---- the base hull, and what a case changes of it
 
-pub record Hull : Type 0 where
-  pub long : ℕ
-  pub wide : ℕ
-  pub flat : ℕ
-  pub remote : ℕ
-  pub bare : ℕ
-  pub fuel : ℕ
-  pub machinery : ℕ
-  pub outboard : ℕ
-  pub declared : ℕ
-  pub tested : ℕ
-  pub fitting : ℕ
-
 -- every B is 1000 and every depth 500
 abbrev pub baseStation : List ℕ
 baseStation = 1000 ∷ replicate 6 500
 
--- by the readings of station T, and by its reference length
-abbrev pub wordsTo : List ℕ → ℕ → Hull → List ℕ
-wordsTo t reference h =
-    h .long ∷ reference ∷ h .wide ∷ 500 ∷ h .flat ∷ h .remote
-    ∷ (baseStation
-    ++ (baseStation
-    ++ (baseStation
-    ++ (t ++ (0 ∷ 0 ∷ 0 ∷ h .bare ∷ h .fuel ∷ h .machinery ∷ h .outboard ∷ h .declared ∷ 5 ∷ h .tested ∷ h .fitting
-    ∷ replicate 23 0)))))
+-- by FORM, the readings of station T, and what MASS, PWR, SEAT and fitting line 1 have
+abbrev pub wordsTo : List ℕ → List ℕ → List ℕ → List ℕ
+wordsTo form t boat =
+    form ++ (baseStation ++ (baseStation ++ (baseStation ++ (t ++ (0 ∷ 0 ∷ 0 ∷ (boat ++ replicate 23 0))))))
 
--- reference length 4000, or the length where that is less
-unfoldable pub words : ℕ → Hull → List ℕ
-words = wordsTo baseStation
+unfoldable pub words : List ℕ → List ℕ → List ℕ
+words form boat = wordsTo form baseStation boat
 
 unfoldable pub seated : ℕ → ℕ → ℕ → ℕ → List ℕ
 seated tested declared bare fitting =
-    words 4000
-    (record {
-      long = 4500;
-      wide = 1200;
-      flat = 0;
-      remote = 1;
-      bare = bare;
-      fuel = 0;
-      machinery = 0;
-      outboard = 1;
-      declared = declared;
-      tested = tested;
-      fitting = fitting;
-    })
+    words (4500 ∷ 4000 ∷ 1200 ∷ 500 ∷ 0 ∷ 1 ∷ []) (bare ∷ 0 ∷ 0 ∷ 1 ∷ declared ∷ 5 ∷ tested ∷ fitting ∷ [])
 
 unfoldable pub load : ℕ → ℕ → ℕ → List ℕ
 load = seated 0
 
+-- reference length 4000, or the length where that is less
 unfoldable pub power : ℕ → ℕ → ℕ → ℕ → ℕ → List ℕ
 power reference long wide flat remote =
-    words reference
-    (record {
-      long = long;
-      wide = wide;
-      flat = flat;
-      remote = remote;
-      bare = 200000;
-      fuel = 0;
-      machinery = 0;
-      outboard = 1;
-      declared = 20000;
-      tested = 0;
-      fitting = 0;
-    })
+    words (long ∷ reference ∷ wide ∷ 500 ∷ flat ∷ remote ∷ []) (200000 ∷ 0 ∷ 0 ∷ 1 ∷ 20000 ∷ 5 ∷ 0 ∷ 0 ∷ [])
 
 unfoldable pub inboard : List ℕ
-inboard =
-    words 4000
-    (record {
-      long = 4500;
-      wide = 1200;
-      flat = 0;
-      remote = 0;
-      bare = 200000;
-      fuel = 20000;
-      machinery = 50000;
-      outboard = 0;
-      declared = 20000;
-      tested = 0;
-      fitting = 0;
-    })
+inboard = words (4500 ∷ 4000 ∷ 1200 ∷ 500 ∷ 0 ∷ 0 ∷ []) (200000 ∷ 20000 ∷ 50000 ∷ 0 ∷ 20000 ∷ 5 ∷ 0 ∷ 0 ∷ [])
 
 -- ---- what a case says of its sheet
 

@@ -3,10 +3,8 @@ use Prim.Native.Nat.{ℕ}
 use mathlib.Core.List.{List}
 use lib.ListN.{getD, take, drop}
 use Rattle.sheet.specs.Places.{lengthAt, referenceAt, transomWidthAt, transomHeightAt, flatBottomAt, remoteAt}
-use Rattle.sheet.specs.Places.{readings, stationAt}
-use Rattle.sheet.specs.Places.{aftAt, wellAt, floodingAt, bareAt, fuelAt, machineryAt, outboardAt, declaredAt}
-use Rattle.sheet.specs.Places.{positionsAt}
-use Rattle.sheet.specs.Places.{testedAt, fittingsAt}
+use Rattle.sheet.specs.Places.{readings, stationAt, aftAt, wellAt, floodingAt, bareAt, fuelAt, machineryAt}
+use Rattle.sheet.specs.Places.{outboardAt, declaredAt, positionsAt, testedAt, fittingsAt}
 
 -- FORM
 abbrev pub hullLength : List ℕ → ℕ

@@ -3,10 +3,11 @@ ghost use mathlib.Core.Path.{_≡_};
 ghost use Prim.Native.Nat.{_≤_, _<_, min, max};
 ghost use lib.IntN.{subℕ};
 ghost use Rattle.capacity.specs.Whole.{floorDiv, orZero};
+ghost use Rattle.capacity.specs.Highs.{wordMost};
 
 // A word as a number to reckon with: the sums need the room.
 pub fn wide(x: u32) -> u64
-    ensures { λ r. ⌜ (r ≡ x) × (r ≤ 4294967295) ⌝ }
+    ensures { λ r. ⌜ (r ≡ x) × (r ≤ wordMost) ⌝ }
 {
     x as u64
 }

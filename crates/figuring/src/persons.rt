@@ -6,6 +6,7 @@ ghost use lib.IntN.{subℕ};
 ghost use Rattle.sheet.specs.Sheet.{wordsOk};
 ghost use Rattle.capacity.specs.Whole.{orZero};
 ghost use Rattle.capacity.specs.PlateC.{persons, lacksTests};
+ghost use Rattle.capacity.specs.Highs.{wordMost};
 use super::numbers::least_of;
 use super::numbers::whole_part;
 use super::numbers::wide;
@@ -33,7 +34,7 @@ pub fn persons_for(sheet: &[u32], gross: u64, engine: u64) -> u64
 
 // Whether a live load, gross and engine apart, wants tested persons and none are entered.
 pub fn lacks_tests(sheet: &[u32], gross: u64, engine: u64) -> bool
-    requires { ⌜ (wordsOk (now sheet) ≡ true) × (engine ≤ 4294967295) ⌝ }
+    requires { ⌜ (wordsOk (now sheet) ≡ true) × (engine ≤ wordMost) ⌝ }
     ensures { λ r. ⌜ r ≡ lacksTests (now (sheet .entry)) (subℕ gross engine) ⌝ }
 {
     if gross < engine + TESTED_GRAMS {
