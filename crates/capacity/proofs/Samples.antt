@@ -1,6 +1,5 @@
 -- The plates computed: the starred samples of 01, cases 1 to 7, as one statement over one list of them; one table of
--- our own cases, the whole answer of each; the words'
--- names; and each factor of the volume and row of the power table.
+-- our own cases, the whole answer of each; the words' names; and each row of the power table.
 use mathlib.Core.Path.{_≡_, refl}
 use mathlib.Core.Bool.{Bool, true, false, _&&_}
 use mathlib.Core.List.{List, [], _∷_, _++_, map}
@@ -21,7 +20,7 @@ use Rattle.sheet.specs.SheetText.{sheetForm, weightsFrom, fitsOf, numbersOn, re
 use Rattle.capacity.specs.Words.{hullLength, reference, transomWidth, transomHeight, flatBottom, remote}
 use Rattle.capacity.specs.Words.{station, aft, well, flooding, bare, fuel, machinery, outboard, declared}
 use Rattle.capacity.specs.Words.{positions, tested, fittingsOf}
-use Rattle.capacity.specs.Volume.{stationProduct, summed, volumeN, netZ}
+use Rattle.capacity.specs.Volume.{stationProduct, volumeN, netZ}
 use Rattle.capacity.specs.Weights.{addedUp, boatM}
 use Rattle.capacity.specs.PlateC.{exactX, markedC, rising, rowsRight, rowFor, lacksRow, engineWeight, liveLoad}
 use Rattle.capacity.specs.PlateC.{persons, lacksTests, plateC}
@@ -124,15 +123,6 @@ named s =
 names-right : (named (upFrom 68 0) ≡ upFrom 68 0) × (named [] ≡ replicate 16 0)
 unfolding named upFrom
 names-right = (refl, refl)
-
--- ---- each depth and each station by its own factor, and N of the largest hull that a sheet can have
-
-shares-right :
-    (map stationProduct ((1 ∷ 1 ∷ 10 ∷ 100 ∷ 1000 ∷ 10000 ∷ 100000 ∷ []) ∷ (1 ∷ []) ∷ []) ≡ 224241 ∷ 0 ∷ [])
-    × (summed 1 1 10 100 1000 ≡ 1424) × (stationProduct (4000 ∷ replicate 6 2500) ≡ 150000000)
-    × (summed 6000 150000000 150000000 150000000 150000000 ≡ 9900000000000)
-unfolding stationProduct
-shares-right = (refl, refl, refl, refl)
 
 -- ---- the heaviest boat that a sheet can have, an inboard of plate A
 

@@ -5,7 +5,7 @@ use Prim.Native.Nat.{ℕ, zero, suc, _+_, _*_, _≤_, _<_}
 use native.Mathlib.Nat.{mul-add, mul-le-mul}
 use native.Mathlib.Numerals.{add-one, add-two, add-three, add-four, add-five, add-six}
 use native.Mathlib.Omega.{arith}
-use lib.ListN.{length, getD, take, drop, drop-of-length-le}
+use lib.ListN.{length, getD, take, drop, replicate, drop-of-length-le}
 use lib.Seq.{drop-cons}
 use Rattle.ground.proofs.Stores.{drop-more}
 use Rattle.capacity.specs.Words.{reference, station}
@@ -89,6 +89,14 @@ totals-right :
     ∷ 1424 ∷ []
 unfolding runningTotal
 totals-right = refl
+
+-- each depth and each station by its own factor, and N of the largest hull that a sheet can have
+shares-right :
+    (map stationProduct ((1 ∷ 1 ∷ 10 ∷ 100 ∷ 1000 ∷ 10000 ∷ 100000 ∷ []) ∷ (1 ∷ []) ∷ []) ≡ 224241 ∷ 0 ∷ [])
+    × (summed 1 1 10 100 1000 ≡ 1424) × (stationProduct (4000 ∷ replicate 6 2500) ≡ 150000000)
+    × (summed 6000 150000000 150000000 150000000 150000000 ≡ 9900000000000)
+unfolding stationProduct
+shares-right = (refl, refl, refl, refl)
 
 -- ---- the sum of weights, one after the other
 

@@ -39,8 +39,8 @@ fn table_row(p: u64) -> usize
     }
 }
 
-// Watts of the table's row for a power factor, or of the row before it; before the first there is none, and 0 stands for
-// its watts. The table is laid on the stack, so its words are narrow.
+// Watts of the table's row for a power factor, or of the row before it; before the first there is none, and 0 stands
+// for its watts. The table is laid on the stack, so its words are narrow.
 fn row_watts(p: u64, before: bool) -> u16
     requires { ⌜ p ≤ tableEnd ⌝ }
     ensures { λ r. ⌜ r ≡ cond before (beforeWatts p) (rowWatts p) ⌝ }
