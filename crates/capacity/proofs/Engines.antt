@@ -3,6 +3,7 @@ use mathlib.Core.Path.{_≡_, refl, sym, _∙_}
 use mathlib.Core.Bool.{Bool, true, false, _&&_}
 use mathlib.Core.List.{List}
 use Prim.Native.Nat.{ℕ, suc, _+_, _≤_, _<_}
+use native.Mathlib.Omega.{arith}
 use borrow.Author.Tests.{lt-ltb, leb-true, le-leb, lt-leb, eq-eqb, ne-eqb}
 use lib.Dec.{eqb, leb}
 use lib.ListN.{length, getD, drop, drop-of-length-le, List·getD-eq-default}
@@ -88,7 +89,7 @@ row-past power ps i h = rw (drop-of-length-le ps {i = i} h) refl
 
 -- an engine is weighed for an outboard declared above 0 W, and for no other boat
 pub row-due : (s : List ℕ) → eqb (outboard s) 1 ≡ true → 0 < declared s → wantsRow s ≡ true
-row-due s e h = rw (e, lt-ltb 0 (declared s) h) refl
+row-due s e h = rw e (omega (arith, lt-ltb, le-leb))
 
 pub inboard-rowless : (s : List ℕ) → eqb (outboard s) 1 ≡ false → wantsRow s ≡ false
 inboard-rowless s e = rw e refl
