@@ -5,7 +5,6 @@ use mathlib.Core.Bool.{Bool, true, false, _&&_}
 use mathlib.Core.List.{List, [], _∷_, _++_, map}
 use Prim.Native.Nat.{ℕ, _+_, _*_}
 use lib.ListN.{getD, replicate}
-use Rattle.text.specs.Quoted.{bytes}
 use Rattle.text.specs.Field.{fieldOf, agreed}
 use Rattle.text.specs.Number.{restOf, numberOf}
 use Rattle.text.specs.Limit.{allHold}
@@ -17,6 +16,7 @@ use Rattle.form.specs.Outcome.{took}
 use Rattle.form.specs.Reading.{readRows, readParts, readForm}
 use Rattle.sheet.specs.Sheet.{limitsOn, sheetLimits}
 use Rattle.sheet.specs.SheetText.{sheetForm, weightsFrom, fitsOf, numbersOn, readSheet}
+use Rattle.sheet.proofs.BaseHull.{sample}
 use Rattle.capacity.specs.Words.{hullLength, reference, transomWidth, transomHeight, flatBottom, remote}
 use Rattle.capacity.specs.Words.{station, aft, well, flooding, bare, fuel, machinery, outboard, declared}
 use Rattle.capacity.specs.Words.{positions, tested, fittingsOf}
@@ -84,15 +84,8 @@ unfolding seated load power inboard massed words
 boats-right = (refl, refl)
 
 -- the base hull is that of 01's printed sheet
-printed : List ℕ
-printed =
-    bytes "HULL\t0\nFORM\t4500\t4000\t1200\t500\t0\t1\nSTN\tQ\t1000\t500\t500\t500\t500\t500\t500\n"
-    ++ (bytes "STN\tR\t1000\t500\t500\t500\t500\t500\t500\nSTN\tS\t1000\t500\t500\t500\t500\t500\t500\n"
-    ++ (bytes "STN\tT\t1000\t500\t500\t500\t500\t500\t500\nVOL\t0\t0\t0\nMASS\t200000\t0\t0\nPWR\t1\t20000\n"
-    ++ bytes "SEAT\t5\t3\nFIT\t1\t3334\nEND\n"))
-
-base-right : readSheet printed ≡ took 237 (0 ∷ seated 3 20000 200000 3334)
-unfolding printed seated words readSheet sheetForm numbersOn numbersOf fitsOf weightsFrom
+base-right : readSheet sample ≡ took 237 (0 ∷ seated 3 20000 200000 3334)
+unfolding seated words readSheet sheetForm numbersOn numbersOf fitsOf weightsFrom
     readForm readParts readRows kindOf readLine agreed readNumbers readEntry fieldOf numberOf restOf
 base-right = refl
 

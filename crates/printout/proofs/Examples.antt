@@ -13,6 +13,7 @@ use Rattle.form.specs.Parts.{kindOf, numbersOf}
 use Rattle.form.specs.Reading.{readRows, readParts, readForm}
 use Rattle.sheet.specs.SheetText.{sheetForm, weightsFrom, fitsOf, numbersOn, readSheet}
 use Rattle.sheet.specs.EngineText.{engineForm, readEngines}
+use Rattle.sheet.proofs.BaseHull.{hull, form, mass, power, seats, sheetWith}
 use Rattle.capacity.specs.Volume.{stationProduct, volumeN, netZ}
 use Rattle.capacity.specs.Weights.{addedUp, boatM}
 use Rattle.capacity.specs.PlateC.{exactX, markedC, rising, rowsRight, rowFor, lacksRow, engineWeight}
@@ -24,16 +25,13 @@ use Rattle.printout.specs.Printed.{platesText, rowsPrinted, printed}
 -- 01's sheet with another FORM line and another boat, and then engine lines
 withForm : String → String → String → List ℕ
 withForm form mass engines =
-    bytes "HULL\t0\n" ++ (bytes form
-    ++ (bytes "STN\tQ\t1000\t500\t500\t500\t500\t500\t500\nSTN\tR\t1000\t500\t500\t500\t500\t500\t500\n"
-    ++ (bytes "STN\tS\t1000\t500\t500\t500\t500\t500\t500\nSTN\tT\t1000\t500\t500\t500\t500\t500\t500\nVOL\t0\t0\t0\n"
-    ++ (bytes mass ++ (bytes "PWR\t1\t20000\nSEAT\t5\t3\nFIT\t1\t3334\nEND\n" ++ bytes engines)))))
+    sheetWith hull form mass power seats (bytes "FIT\t1\t3334\nEND\n" ++ bytes engines)
 
 withBoat : String → String → List ℕ
-withBoat = withForm "FORM\t4500\t4000\t1200\t500\t0\t1\n"
+withBoat = withForm form
 
 abbrev boat : String
-boat = "MASS\t200000\t0\t0\n"
+boat = mass
 
 -- 01's engine lines
 abbrev engines : String

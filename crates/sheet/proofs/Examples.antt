@@ -14,37 +14,9 @@ use Rattle.form.specs.Reading.{readRows, readParts, readForm}
 use Rattle.form.specs.Writing.{rowsText, partsText}
 use Rattle.sheet.specs.SheetText.{sheetForm, weightsFrom, fitRows, fitsOf, numbersOn, rowsOn}
 use Rattle.sheet.specs.SheetText.{readSheet, sheetText}
+use Rattle.sheet.proofs.BaseHull.{hull, form, mass, power, seats, sheetWith, withRest, sample}
 
--- ---- a sheet with some of its lines given
-
-stations : List ℕ
-stations =
-    bytes "STN\tQ\t1000\t500\t500\t500\t500\t500\t500\nSTN\tR\t1000\t500\t500\t500\t500\t500\t500\n"
-    ++ bytes "STN\tS\t1000\t500\t500\t500\t500\t500\t500\nSTN\tT\t1000\t500\t500\t500\t500\t500\t500\n"
-
-sheet : String → String → String → String → List ℕ → List ℕ
-sheet hull form power seats rest =
-    bytes hull ++ (bytes form ++ (stations
-    ++ (bytes "VOL\t0\t0\t0\nMASS\t200000\t0\t0\n" ++ (bytes power ++ (bytes seats ++ rest)))))
-
-abbrev hull : String
-hull = "HULL\t0\n"
-
-abbrev form : String
-form = "FORM\t4500\t4000\t1200\t500\t0\t1\n"
-
-abbrev power : String
-power = "PWR\t1\t20000\n"
-
-abbrev seats : String
-seats = "SEAT\t5\t3\n"
-
-withRest : String → List ℕ
-withRest rest = sheet hull form power seats (bytes rest)
-
--- 01's sheet, and its numbers
-sample : List ℕ
-sample = withRest "FIT\t1\t3334\nEND\n"
+-- ---- 01's sheet, and its numbers
 
 station : List ℕ
 station = 1000 ∷ replicate 6 500
@@ -55,12 +27,12 @@ numbers =
     ++ (0 ∷ 0 ∷ 0 ∷ 200000 ∷ 0 ∷ 0 ∷ 1 ∷ 20000 ∷ 5 ∷ 3 ∷ 3334 ∷ replicate 23 0)))))
 
 sample-reads : readSheet sample ≡ took 237 numbers
-unfolding sample withRest sheet stations station numbers readSheet sheetForm numbersOn numbersOf fitsOf weightsFrom
+unfolding station numbers readSheet sheetForm numbersOn numbersOf fitsOf weightsFrom
     readForm readParts readRows kindOf readLine agreed readNumbers readEntry fieldOf numberOf restOf
 sample-reads = refl
 
 sample-written : sheetText numbers ≡ sample
-unfolding sample withRest sheet stations station numbers sheetText sheetForm rowsOn fitRows
+unfolding station numbers sheetText sheetForm rowsOn fitRows
     partsText rowsText kindOf numbersText digitsOf digitsIn
 sample-written = refl
 
@@ -75,16 +47,16 @@ unfoldable pub taken : ℕ → Found ℕ
 taken k = took k 0
 
 withHull : String → List ℕ
-withHull line = sheet line form power seats (bytes "END\n")
+withHull line = sheetWith line form mass power seats (bytes "END\n")
 
 withForm : String → List ℕ
-withForm line = sheet hull line power seats (bytes "END\n")
+withForm line = sheetWith hull line mass power seats (bytes "END\n")
 
 withPower : String → List ℕ
-withPower line = sheet hull form line seats (bytes "END\n")
+withPower line = sheetWith hull form mass line seats (bytes "END\n")
 
 withSeats : String → List ℕ
-withSeats line = sheet hull form power line (bytes "END\n")
+withSeats line = sheetWith hull form mass power line (bytes "END\n")
 
 -- all 24 FIT lines
 fits : ℕ → List ℕ → List ℕ
@@ -92,7 +64,7 @@ fits n [] = []
 fits n (k ∷ ks) = bytes "FIT\t" ++ (digitsOf n ++ (bytes "\t5\n" ++ fits (suc n) ks))
 
 withFits : String → List ℕ
-withFits rest = sheet hull form power seats (fits 1 (replicate 24 0) ++ bytes rest)
+withFits rest = sheetWith hull form mass power seats (fits 1 (replicate 24 0) ++ bytes rest)
 
 texts : List (List ℕ)
 texts =
@@ -131,7 +103,7 @@ texts-right :
     ∷ taken 433 ∷ lost 2 429 ∷ lost 2 224
     ∷ lost 2 6 ∷ lost 2 0
     ∷ []
-unfolding ended taken texts withHull withForm withPower withSeats withFits fits withRest sheet stations
+unfolding ended taken texts withHull withForm withPower withSeats withFits fits
     readSheet sheetForm digitsOf digitsIn
     readForm readParts readRows kindOf readLine agreed readNumbers readEntry fieldOf numberOf restOf
 texts-right = refl

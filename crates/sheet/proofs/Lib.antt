@@ -13,6 +13,7 @@ pub mod Most  -- 610 bytes, and the sheet that reaches them
 pub mod Calls  -- the single text as a caller sees it
 pub mod Refused  -- a refused call leaves every lent byte
 pub mod Listed  -- refusals of the list alone
+pub mod BaseHull  -- 01's printed sheet as a text, with some of its lines given
 pub mod Examples  -- worked texts of sheets, computed
 pub mod EngineExamples  -- and of engine rows
 pub mod Ends  -- both ends of every limit, computed
