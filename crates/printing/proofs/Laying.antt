@@ -1,27 +1,28 @@
--- What the code that lays a print leaves, path by path. Assumes nothing.
+-- What the code that lays a print leaves, path by path.
 use mathlib.Core.Path.{_≡_, sym, ap, _∙_}
 use mathlib.Core.Bool.{true}
 use mathlib.Core.List.{List, _++_}
 use Prim.Native.Nat.{ℕ, _+_, _-_, _≤_}
 use native.Mathlib.Omega.{arith}
-use lib.ListN.{length, take, drop, replicate, length-append, length-drop}
+use lib.ListN.{length, take, drop, length-append, length-drop}
 use lib.Seq.{take-all}
 use Rattle.text.specs.declared.LineRead.the-variants.{Taken, Fault}
-use Rattle.text.specs.Line.{Reads, Laid}
+use Rattle.text.specs.Line.{Laid}
 use Rattle.ground.proofs.Stores.{putBack, rest-part}
-use Rattle.text.proofs.Laid.{laid-more, laid-part}
-use Rattle.sheet.specs.declared.RowsRead.the-variants.{Rows, NoRows}
-use Rattle.sheet.specs.Lines.{mostRows}
-use Rattle.sheet.specs.Places.{sheetWords, textWords}
-use Rattle.sheet.specs.Sheet.{wordsOk}
-use Rattle.sheet.specs.Reading.{readSheet}
-use Rattle.sheet.specs.Engines.{readEngines, Rowed}
-use Rattle.sheet.proofs.Written.{laid-length}
-use Rattle.sheet.proofs.Whole.{sheet-stored, sheet-count}
-use Rattle.sheet.proofs.EnginesCall.{ended-fault, ended-rows, first-powers, first-weights}
+use Rattle.text.proofs.Laid.{laid-more, laid-part, laid-length}
+use Rattle.sheet.specs.declared.RowsRead.the-variants.{NoRows}
+use Rattle.sheet.specs.Places.{sheetWords}
+use Rattle.sheet.specs.SheetText.{readSheet}
+use Rattle.sheet.specs.EngineText.{readEngines}
+use Rattle.sheet.proofs.SheetText.{sheet-count}
+use Rattle.reading.specs.Filled.{Filled}
+use Rattle.reading.specs.Rows.{Columns}
+use Rattle.reading.proofs.Found.{filled-fault, filled-taken}
+use Rattle.reading.proofs.EnginesCall.{Held, columns-fault}
+use Rattle.capacity.specs.Bounds.{Bounds}
 use Rattle.printout.specs.Input.{mostInput, sheetBytes}
 use Rattle.printout.specs.Printed.{inputText, platesText, rowsPrinted, printed}
-use Rattle.printout.proofs.Printed.{rows-fault, rows-plates, printed-fault, printed-rows, read-ok}
+use Rattle.printout.proofs.Printed.{rows-fault, rows-plates, printed-fault, printed-rows, read-bounds}
 
 -- ---- plates A and C, one after the other
 
@@ -38,29 +39,29 @@ module _ {x o₀ o₁ : List ℕ} {end : ℕ} (p : Laid x o₀ 0 end o₁) where
 
 -- ---- the engine rows
 
-module _ (s t : List ℕ) {a b c d : List ℕ} where
-  pub fault-printed : {number place : ℕ} → Rowed (readEngines t) a b (NoRows number place) c d → inputText number ≡ rowsPrinted s t
-  fault-printed {number} {place} p = sym (rows-fault s t (ended-fault (readEngines t) number place (p .answer)))
+module _ (s t : List ℕ) {c d : List ℕ} where
+  pub fault-printed : {number at : ℕ} → Columns (readEngines t) (NoRows number at) c d
+      → inputText number ≡ rowsPrinted s t
+  fault-printed p = sym (rows-fault s t (columns-fault (readEngines t) p))
 
   -- the first of the two columns that were lent are the rows
-  pub columns-printed : {n : ℕ} → Rowed (readEngines t) a b (Rows n) c d → length a ≡ mostRows → length b ≡ mostRows → platesText s (take n c) (take n d) ≡ rowsPrinted s t
-  columns-printed {n} p u v = rw (first-powers t a b p u v, first-weights t a b p u v) (sym (rows-plates s t (ended-rows (readEngines t) n (p .answer) .1)))
+  pub columns-printed : {n : ℕ} → Held (readEngines t) n c d → platesText s (take n c) (take n d) ≡ rowsPrinted s t
+  columns-printed p = rw (p .powers, p .weights) (sym (rows-plates s t (p .is)))
 
 -- ---- the whole
 
 module _ (t : List ℕ) (h : length t ≤ mostInput) {end : ℕ} (q : end ≡ sheetBytes true t) where
-  pub sheet-printed : {number place : ℕ} {o₀ o : List ℕ} → Reads (readSheet (take end t)) o₀ (Fault number place) o → inputText number ≡ printed t
-  sheet-printed p = sym (printed-fault t h (sym (rw q at (p .answer))))
+  pub sheet-printed : {number at : ℕ} {o : List ℕ} → Filled (readSheet (take end t)) (take end t) (Fault number at) o
+      → inputText number ≡ printed t
+  sheet-printed p = sym (printed-fault t h (rw q at (filled-fault p)))
 
-  module _ {k : ℕ} {o : List ℕ} (p : Reads (readSheet (take end t)) (replicate textWords 0) (Taken k) o) where
-    words : take sheetWords (drop 1 o) ≡ drop 1 (readSheet (take end t) .numbers)
+  module _ {k : ℕ} {o : List ℕ} (p : Filled (readSheet (take end t)) (take end t) (Taken k) o) where
+    words : take sheetWords (drop 1 o) ≡ drop 1 o
     words =
-        let e = sheet-stored (take end t) o k p in
-        let n : length o ≡ textWords = ap length e ∙ sheet-count (take end t) k (sym (p .answer)) in
-        take-all sheetWords (drop 1 o) (omega (arith, length-drop 1 o)) ∙ ap (drop 1) e
+        take-all sheetWords (drop 1 o) (omega (arith, length-drop 1 o, sheet-count (take end t) k o (filled-taken p)))
 
-    pub words-ok : wordsOk (take sheetWords (drop 1 o)) ≡ true
-    words-ok = rw words (read-ok (take end t) k (sym (p .answer)))
+    pub words-bounds : Bounds (take sheetWords (drop 1 o))
+    words-bounds = rw words (read-bounds (take end t) k o (filled-taken p))
 
     pub rows-printed : rowsPrinted (take sheetWords (drop 1 o)) (take (length t - end) (drop end t)) ≡ printed t
-    rows-printed = rw (words, rest-part t end, q) (sym (printed-rows t h (sym (rw q at (p .answer)))))
+    rows-printed = rw (words, rest-part t end, q) (sym (printed-rows t h (rw q at (filled-taken p))))

@@ -5,9 +5,10 @@ ghost use Prim.Native.Nat.{_≤_};
 ghost use lib.ListN.{length};
 ghost use Rattle.text.specs.Line.{Laid};
 ghost use Rattle.answers.specs.Settled.{Settled};
-ghost use Rattle.sheet.specs.Sheet.{wordsOk};
+ghost use Rattle.capacity.specs.Bounds.{Bounds};
 ghost use Rattle.printout.specs.Input.{sheetBytes};
-ghost use Rattle.printout.specs.Printed.{inputText, plateText, platesText, rowsPrinted, printed, printAnswer, printInto};
+ghost use Rattle.printout.specs.Printed.{inputText, plateText, platesText};
+ghost use Rattle.printout.specs.Printed.{rowsPrinted, printed, printAnswer, printInto};
 use answers::Answer;
 use answers::NO_ROOM;
 use sheet::MOST_ROWS;
@@ -54,7 +55,8 @@ fn lay_fault(number: u32, out: &mut [u8]) -> usize
 
 // Lays a plate's line, after the tag of a marked or of a refused one.
 fn lay_plate(marked: &[u8], refused: &[u8], answer: Answer, out: &mut [u8]) -> usize
-    ensures { λ r. ⌜ Laid (plateText (now (marked .entry)) (now (refused .entry)) answer) (now (out .entry)) 0 r (now (out .exit)) ⌝ }
+    ensures { λ r. ⌜ Laid (plateText (now (marked .entry)) (now (refused .entry)) answer) (now (out .entry)) 0 r
+        (now (out .exit)) ⌝ }
 {
     match answer {
         Answer::Plate(load, figure) => {
@@ -74,8 +76,10 @@ fn lay_plate(marked: &[u8], refused: &[u8], answer: Answer, out: &mut [u8]) -> u
 
 // Lays the lines of plates A and C.
 fn lay_plates(sheet: &[u32], powers: &[u32], weights: &[u32], out: &mut [u8]) -> usize
-    requires { ⌜ (wordsOk (now sheet) ≡ true) × (length (platesText (now sheet) (now powers) (now weights)) ≤ length (now out)) ⌝ }
-    ensures { λ r. ⌜ Laid (platesText (now (sheet .entry)) (now (powers .entry)) (now (weights .entry))) (now (out .entry)) 0 r (now (out .exit)) ⌝ }
+    requires { ⌜ Bounds (now sheet) ×
+        (length (platesText (now sheet) (now powers) (now weights)) ≤ length (now out)) ⌝ }
+    ensures { λ r. ⌜ Laid (platesText (now (sheet .entry)) (now (powers .entry)) (now (weights .entry)))
+        (now (out .entry)) 0 r (now (out .exit)) ⌝ }
 {
     let end = lay_plate(
         b"PLATE\tA\t",
@@ -94,8 +98,9 @@ fn lay_plates(sheet: &[u32], powers: &[u32], weights: &[u32], out: &mut [u8]) ->
 
 // Lays what is printed of a sheet and the engine lines after it.
 fn lay_rows(sheet: &[u32], engines: &[u8], out: &mut [u8]) -> usize
-    requires { ⌜ (wordsOk (now sheet) ≡ true) × (length (rowsPrinted (now sheet) (now engines)) ≤ length (now out)) ⌝ }
-    ensures { λ r. ⌜ Laid (rowsPrinted (now (sheet .entry)) (now (engines .entry))) (now (out .entry)) 0 r (now (out .exit)) ⌝ }
+    requires { ⌜ Bounds (now sheet) × (length (rowsPrinted (now sheet) (now engines)) ≤ length (now out)) ⌝ }
+    ensures { λ r. ⌜ Laid (rowsPrinted (now (sheet .entry)) (now (engines .entry))) (now (out .entry)) 0 r
+        (now (out .exit)) ⌝ }
 {
     let mut powers = [0u32; MOST_ROWS];
     let mut weights = [0u32; MOST_ROWS];
@@ -121,10 +126,12 @@ fn lay_printed(input: &[u8], out: &mut [u8]) -> usize
     }
 }
 
-// Prints the plates of a sheet and engine lines into out, from its start, and answers how many bytes that is; 60 bytes are always room enough. It
+// Prints the plates of a sheet and engine lines into out, from its start, and answers how many bytes that is; 60 bytes
+// are always room enough. It
 // refuses with 16 an out that is shorter than what is printed, and then leaves it as it stood.
 pub fn print_plates(input: &[u8], out: &mut [u8]) -> Answer
-    ensures { λ r. ⌜ Settled (printAnswer (now (input .entry)) (length (now (out .entry)))) (printInto (now (input .entry)) (now (out .entry))) r (now (out .exit)) ⌝ }
+    ensures { λ r. ⌜ Settled (printAnswer (now (input .entry)) (length (now (out .entry))))
+        (printInto (now (input .entry)) (now (out .entry))) r (now (out .exit)) ⌝ }
 {
     let mut bytes = [0u8; MOST_PRINTED];
     let len = lay_printed(input, &mut bytes);

@@ -1,146 +1,153 @@
--- Laws of the loop that reads engine rows. Assumes nothing.
+-- The loop that reads engine rows: the two columns of the rows read so far stand at the starts of the two lists.
 use mathlib.Core.Path.{_≡_, refl, sym, ap, _∙_}
-use mathlib.Core.List.{List, [], _∷_, _++_, append-nil}
-use Prim.Native.Nat.{ℕ, suc, _+_, _-_, _≤_, _<_}
+use mathlib.Core.Bool.{Bool, true, false}
+use mathlib.Core.List.{List, [], _∷_, _++_}
+use mathlib.Core.Option.{some}
+use Prim.Native.Nat.{ℕ, suc, _+_, _-_, _≤_, _<_, max}
 use native.Mathlib.Nat.{add-zero}
 use native.Mathlib.Omega.{arith}
-use lib.ListN.{length, take, drop, getD, set, length-append, length-drop}
-use lib.Seq.{sets, length-sets, drop-drop}
-use Rattle.text.specs.declared.LineRead.{LineRead}
-use Rattle.text.specs.declared.LineRead.the-variants.{Taken, Fault}
-use Rattle.text.specs.Line.{Reading, Reads, nothing, refused, after, readLine}
-use Rattle.ground.proofs.Stores.{rest-part, sets-snoc}
-use Rattle.text.proofs.Reading.{after-nothing, after-after}
-use Rattle.text.proofs.Line.{extent, line-extent}
-use Rattle.sheet.specs.declared.RowsRead.the-variants.{Rows, NoRows}
-use Rattle.sheet.specs.Lines.{engineLine, mostRows}
-use Rattle.sheet.specs.Engines.{orStop, onRow, readRows, powersOf, weightsOf, Rowed}
-use Rattle.sheet.proofs.Engines.{Paired, Row, columns-even, none, paired-append, powers-append, row, row-numbers, stop-here, stop-not, weights-append}
+use lib.ListN.{length, take, drop, set, getD}
+use lib.Seq.{sets, length-sets}
+use Rattle.text.specs.Field.{begins}
+use Rattle.ground.proofs.Stores.{rest-part}
+use Rattle.form.specs.Parts.{Row, Rows, lineRow, letterOf}
+use Rattle.form.specs.Outcome.{took, lost, outcome}
+use Rattle.form.specs.Reading.{kindAt}
+use Rattle.form.proofs.Letters.{kind-here}
+use Rattle.form.proofs.OneLine.{line-else}
+use Rattle.form.proofs.Chain.{lost-not-found}
+use Rattle.sheet.specs.Lines.{engineLine, enginePowerHigh, engineWeightHigh, mostRows}
+use Rattle.sheet.specs.EngineText.{enginePart, powersOf, weightsOf}
+use Rattle.sheet.proofs.EngineText.{powers-length, weights-length}
+use Rattle.reading.specs.declared.RowRead.{RowRead}
+use Rattle.reading.specs.declared.RowRead.the-variants.{Pair, NoPair}
+use Rattle.reading.specs.Rows.{Paired, pairReach, pairFound, Columns}
+use Rattle.reading.proofs.Row.{first-in}
+use Rattle.reading.proofs.RowsLoop.{Upto, part-in}
+use Rattle.sheet.specs.declared.RowsRead.the-variants.{Rows as Many, NoRows}
+use Rattle.reading.proofs.RowsLoop as loop
+use Rattle.reading.proofs.Columns.{enginesAt, engineFrom, engineLetter, engines-away}
+use Rattle.reading.proofs.Columns.{rows-last, rows-before, rows-lost, column-snoc, column-first}
 
--- ---- the loop
-
--- `rows` rows are read, which took `at` bytes of t; the next power may be `next`
+-- read are read, `rows` rows, and there is more text after them; the next power may be `next`
 pub record State (t a₀ b₀ a b : List ℕ) (rows at next : ℕ) : Type 0 where
-  pub so : List ℕ
-  pub paired : Paired so
-  pub at-in : at ≤ length t
-  pub many : length (powersOf so) ≡ rows
-  pub powers : a ≡ sets a₀ 0 (powersOf so)
-  pub weights : b ≡ sets b₀ 0 (weightsOf so)
-  pub so-far : readRows mostRows 1 t ≡ after so at (readRows (mostRows - rows) next (drop at t))
+  pub read : Rows
+  pub above : ℕ
+  pub upto : Upto enginePart t read rows at above
+  pub starts : next ≡ max 1 above
+  pub more : 0 < rows → at < length t
+  pub powers : a ≡ sets a₀ 0 (powersOf read)
+  pub weights : b ≡ sets b₀ 0 (weightsOf read)
 
 pub start : (t a b : List ℕ) → State t a b a b 0 0 1
 start t a b =
+    let none : 0 < 0 → 0 < length t = λ (h : 0 < 0). absurd (omega arith) in
     record {
-      so = [];
-      paired = none;
-      at-in = omega arith;
-      many = refl;
+      read = [];
+      above = 0;
+      upto = loop.start enginePart t;
+      starts = refl;
+      more = none;
       powers = refl;
       weights = refl;
-      so-far = sym (after-nothing (readRows mostRows 1 t));
     }
 
 module _ {t a₀ b₀ a b : List ℕ} {rows at next : ℕ} (s : State t a₀ b₀ a b rows at next) where
   pub powers-kept : length a ≡ length a₀
-  powers-kept = ap length (s .powers) ∙ simp length-sets
+  powers-kept = ap length (s .powers) ∙ length-sets a₀ 0 (powersOf (s .read))
 
   pub weights-kept : length b ≡ length b₀
-  weights-kept = ap length (s .weights) ∙ simp length-sets
+  weights-kept = ap length (s .weights) ∙ length-sets b₀ 0 (weightsOf (s .read))
 
-  -- the reading ends with the numbers so far
-  ends : (number place : ℕ) → readRows (mostRows - rows) next (drop at t) ≡ refused number place → Rowed (readRows mostRows 1 t) a₀ b₀ (NoRows number (at + place)) a b
-  ends number place e =
-      let q : readRows mostRows 1 t ≡ after (s .so) at (refused number place) = s .so-far ∙ ap (after (s .so) at) e in
-      record { answer = rw q; powers = s .powers ∙ rw (q, append-nil (s .so)); weights = s .weights ∙ rw (q, append-nil (s .so)) }
-
-  pub full : mostRows ≤ rows → Rowed (readRows mostRows 1 t) a₀ b₀ (NoRows 2 at) a b
-  unfolding readRows
+  -- there is more text after as many rows as there may be
+  pub full : mostRows ≤ rows → Columns (enginesAt t) (NoRows 2 at) a b
   full h =
-      let z : mostRows - rows ≡ 0 = omega arith in
-      rw (add-zero at) at (ends 2 0 (rw z))
+      let e = rows-before t (loop.full (s .upto) (omega arith) h) (s .more (omega arith)) in
+      record { answer = rw e; powers = rw e; weights = rw e }
 
-  module _ (h : rows < mostRows) {r : LineRead} {pair : List ℕ} (p : Reads (readLine (engineLine next) (take (length t - at) (drop at t))) (0 ∷ 0 ∷ []) r pair) where
-    ended : r ≡ readLine (engineLine next) (drop at t) .ended
-    ended = p .answer ∙ rw (rest-part t at)
+-- a turn of the loop, after the row was read as r
+pub record Turn (t a₀ b₀ a b : List ℕ) (rows at next : ℕ) (r : RowRead) : Type 0 where
+  pub state : State t a₀ b₀ a b rows at next
+  pub few : rows < mostRows
+  pub row : Paired (engineFrom next) (take (length t - at) (drop at t)) r
 
-    entered : readRows (mostRows - rows) next (drop at t) ≡ onRow (readLine (engineLine next) (drop at t)) (readRows (mostRows - (rows + 1))) (drop at t)
-    unfolding readRows
-    entered =
-        let e : mostRows - rows ≡ suc (mostRows - (rows + 1)) = omega arith in
-        rw e
+module _ {t a₀ b₀ a b : List ℕ} {rows at next : ℕ} {r : RowRead} (p : Turn t a₀ b₀ a b rows at next r) where
+  abbrev s : State t a₀ b₀ a b rows at next
+  s = p .state
 
-    pub place-in : at + extent r ≤ length t
-    place-in = omega (arith, ap extent ended, line-extent (engineLine next) (drop at t), length-drop at t, s .at-in)
+  row : Paired (engineFrom (max 1 (s .above))) (take (length t - at) (drop at t)) r
+  row = rw (s .starts) at (p .row)
 
-    pub fault : {number place : ℕ} → r ≡ Fault number place → Rowed (readRows mostRows 1 t) a₀ b₀ (NoRows number (at + place)) a b
-    fault {number} {place} v =
-        let f : readLine (engineLine next) (drop at t) .ended ≡ Fault number place = sym ended ∙ v in
-        ends number place (entered ∙ rw f)
+  -- a text that does not go on with a row is refused at its first byte
+  away : begins engineLetter (drop at t) ≡ false → lost 2 0 ≡ pairFound r
+  away e =
+      sym (ap outcome (line-else (engineFrom next) (drop at t) (omega arith) e))
+      ∙ rw (rest-part t at) at (p .row .found)
 
-    module _ {len : ℕ} (v : r ≡ Taken len) where
-      taken : readLine (engineLine next) (drop at t) .ended ≡ Taken len
-      taken = sym ended ∙ v
+  pub place-in : at + pairReach r ≤ length t
+  place-in = part-in t (s .upto .at-in) (p .row .within)
 
-      -- the row's two numbers stand in the pair that was lent for them
-      read-row : Row next pair
-      read-row =
-          let f = row-numbers next (drop at t) len taken in
-          record { n = f .n; w = f .w; are = p .stored ∙ rw (rest-part t at, f .are); n-low = f .n-low; n-high = f .n-high; w-low = f .w-low; w-high = f .w-high }
+  pub fault : {number place : ℕ} → r ≡ NoPair number place → Columns (enginesAt t) (NoRows number (at + place)) a b
+  fault {number} {place} v =
+      let e = go (begins engineLetter (drop at t)) refl in
+      record { answer = rw e; powers = rw e; weights = rw e }
+    where
+      go : (u : Bool) → begins engineLetter (drop at t) ≡ u → enginesAt t ≡ lost number (at + place)
+      go true d =
+          rows-lost t (loop.fault (s .upto) (p .few) engineLine (kind-here engineLine (drop at t) d) row v)
+      go false d =
+          let c : lost 2 0 ≡ lost number place = away d ∙ rw v in
+          let x : number ≡ 2 = cc in
+          let y : place ≡ 0 = cc in
+          rw (x, y, add-zero at) (engines-away (s .upto) (s .more) d)
 
-      same : readLine (engineLine next) (drop at t) .numbers ≡ read-row .n ∷ read-row .w ∷ []
-      unfolding read-row
-      same = row-numbers next (drop at t) len taken .are
+  module _ {n w len : ℕ} (v : r ≡ Pair n w len) where
+    -- what the stores and the sums of the turn need
+    pub bounds : (n ≤ enginePowerHigh) × (at + len ≤ length t) × (length a ≡ length a₀) × (length b ≡ length b₀)
+    bounds = (
+      first-in next enginePowerHigh 0 engineWeightHigh _ (take (length t - at) (drop at t)) (rw v at (p .row)) .1,
+      omega (arith, place-in, ap pairReach v),
+      powers-kept s,
+      weights-kept s,
+    )
 
-      pub power-high : getD pair 0 0 ≤ 200000
-      power-high = omega (arith, read-row .n-high, ap (λ (l : List ℕ). getD l 0 0) (read-row .are))
+    here : kindAt (enginePart .kinds) (drop at t) ≡ some engineLine
+    here = go (begins engineLetter (drop at t)) refl
+      where
+        go : (u : Bool) → begins engineLetter (drop at t) ≡ u
+            → kindAt (enginePart .kinds) (drop at t) ≡ some engineLine
+        go true d = kind-here engineLine (drop at t) d
+        go false d = let c : lost 2 0 ≡ took len (n ∷ w ∷ []) = away d ∙ rw v in absurd (lost-not-found c)
 
-      -- the row, and then what follows it
-      followed : readRows (mostRows - rows) next (drop at t) ≡ after (read-row .n ∷ read-row .w ∷ []) len (orStop (readRows (mostRows - (rows + 1)) (suc (read-row .n))) (drop (at + len) t))
-      followed = entered ∙ rw (taken, same, drop-drop len at t)
+    abbrev engine : Row
+    engine = lineRow (letterOf engineLine) (n ∷ w ∷ [])
 
-      powers₁ : set a rows (getD pair 0 0) ≡ sets a₀ 0 (powersOf (s .so ++ (read-row .n ∷ read-row .w ∷ [])))
-      powers₁ =
-          let e : getD pair 0 0 ≡ read-row .n = ap (λ (l : List ℕ). getD l 0 0) (read-row .are) in
-          let k : rows ≡ 0 + length (powersOf (s .so)) = omega (arith, s .many) in
-          ap (λ (x : ℕ). set a rows x) e ∙ ap (λ (x : List ℕ). set x rows (read-row .n)) (s .powers) ∙ ap (λ (j : ℕ). set (sets a₀ 0 (powersOf (s .so))) j (read-row .n)) k
-          ∙ sets-snoc a₀ 0 (powersOf (s .so)) (read-row .n) ∙ ap (sets a₀ 0) (sym (powers-append (read-row .n ∷ read-row .w ∷ []) (s .paired)))
+    onto : Upto enginePart t (s .read ++ (engine ∷ [])) (rows + 1) (at + len) (suc n)
+    onto = loop.step (s .upto) (p .few) engineLine here row v
 
-      weights₁ : set b rows (getD pair 1 0) ≡ sets b₀ 0 (weightsOf (s .so ++ (read-row .n ∷ read-row .w ∷ [])))
-      weights₁ =
-          let e : getD pair 1 0 ≡ read-row .w = ap (λ (l : List ℕ). getD l 1 0) (read-row .are) in
-          let k : rows ≡ 0 + length (weightsOf (s .so)) = omega (arith, s .many, columns-even (s .paired)) in
-          ap (λ (x : ℕ). set b rows x) e ∙ ap (λ (x : List ℕ). set x rows (read-row .w)) (s .weights) ∙ ap (λ (j : ℕ). set (sets b₀ 0 (weightsOf (s .so))) j (read-row .w)) k
-          ∙ sets-snoc b₀ 0 (weightsOf (s .so)) (read-row .w) ∙ ap (sets b₀ 0) (sym (weights-append (read-row .n ∷ read-row .w ∷ []) (s .paired)))
+    powers₁ : set a rows n ≡ sets a₀ 0 (powersOf (s .read ++ (engine ∷ [])))
+    powers₁ = column-snoc (λ (q : Row). getD (q .numbers) 0 0) a₀ a (s .read) engine (s .powers) (s .upto .many)
 
-      many₁ : length (powersOf (s .so ++ (read-row .n ∷ read-row .w ∷ []))) ≡ rows + 1
-      many₁ = ap length (powers-append (read-row .n ∷ read-row .w ∷ []) (s .paired)) ∙ omega (arith, s .many, length-append (powersOf (s .so)) (read-row .n ∷ []))
+    weights₁ : set b rows w ≡ sets b₀ 0 (weightsOf (s .read ++ (engine ∷ [])))
+    weights₁ = column-snoc (λ (q : Row). getD (q .numbers) 1 0) b₀ b (s .read) engine (s .weights) (s .upto .many)
 
-      pub last : length t ≤ at + len → Rowed (readRows mostRows 1 t) a₀ b₀ (Rows (rows + 1)) (set a rows (getD pair 0 0)) (set b rows (getD pair 1 0))
-      last l =
-          let ns : List ℕ = read-row .n ∷ read-row .w ∷ [] in
-          let e = stop-here (readRows (mostRows - (rows + 1)) (suc (read-row .n))) (drop (at + len) t) (omega (arith, length-drop (at + len) t)) in
-          let q : readRows mostRows 1 t ≡ after (s .so ++ ns) (at + len) nothing = s .so-far ∙ ap (after (s .so) at) (followed ∙ ap (after ns len) e) ∙ after-after (s .so) ns at len nothing in
-          let n : after (s .so ++ ns) (at + len) nothing .numbers ≡ s .so ++ ns = append-nil (s .so ++ ns) in
-          record {
-            answer = rw (q, n, many₁);
-            powers = powers₁ ∙ rw (q, n);
-            weights = weights₁ ∙ rw (q, n);
-          }
+    pub last : length a₀ ≡ mostRows → length b₀ ≡ mostRows → length t ≤ at + len
+        → Columns (enginesAt t) (Many (rows + 1)) (set a rows n) (set b rows w)
+    last k l m =
+        let rs : Rows = s .read ++ (engine ∷ []) in
+        let e = rows-last t (loop.none-more onto (omega arith) m) m in
+        let c = column-first a₀ (powersOf rs) (omega (arith, powers-length rs, onto .many, onto .few)) in
+        let d = column-first b₀ (weightsOf rs) (omega (arith, weights-length rs, onto .many, onto .few)) in
+        record { answer = rw (e, onto .many); powers = rw (powers₁, e) c; weights = rw (weights₁, e) d }
 
-      pub step : at + len < length t → State t a₀ b₀ (set a rows (getD pair 0 0)) (set b rows (getD pair 1 0)) (rows + 1) (at + len) (getD pair 0 0 + 1)
-      step l =
-          let ns : List ℕ = read-row .n ∷ read-row .w ∷ [] in
-          let rest : Reading = readRows (mostRows - (rows + 1)) (suc (read-row .n)) (drop (at + len) t) in
-          let e : orStop (readRows (mostRows - (rows + 1)) (suc (read-row .n))) (drop (at + len) t) ≡ rest =
-          stop-not (readRows (mostRows - (rows + 1)) (suc (read-row .n))) (drop (at + len) t) (omega (arith, length-drop (at + len) t)) in
-          let f : getD pair 0 0 + 1 ≡ suc (read-row .n) = omega (arith, ap (λ (l : List ℕ). getD l 0 0) (read-row .are)) in
-          record {
-            so = s .so ++ ns;
-            paired = paired-append (s .paired) (row none);
-            at-in = omega arith;
-            many = many₁;
-            powers = powers₁;
-            weights = weights₁;
-            so-far = s .so-far ∙ ap (after (s .so) at) (followed ∙ ap (after ns len) e) ∙ after-after (s .so) ns at len rest ∙ rw f;
-          }
+    pub step : at + len < length t → State t a₀ b₀ (set a rows n) (set b rows w) (rows + 1) (at + len) (n + 1)
+    step l =
+        record {
+          read = s .read ++ (engine ∷ []);
+          above = suc n;
+          upto = onto;
+          starts = omega arith;
+          more = λ (k : 0 < rows + 1). l;
+          powers = powers₁;
+          weights = weights₁;
+        }

@@ -1,127 +1,153 @@
--- Laws of the loop that reads FIT lines. Assumes nothing.
+-- The loop that reads FIT lines: the weights read so far stand at their places, and the others are still 0.
 use mathlib.Core.Path.{_≡_, refl, sym, ap, _∙_}
 use mathlib.Core.Bool.{true, false}
 use mathlib.Core.List.{List, [], _∷_, _++_, append-nil, append-assoc}
-use Prim.Native.Nat.{ℕ, suc, _+_, _-_, _≤_, _<_}
-use native.Mathlib.Nat.{add-zero}
+use mathlib.Core.Option.{some}
+use Prim.Native.Nat.{ℕ, suc, _+_, _-_, _≤_, _<_, max}
 use native.Mathlib.Numerals.{add-one}
 use native.Mathlib.Omega.{arith}
-use lib.ListN.{length, take, drop, getD, set, replicate, length-append, length-drop, length-replicate}
-use lib.Seq.{sets, length-sets, drop-drop}
-use Rattle.text.specs.declared.LineRead.{LineRead}
+use lib.ListN.{length, take, drop, set, replicate, length-append, length-replicate}
+use lib.Seq.{sets, length-sets}
 use Rattle.text.specs.declared.LineRead.the-variants.{Taken, Fault}
 use Rattle.text.specs.Field.{begins}
-use Rattle.text.specs.Line.{Reading, Reads, refused, after, readLine}
-use Rattle.ground.proofs.Stores.{rest-part, sets-snoc, zeros-stored}
-use Rattle.text.proofs.Reading.{after-nothing, after-after}
-use Rattle.text.proofs.Line.{extent, line-extent}
-use Rattle.sheet.specs.Lines.{fittings, fitLine}
-use Rattle.sheet.specs.Reading.{fitByte, onFit, readFits}
-use Rattle.sheet.proofs.Fits.{Fit, fit-numbers, fits-more, fits-none, noFits}
+use Rattle.text.specs.Line.{Line}
+use Rattle.ground.proofs.Stores.{rest-part, sets-snoc, sets-zeros, zeros-stored}
+use Rattle.form.specs.Parts.{Row, Rows, lineRow, letterOf}
+use Rattle.form.specs.Outcome.{Found, took, mapped}
+use Rattle.form.specs.Reading.{kindAt}
+use Rattle.form.proofs.Pairs.{pairLine}
+use Rattle.form.proofs.Letters.{kind-here, kind-away}
+use Rattle.sheet.specs.Lines.{fittings, fittingHigh, fitLine}
+use Rattle.sheet.specs.SheetText.{fitPart, weightsFrom}
+use Rattle.reading.specs.declared.RowRead.{RowRead}
+use Rattle.reading.specs.declared.RowRead.the-variants.{Pair, NoPair}
+use Rattle.reading.specs.Filled.{Filled}
+use Rattle.reading.specs.Rows.{Paired, pairReach}
+use Rattle.reading.proofs.Row.{first-in}
+use Rattle.reading.proofs.RowsLoop as loop
+use Rattle.reading.proofs.RowsLoop.{rowsAt, Upto, part-in}
 
--- ---- the loop
+-- the weights of the FIT lines that t starts with
+abbrev weightsAt : List ℕ → Found (List ℕ)
+weightsAt t = mapped (weightsFrom 1) (rowsAt fitPart t)
 
--- `read` FIT lines are read, which took `at` bytes of t; the next line number may be `next`
-pub record State (t o₀ o : List ℕ) (read at next : ℕ) : Type 0 where
+-- a FIT line whose number is from next on
+abbrev fitFrom : ℕ → Line
+fitFrom next = pairLine (fitLine .tag) next fittings 1 fittingHigh
+
+abbrev fitLetter : ℕ
+fitLetter = letterOf fitLine
+
+-- rows are read, the last byte of them before `at`; the next line number may be `next`
+pub record State (t o : List ℕ) (read at next : ℕ) : Type 0 where
+  pub rows : Rows
+  pub above : ℕ
+  pub upto : Upto fitPart t rows read at above
+  pub starts : next ≡ max 1 above
   pub so : List ℕ
-  pub zeros : o₀ ≡ replicate fittings 0
-  pub read-in : read ≤ fittings
-  pub at-in : at ≤ length t
+  pub stored : o ≡ sets (replicate fittings 0) 0 so
   pub many : length so + 1 ≡ next
   pub next-in : next ≤ suc fittings
-  pub stored : o ≡ sets o₀ 0 so
-  pub so-far : readFits fittings 1 t ≡ after so at (readFits (fittings - read) next (drop at t))
+  pub placed : (qs : Rows) → weightsFrom 1 (rows ++ qs) ≡ so ++ weightsFrom next qs
 
-pub start : (t o : List ℕ) → o ≡ replicate fittings 0 → State t o o 0 0 1
-start t o z = record { so = []; zeros = z; read-in = omega arith; at-in = omega arith; many = refl; next-in = omega arith; stored = refl; so-far = sym (after-nothing (readFits fittings 1 t)) }
+pub start : (t o : List ℕ) → o ≡ replicate fittings 0 → State t o 0 0 1
+start t o z =
+    record {
+      rows = [];
+      above = 0;
+      upto = loop.start fitPart t;
+      starts = refl;
+      so = [];
+      stored = z;
+      many = refl;
+      next-in = omega arith;
+      placed = λ (qs : Rows). refl;
+    }
 
-module _ {t o₀ o : List ℕ} {read at next : ℕ} (s : State t o₀ o read at next) where
-  pub kept : length o ≡ length o₀
-  kept = ap length (s .stored) ∙ simp length-sets
+module _ {t o : List ℕ} {read at next : ℕ} (s : State t o read at next) where
+  pub counted : length o ≡ fittings
+  counted = ap length (s .stored) ∙ length-sets (replicate fittings 0) 0 (s .so) ∙ length-replicate {A = ℕ} fittings 0
 
-  pub length-zeros : length o₀ ≡ fittings
-  length-zeros = ap length (s .zeros) ∙ length-replicate {A = ℕ} fittings 0
+  pub kept : {o₀ : List ℕ} → o₀ ≡ replicate fittings 0 → length o ≡ length o₀
+  kept z = counted ∙ sym (ap length z ∙ length-replicate {A = ℕ} fittings 0)
 
-  -- zeros stored after what is read change nothing
-  blank : (j : ℕ) → length (s .so) + j ≤ fittings → sets o₀ 0 (s .so ++ replicate j 0) ≡ sets o₀ 0 (s .so)
-  blank j h = rw (s .zeros) (zeros-stored fittings j (s .so) h)
-
-  ends : readFits (fittings - read) next (drop at t) ≡ noFits next → Reads (readFits fittings 1 t) o₀ (Taken at) o
+  ends : rowsAt fitPart t ≡ took at (s .rows) → Filled (weightsAt t) t (Taken at) o
+  unfolding weightsFrom
   ends e =
-      let q : readFits fittings 1 t ≡ after (s .so) at (noFits next) = s .so-far ∙ ap (after (s .so) at) e in
-      record { answer = rw (q, add-zero at); stored = s .stored ∙ sym (blank (suc fittings - next) (omega (arith, s .many))) ∙ rw q }
+      let m : fittings - length (s .so) ≡ suc fittings - next = omega (arith, s .many) in
+      let w : weightsFrom 1 (s .rows) ≡ s .so ++ replicate (suc fittings - next) 0 =
+      ap (weightsFrom 1) (sym (append-nil (s .rows))) ∙ s .placed [] in
+      let z = sets-zeros fittings (s .so) (omega (arith, s .many, s .next-in)) in
+      record { answer = rw e; stored = rw e (s .stored ∙ z ∙ rw (m, w)); within = s .upto .at-in }
 
-  pub full : fittings ≤ read → Reads (readFits fittings 1 t) o₀ (Taken at) o
-  unfolding readFits
-  full h =
-      let z : fittings - read ≡ 0 = omega arith in
-      ends (rw z)
+  pub full : fittings ≤ read → Filled (weightsAt t) t (Taken at) o
+  full h = ends (loop.full (s .upto) (omega arith) h)
 
-  pub stop : begins fitByte (drop at t) ≡ false → Reads (readFits fittings 1 t) o₀ (Taken at) o
-  stop b = ends (fits-none (fittings - read) next (drop at t) b)
+  pub stop : begins fitLetter (take (length t - at) (drop at t)) ≡ false → Filled (weightsAt t) t (Taken at) o
+  stop e =
+      ends (loop.stop (s .upto) (omega arith) (kind-away fitLine (drop at t)
+      (ap (begins fitLetter) (sym (rest-part t at)) ∙ e)))
 
-  module _ (h : read < fittings) (b : begins fitByte (drop at t) ≡ true) {r : LineRead} {fit : List ℕ} (p : Reads (readLine (fitLine next) (take (length t - at) (drop at t))) (0 ∷ 0 ∷ []) r fit) where
-    ended : r ≡ readLine (fitLine next) (drop at t) .ended
-    ended = p .answer ∙ rw (rest-part t at)
+-- a turn of the loop, after the row was read as r
+pub record Turn (t o : List ℕ) (read at next : ℕ) (r : RowRead) : Type 0 where
+  pub state : State t o read at next
+  pub few : read < fittings
+  pub begun : begins fitLetter (take (length t - at) (drop at t)) ≡ true
+  pub row : Paired (fitFrom next) (take (length t - at) (drop at t)) r
 
-    entered : readFits fittings 1 t ≡ after (s .so) at (onFit next (readLine (fitLine next) (drop at t)) (readFits (fittings - (read + 1))) (drop at t))
-    entered =
-        let e : fittings - read ≡ suc (fittings - (read + 1)) = omega arith in
-        s .so-far ∙ rw (e, fits-more (fittings - (read + 1)) next (drop at t) b)
+module _ {t o : List ℕ} {read at next : ℕ} {r : RowRead} (p : Turn t o read at next r) where
+  abbrev s : State t o read at next
+  s = p .state
 
-    pub place-in : at + extent r ≤ length t
-    place-in = omega (arith, ap extent ended, line-extent (fitLine next) (drop at t), length-drop at t, s .at-in)
+  here : kindAt (fitPart .kinds) (drop at t) ≡ some fitLine
+  here = kind-here fitLine (drop at t) (ap (begins fitLetter) (sym (rest-part t at)) ∙ p .begun)
 
-    pub fault : {number place : ℕ} → r ≡ Fault number place → Reads (readFits fittings 1 t) o₀ (Fault number (at + place)) o
-    fault {number} {place} v =
-        let f : readLine (fitLine next) (drop at t) .ended ≡ Fault number place = sym ended ∙ v in
-        let q : readFits fittings 1 t ≡ after (s .so) at (refused number place) = entered ∙ rw f in
-        record { answer = rw q; stored = s .stored ∙ rw (q, append-nil (s .so)) }
+  row : Paired (fitFrom (max 1 (s .above))) (take (length t - at) (drop at t)) r
+  row = rw (s .starts) at (p .row)
 
-    module _ {len : ℕ} (v : r ≡ Taken len) where
-      taken : readLine (fitLine next) (drop at t) .ended ≡ Taken len
-      taken = sym ended ∙ v
+  pub place-in : at + pairReach r ≤ length t
+  place-in = part-in t (s .upto .at-in) (p .row .within)
 
-      -- the line's two numbers stand in the pair that was lent for them
-      pair : Fit next fit
-      pair =
-          let f = fit-numbers next (drop at t) len taken in
-          let q : fit ≡ f .n ∷ f .w ∷ [] = p .stored ∙ rw (rest-part t at, f .are) in
-          record { n = f .n; w = f .w; are = q; n-low = f .n-low; n-high = f .n-high; w-low = f .w-low; w-high = f .w-high }
+  pub fault : {number place : ℕ} → r ≡ NoPair number place → Filled (weightsAt t) t (Fault number (at + place)) o
+  fault v =
+      let f = loop.fault (s .upto) (p .few) fitLine here row v in
+      record { answer = rw f; stored = rw f; within = omega (arith, place-in, ap pairReach v) }
 
-      same : readLine (fitLine next) (drop at t) .numbers ≡ pair .n ∷ pair .w ∷ []
-      unfolding pair
-      same = fit-numbers next (drop at t) len taken .are
+  module _ {n w len : ℕ} (v : r ≡ Pair n w len) where
+    line-in : (next ≤ n) × (n ≤ fittings)
+    line-in = first-in next fittings 1 fittingHigh _ (take (length t - at) (drop at t)) (rw v at (p .row))
 
-      pub line-low : 1 ≤ getD fit 0 0
-      line-low = omega (arith, s .many, pair .n-low, ap (λ (l : List ℕ). getD l 0 0) (pair .are))
+    -- what the stores and the sums of the turn need
+    pub bounds : (1 ≤ n) × (n ≤ fittings) × (length o ≡ fittings) × (at + len ≤ length t)
+    bounds = (omega (arith, line-in, s .many), line-in .1, counted s, omega (arith, place-in, ap pairReach v))
 
-      pub line-high : getD fit 0 0 ≤ fittings
-      line-high = omega (arith, pair .n-high, ap (λ (l : List ℕ). getD l 0 0) (pair .are))
-
-      pub step : State t o₀ (set o (getD fit 0 0 - 1) (getD fit 1 0)) (read + 1) (at + len) (getD fit 0 0 + 1)
-      step =
-          let n : ℕ = pair .n in
-          let w : ℕ = pair .w in
-          let gap : List ℕ = replicate (n - next) 0 in
-          let rest : Reading = readFits (fittings - (read + 1)) (suc n) (drop (at + len) t) in
-          let d : onFit next (readLine (fitLine next) (drop at t)) (readFits (fittings - (read + 1))) (drop at t) ≡ after (gap ++ (w ∷ [])) len rest = rw (taken, same, drop-drop len at t) in
-          let g : length gap ≡ n - next = length-replicate {A = ℕ} (n - next) 0 in
-          let l : length (s .so ++ gap) ≡ n - 1 = omega (arith, length-append (s .so) gap, s .many, pair .n-low) in
-          let z : n - 1 ≡ 0 + length (s .so ++ gap) = omega arith in
-          let x : set o (n - 1) w ≡ sets o₀ 0 (s .so ++ (gap ++ (w ∷ []))) =
-          ap (λ (y : List ℕ). set y (n - 1) w) (s .stored ∙ sym (blank (n - next) (omega (arith, s .many, pair .n-low, pair .n-high))))
-          ∙ ap (λ (k : ℕ). set (sets o₀ 0 (s .so ++ gap)) k w) z ∙ sets-snoc o₀ 0 (s .so ++ gap) w ∙ rw (append-assoc (s .so) gap (w ∷ [])) in
-          let e : getD fit 0 0 ≡ n = ap (λ (l : List ℕ). getD l 0 0) (pair .are) in
-          let f : getD fit 1 0 ≡ w = ap (λ (l : List ℕ). getD l 1 0) (pair .are) in
-          rw (e, f)
-          (record {
-            so = s .so ++ (gap ++ (w ∷ []));
-            zeros = s .zeros;
-            read-in = omega arith;
-            at-in = omega (arith, ap extent v, place-in);
-            many = omega (arith, length-append (s .so) (gap ++ (w ∷ [])), length-append gap (w ∷ []), s .many, pair .n-low);
-            next-in = omega (arith, pair .n-high);
-            stored = x;
-            so-far = entered ∙ ap (after (s .so) at) d ∙ after-after (s .so) (gap ++ (w ∷ [])) at len rest ∙ rw (add-one n);
-          })
+    pub step : State t (set o (n - 1) w) (read + 1) (at + len) (n + 1)
+    unfolding weightsFrom
+    step =
+        let gap : List ℕ = replicate (n - next) 0 in
+        let g : length gap ≡ n - next = length-replicate {A = ℕ} (n - next) 0 in
+        let l : length (s .so ++ gap) ≡ n - 1 = omega (arith, length-append (s .so) gap, s .many, line-in) in
+        let z : n - 1 ≡ 0 + length (s .so ++ gap) = omega arith in
+        let d : o ≡ sets (replicate fittings 0) 0 (s .so ++ gap) =
+        s .stored ∙ sym (zeros-stored fittings (n - next) (s .so) (omega (arith, s .many, line-in))) in
+        record {
+          rows = s .rows ++ (lineRow fitLetter (n ∷ w ∷ []) ∷ []);
+          above = suc n;
+          upto = loop.step (s .upto) (p .few) fitLine here row v;
+          starts = omega arith;
+          so = (s .so ++ gap) ++ (w ∷ []);
+          stored = ap (λ (x : List ℕ). set x (n - 1) w) d ∙ rw z (sets-snoc (replicate fittings 0) 0 (s .so ++ gap) w);
+          many = omega (arith, length-append (s .so ++ gap) (w ∷ []), line-in, s .many);
+          next-in = omega (arith, line-in);
+          placed = moved;
+        }
+      where
+        moved : (qs : Rows) → weightsFrom 1 ((s .rows ++ (lineRow fitLetter (n ∷ w ∷ []) ∷ [])) ++ qs)
+            ≡ ((s .so ++ replicate (n - next) 0) ++ (w ∷ [])) ++ weightsFrom (n + 1) qs
+        moved qs =
+            let gap : List ℕ = replicate (n - next) 0 in
+            let rest : List ℕ = weightsFrom (n + 1) qs in
+            let fit : Row = lineRow fitLetter (n ∷ w ∷ []) in
+            ap (weightsFrom 1) (append-assoc (s .rows) (fit ∷ []) qs)
+            ∙ (s .placed (fit ∷ qs)
+            ∙ rw (append-assoc (s .so ++ gap) (w ∷ []) rest, append-assoc (s .so) gap (w ∷ rest), add-one n))

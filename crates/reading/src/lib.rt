@@ -1,17 +1,22 @@
 // Reads a sheet, and engine rows, from a text.
 ghost use mathlib.Core.Path.{_≡_};
-ghost use Prim.Native.Nat.{_-_, _≤_};
+ghost use mathlib.Core.List.{[], _∷_};
+ghost use Prim.Native.Nat.{_+_, _-_, _≤_};
 ghost use lib.ListN.{length, take, drop, replicate};
-ghost use Rattle.text.specs.Line.{Reads, lineOf};
+ghost use Rattle.text.specs.Line.{lineOf};
 ghost use Rattle.answers.specs.Settled.{Settled};
-ghost use Rattle.sheet.specs.Lines.{lines, fittings, mostRows};
+ghost use Rattle.form.specs.Parts.{oneLine};
+ghost use Rattle.form.specs.Outcome.{mapped};
+ghost use Rattle.form.specs.Reading.{readRows, readParts};
+ghost use Rattle.sheet.specs.Lines.{endLine, fittings, mostRows};
 ghost use Rattle.sheet.specs.Sheet.{limitRows};
-ghost use Rattle.sheet.specs.Places.{textWords};
-ghost use Rattle.sheet.specs.Reading.{readLines, readFits, readEnd, readRest, readSheet};
-ghost use Rattle.sheet.specs.Engines.{readRows, readEngines, Rowed};
-ghost use Rattle.sheet.specs.Calls.{readAnswer, readInto, enginesAnswer, columnsInto};
-ghost use Rattle.ground.specs.Lists.{putFirst};
-ghost use Rattle.reading.specs.Steps.{reached, ReadsOn};
+ghost use Rattle.sheet.specs.Places.{textWords, fittingsAt};
+ghost use Rattle.sheet.specs.SheetText.{fitPart, weightsFrom, readSheet};
+ghost use Rattle.sheet.specs.EngineText.{enginePart, onlyRows, readEngines};
+ghost use Rattle.sheet.specs.TextCalls.{readAnswer, readInto, enginesAnswer, columnsInto};
+ghost use Rattle.reading.specs.Filled.{reached, endedAs, Filled};
+ghost use Rattle.reading.specs.Steps.{Due, ReadsOn, restOn, Past};
+ghost use Rattle.reading.specs.Rows.{Paired, Columns};
 use answers::Answer;
 use answers::NO_ROOM;
 use sheet::ENGINE_POWER_HIGH;
@@ -19,20 +24,49 @@ use sheet::ENGINE_WEIGHT_HIGH;
 use sheet::FITTING_HIGH;
 use sheet::FITTING_LINES;
 use sheet::FITTINGS;
+use sheet::FORM_LINE;
+use sheet::HULL_LINE;
 use sheet::LIMITS;
 use sheet::LINE_WORDS;
+use sheet::MASS_LINE;
 use sheet::MOST_ROWS;
+use sheet::MOST_TEXT;
+use sheet::PWR_LINE;
+use sheet::Q_LINE;
+use sheet::R_LINE;
 use sheet::RowsRead;
+use sheet::S_LINE;
+use sheet::SEAT_LINE;
+use sheet::T_LINE;
 use sheet::TEXT_WORDS;
+use sheet::VOL_LINE;
 use text::Limit;
 use text::LineRead;
 use text::PLAIN;
 
-const MOST_BYTES: usize = 4096;
+// ---- a row of two numbers
+
+// What a row reads as: its two numbers and how many bytes it took, or a refusal and its place.
+pub enum RowRead {
+    Pair(u32, u32, usize),
+    NoPair(u32, usize),
+}
+
+// Reads the row at the start of a text.
+fn read_row(tag: &[u8], limits: &[Limit; 2], text: &[u8]) -> RowRead
+    ensures { λ r. ⌜ Paired (lineOf (now (tag .entry)) (now (limits .entry))) (now (text .entry)) r ⌝ }
+{
+    let mut row = [0u32; 2];
+    match spelling::read_line(tag, limits, text, &mut row) {
+        LineRead::Fault(refusal, place) => RowRead::NoPair(refusal, place),
+        LineRead::Taken(len) => RowRead::Pair(row[0], row[1], len),
+    }
+}
 
 // ---- reading a sheet
 
-// Reads the line that follows what was read, unless that had a fault. Its limits are from..to of the table, and its words go to the same places.
+// Reads the line that follows what was read, unless that had a fault. Its limits are from..to of the table, and its
+// words go to the same places.
 fn next_line(
     read: LineRead,
     tag: &[u8],
@@ -42,8 +76,10 @@ fn next_line(
     text: &[u8],
     words: &mut [u32],
 ) -> LineRead
-    requires { ⌜ (now limits ≡ limitRows) × (length (now words) ≡ textWords) × (from ≤ to) × (to ≤ textWords) × (reached read ≤ length (now text)) ⌝ }
-    ensures { λ r. ⌜ ReadsOn read (lineOf (now (tag .entry)) (take (to - from) (drop from limitRows))) (now (text .entry)) from (now (words .entry)) r (now (words .exit)) ⌝ }
+    requires { ⌜ Due (now limits) (now words) from to read (now text) ⌝ }
+    ensures { λ r. ⌜ ReadsOn (now (limits .entry)) read
+        (lineOf (now (tag .entry)) (take (to - from) (drop from limitRows))) (now (text .entry)) from
+        (now (words .entry)) r (now (words .exit)) ⌝ }
 {
     match read {
         LineRead::Fault(refusal, place) => LineRead::Fault(refusal, place),
@@ -59,27 +95,37 @@ fn next_line(
     }
 }
 
-// Reads the lines HULL to SEAT. Each tag is written where it is read: a table of them would be laid anew for each line.
+// Reads the lines HULL to SEAT; the words are all 0 before it. Each tag is written where it is read: a table of them
+// would be laid anew for each line.
 fn read_lines(limits: &[Limit], text: &[u8], words: &mut [u32]) -> LineRead
-    requires { ⌜ (now limits ≡ limitRows) × (length (now words) ≡ textWords) ⌝ }
-    ensures { λ r. ⌜ Reads (readLines lines (now (text .entry))) (now (words .entry)) r (now (words .exit)) ⌝ }
+    requires { ⌜ (now limits ≡ limitRows) × (now words ≡ replicate textWords 0) ⌝ }
+    ensures { λ r. ⌜ Past [] (now (text .entry)) (1 + fittingsAt) r (now (words .exit)) ⌝ }
 {
-    let hull = next_line(LineRead::Taken(0), b"HULL\t", limits, 0, 1, text, words);
-    let form = next_line(hull, b"FORM\t", limits, 1, 7, text, words);
-    let q = next_line(form, b"STN\tQ\t", limits, 7, 14, text, words);
-    let r = next_line(q, b"STN\tR\t", limits, 14, 21, text, words);
-    let s = next_line(r, b"STN\tS\t", limits, 21, 28, text, words);
-    let t = next_line(s, b"STN\tT\t", limits, 28, 35, text, words);
-    let vol = next_line(t, b"VOL\t", limits, 35, 38, text, words);
-    let mass = next_line(vol, b"MASS\t", limits, 38, 41, text, words);
-    let power = next_line(mass, b"PWR\t", limits, 41, 43, text, words);
-    next_line(power, b"SEAT\t", limits, 43, 45, text, words)
+    let hull = next_line(
+        LineRead::Taken(0),
+        b"HULL\t",
+        limits,
+        HULL_LINE,
+        FORM_LINE,
+        text,
+        words,
+    );
+    let form = next_line(hull, b"FORM\t", limits, FORM_LINE, Q_LINE, text, words);
+    let q = next_line(form, b"STN\tQ\t", limits, Q_LINE, R_LINE, text, words);
+    let r = next_line(q, b"STN\tR\t", limits, R_LINE, S_LINE, text, words);
+    let s = next_line(r, b"STN\tS\t", limits, S_LINE, T_LINE, text, words);
+    let t = next_line(s, b"STN\tT\t", limits, T_LINE, VOL_LINE, text, words);
+    let vol = next_line(t, b"VOL\t", limits, VOL_LINE, MASS_LINE, text, words);
+    let mass = next_line(vol, b"MASS\t", limits, MASS_LINE, PWR_LINE, text, words);
+    let power = next_line(mass, b"PWR\t", limits, PWR_LINE, SEAT_LINE, text, words);
+    next_line(power, b"SEAT\t", limits, SEAT_LINE, LINE_WORDS, text, words)
 }
 
 // Reads FIT lines up to the line that must be END. The weights are all 0 before it.
 fn read_fits(text: &[u8], weights: &mut [u32]) -> LineRead
     requires { ⌜ now weights ≡ replicate fittings 0 ⌝ }
-    ensures { λ r. ⌜ Reads (readFits fittings 1 (now (text .entry))) (now (weights .entry)) r (now (weights .exit)) ⌝ }
+    ensures { λ r. ⌜ Filled (mapped (weightsFrom 1) (readRows fitPart fittings 0 0 (now (text .entry))))
+        (now (text .entry)) r (now (weights .exit)) ⌝ }
 {
     let mut read = 0;
     let mut at = 0;
@@ -87,14 +133,13 @@ fn read_fits(text: &[u8], weights: &mut [u32]) -> LineRead
     while read < FITTINGS {
         if spelling::starts(&text[at..], b'F') {
             let limits = [[next, FITTING_LINES, PLAIN], [1, FITTING_HIGH, PLAIN]];
-            let mut fit = [0u32; 2];
-            match spelling::read_line(b"FIT\t", &limits, &text[at..], &mut fit) {
-                LineRead::Fault(refusal, place) => {
+            match read_row(b"FIT\t", &limits, &text[at..]) {
+                RowRead::NoPair(refusal, place) => {
                     return LineRead::Fault(refusal, at + place);
                 }
-                LineRead::Taken(len) => {
-                    weights[fit[0] as usize - 1] = fit[1];
-                    next = fit[0] + 1;
+                RowRead::Pair(line, weight, len) => {
+                    weights[line as usize - 1] = weight;
+                    next = line + 1;
                     at += len;
                     read += 1;
                 }
@@ -108,7 +153,8 @@ fn read_fits(text: &[u8], weights: &mut [u32]) -> LineRead
 
 // Reads END, after which nothing may stand.
 fn read_end(text: &[u8]) -> LineRead
-    ensures { λ r. ⌜ r ≡ readEnd (now (text .entry)) .ended ⌝ }
+    ensures { λ r. ⌜ (r ≡ endedAs (readParts (oneLine endLine ∷ []) (now (text .entry)))) ×
+        (reached r ≤ length (now (text .entry))) ⌝ }
 {
     let same = spelling::agreement(b"END\n", text);
     if same < 4 {
@@ -123,7 +169,7 @@ fn read_end(text: &[u8]) -> LineRead
 // Reads what follows the line SEAT.
 fn read_rest(text: &[u8], weights: &mut [u32]) -> LineRead
     requires { ⌜ now weights ≡ replicate fittings 0 ⌝ }
-    ensures { λ r. ⌜ Reads (readRest (now (text .entry))) (now (weights .entry)) r (now (weights .exit)) ⌝ }
+    ensures { λ r. ⌜ Filled (restOn [] (now (text .entry))) (now (text .entry)) r (now (weights .exit)) ⌝ }
 {
     match read_fits(text, weights) {
         LineRead::Fault(refusal, place) => LineRead::Fault(refusal, place),
@@ -137,9 +183,9 @@ fn read_rest(text: &[u8], weights: &mut [u32]) -> LineRead
 // Reads a whole sheet. The words are all 0 before it.
 pub fn read_words(text: &[u8], words: &mut [u32]) -> LineRead
     requires { ⌜ now words ≡ replicate textWords 0 ⌝ }
-    ensures { λ r. ⌜ Reads (readSheet (now (text .entry))) (now (words .entry)) r (now (words .exit)) ⌝ }
+    ensures { λ r. ⌜ Filled (readSheet (now (text .entry))) (now (text .entry)) r (now (words .exit)) ⌝ }
 {
-    if text.len() > MOST_BYTES {
+    if text.len() > MOST_TEXT {
         return LineRead::Fault(answers::BROKEN_LINE, 0);
     }
     match read_lines(&LIMITS, text, words) {
@@ -151,9 +197,11 @@ pub fn read_words(text: &[u8], words: &mut [u32]) -> LineRead
     }
 }
 
-// Reads a sheet, its HULL number first, from a text of at most 4,096 bytes. A refusal, 2 or 3, leaves `sheet` as it stood.
+// Reads a sheet, its HULL number first, from a text of at most 4,096 bytes. A refusal, 2 or 3, leaves `sheet` as it
+// stood.
 pub fn read_sheet(text: &[u8], sheet: &mut [u32; TEXT_WORDS]) -> Answer
-    ensures { λ r. ⌜ Settled (readAnswer (readSheet (now (text .entry)) .ended)) (readInto (readSheet (now (text .entry))) (now (sheet .entry))) r (now (sheet .exit)) ⌝ }
+    ensures { λ r. ⌜ Settled (readAnswer (readSheet (now (text .entry))))
+        (readInto (readSheet (now (text .entry))) (now (sheet .entry))) r (now (sheet .exit)) ⌝ }
 {
     let mut words = [0u32; TEXT_WORDS];
     match read_words(text, &mut words) {
@@ -170,7 +218,8 @@ pub fn read_sheet(text: &[u8], sheet: &mut [u32; TEXT_WORDS]) -> Answer
 // Reads engine rows, the powers and the weights of them apart.
 fn read_rows(text: &[u8], powers: &mut [u32], weights: &mut [u32]) -> RowsRead
     requires { ⌜ (length (now powers) ≡ mostRows) × (length (now weights) ≡ mostRows) ⌝ }
-    ensures { λ r. ⌜ Rowed (readRows mostRows 1 (now (text .entry))) (now (powers .entry)) (now (weights .entry)) r (now (powers .exit)) (now (weights .exit)) ⌝ }
+    ensures { λ r. ⌜ Columns (mapped onlyRows (readParts (enginePart ∷ []) (now (text .entry)))) r
+        (now (powers .exit)) (now (weights .exit)) ⌝ }
 {
     let mut rows = 0;
     let mut at = 0;
@@ -180,15 +229,14 @@ fn read_rows(text: &[u8], powers: &mut [u32], weights: &mut [u32]) -> RowsRead
             [next, ENGINE_POWER_HIGH, PLAIN],
             [0, ENGINE_WEIGHT_HIGH, PLAIN],
         ];
-        let mut row = [0u32; 2];
-        match spelling::read_line(b"ENG\t", &limits, &text[at..], &mut row) {
-            LineRead::Fault(refusal, place) => {
+        match read_row(b"ENG\t", &limits, &text[at..]) {
+            RowRead::NoPair(refusal, place) => {
                 return RowsRead::NoRows(refusal, at + place);
             }
-            LineRead::Taken(len) => {
-                powers[rows] = row[0];
-                weights[rows] = row[1];
-                next = row[0] + 1;
+            RowRead::Pair(power, weight, len) => {
+                powers[rows] = power;
+                weights[rows] = weight;
+                next = power + 1;
                 at += len;
                 rows += 1;
                 if at >= text.len() {
@@ -203,18 +251,21 @@ fn read_rows(text: &[u8], powers: &mut [u32], weights: &mut [u32]) -> RowsRead
 // Reads engine rows from a text of at most 4,096 bytes into room for as many as there may be.
 pub fn read_columns(text: &[u8], powers: &mut [u32], weights: &mut [u32]) -> RowsRead
     requires { ⌜ (length (now powers) ≡ mostRows) × (length (now weights) ≡ mostRows) ⌝ }
-    ensures { λ r. ⌜ Rowed (readEngines (now (text .entry))) (now (powers .entry)) (now (weights .entry)) r (now (powers .exit)) (now (weights .exit)) ⌝ }
+    ensures { λ r. ⌜ Columns (readEngines (now (text .entry))) r (now (powers .exit)) (now (weights .exit)) ⌝ }
 {
-    if text.len() > MOST_BYTES {
+    if text.len() > MOST_TEXT {
         return RowsRead::NoRows(answers::BROKEN_LINE, 0);
     }
     read_rows(text, powers, weights)
 }
 
-// Reads engine rows from a text of at most 4,096 bytes into two lent slices and answers how many there are. A refusal, 2 or 3, or 16 where
-// either slice is shorter than the rows, leaves both as they stood.
+// Reads engine rows from a text of at most 4,096 bytes into two lent slices and answers how many there are. A refusal,
+// 2 or 3, or 16 where either slice is shorter than the rows, leaves both as they stood.
 pub fn read_engines(text: &[u8], powers: &mut [u32], weights: &mut [u32]) -> Answer
-    ensures { λ r. ⌜ Settled (enginesAnswer (readEngines (now (text .entry))) (length (now (powers .entry))) (length (now (weights .entry)))) (columnsInto (readEngines (now (text .entry))) (now (powers .entry)) (now (weights .entry))) r (now (powers .exit), now (weights .exit)) ⌝ }
+    ensures { λ r. ⌜ Settled
+        (enginesAnswer (readEngines (now (text .entry))) (length (now (powers .entry))) (length (now (weights .entry))))
+        (columnsInto (readEngines (now (text .entry))) (now (powers .entry)) (now (weights .entry))) r
+        (now (powers .exit), now (weights .exit)) ⌝ }
 {
     let mut read_powers = [0u32; MOST_ROWS];
     let mut read_weights = [0u32; MOST_ROWS];

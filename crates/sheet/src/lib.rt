@@ -69,6 +69,27 @@ pub const IN_TEXT: usize = HULL_NUMBER + 1;
 
 pub const TEXT_WORDS: usize = IN_TEXT + SHEET_WORDS;
 
+// Where the words of each line start in a text, and where those of the lines HULL to SEAT end.
+pub const HULL_LINE: usize = HULL_NUMBER;
+
+pub const FORM_LINE: usize = IN_TEXT + LENGTH;
+
+pub const Q_LINE: usize = IN_TEXT + STATION_Q;
+
+pub const R_LINE: usize = IN_TEXT + STATION_R;
+
+pub const S_LINE: usize = IN_TEXT + STATION_S;
+
+pub const T_LINE: usize = IN_TEXT + STATION_T;
+
+pub const VOL_LINE: usize = IN_TEXT + AFT;
+
+pub const MASS_LINE: usize = IN_TEXT + BARE;
+
+pub const PWR_LINE: usize = IN_TEXT + OUTBOARD;
+
+pub const SEAT_LINE: usize = IN_TEXT + POSITIONS;
+
 pub const LINE_WORDS: usize = IN_TEXT + FITTED;
 
 // ---- limits
@@ -83,6 +104,11 @@ pub const ENGINE_POWER_HIGH: u32 = 200_000;
 pub const ENGINE_WEIGHT_HIGH: u32 = 1_000_000;
 
 pub const MOST_ROWS: usize = 40;
+
+// The longest text that is read, and the longest that a sheet can have.
+pub const MOST_TEXT: usize = 4096;
+
+pub const SHEET_TEXT: usize = 610;
 
 // The limits of a sheet's numbers, line by line in the order of the text.
 pub const LIMITS: [Limit; TEXT_WORDS] = [

@@ -1,126 +1,87 @@
--- `next_line` meets its contract. Assumes nothing.
-use mathlib.Core.Path.{ap}
+-- `next_line` meets its contract.
+use Rattle.text.specs.declared.LineRead.{LineRead}
+use mathlib.Core.Path.{_≡_, ap}
+use Prim.Native.Nat.{_-_}
+use lib.ListN.{take, drop}
+use Rattle.text.specs.Line.{lineOf, shiftBy}
+use Rattle.ground.proofs.Stores.{putBack}
 use Rattle.sheet.proofs.Table.{rows-long}
-use Rattle.reading.specs.Steps.{reached}
-use Rattle.reading.proofs.LineByLine.{stays, line-in, goes-on}
+use Rattle.sheet.specs.Sheet.{limitRows}
+use Rattle.reading.specs.Filled.{reached}
+use Rattle.reading.specs.Steps.{ReadsOn}
+use Rattle.reading.proofs.NextLine.{stays, goes-on}
 use native.Mathlib.Omega.{arith}
 use borrow.Author.Needs.{needs}
 use Rattle.reading.proofs.next_line.Statement.{statement}
 use Rattle.reading.proofs.next_line.Tie as tie
 
-enum-known-read : tie.Need-enum-known-read
-enum-known-read c = search needs
-
-enum-known-read-2 : tie.Need-enum-known-read-2
-enum-known-read-2 c = search needs
-
-mul-read-line : tie.Need-mul-read-line
-mul-read-line c = search needs
-
-sub-read-line : tie.Need-sub-read-line
-sub-read-line c = search needs
-
-part-read-line-start : tie.Need-part-read-line-start
-part-read-line-start c = search needs
-
 part-read-line-end : tie.Need-part-read-line-end
 part-read-line-end c =
     let start = c .before .before .before .before .before .before in
-    omega (arith, rows-long (start .pre .0))
+    omega (arith, start .pre .end, rows-long (start .pre .table))
 
-sub-read-line-2 : tie.Need-sub-read-line-2
-sub-read-line-2 c = omega (arith, ap reached (c .before .before .read2 .given .1))
+text-from : tie.Need-sub-read-line-2
+text-from c =
+    let start = c .before .before .before .before .before .before .before in
+    omega (arith, start .pre .within, ap reached (c .before .before .read2 .given .1))
 
-part-read-line-start-2 : tie.Need-part-read-line-start-2
-part-read-line-start-2 c = omega (arith, ap reached (c .before .before .read2 .given .1))
+abbrev begun : tie.After-read-line → tie.Start
+begun c = c .before .before .before .before .before .before .before .before .before .before
 
-part-read-line-end-2 : tie.Need-part-read-line-end-2
-part-read-line-end-2 c = search needs
-
-mul-read-line-2 : tie.Need-mul-read-line-2
-mul-read-line-2 c = search needs
-
-sub-read-line-3 : tie.Need-sub-read-line-3
-sub-read-line-3 c = search needs
-
-part-read-line-start-3 : tie.Need-part-read-line-start-3
-part-read-line-start-3 c = search needs
-
-part-read-line-end-3 : tie.Need-part-read-line-end-3
-part-read-line-end-3 c = search needs
-
-read-line-requires : tie.Need-read-line-requires
-read-line-requires c κs = search needs
-
-enum-known-refusal : tie.Need-enum-known-refusal
-enum-known-refusal c = search needs
+-- the line is read after what was read
+onto : (c : tie.After-read-line) {r : LineRead} → c .read-line .result ≡ r
+    → ReadsOn (begun c .args .limits .now) (begun c .args .read)
+    (lineOf (begun c .args .tag .now) (take (begun c .args .to - begun c .args .from)
+    (drop (begun c .args .from) limitRows)))
+    (begun c .args .text .now) (begun c .args .from) (begun c .args .words .now)
+    (shiftBy (c .before .before .before .before .before .read2 .given .0 .0) r)
+    (putBack (begun c .args .words .now) (begun c .args .from) (c .read-line .last .1 .1 .1 .0))
+onto c e =
+    let at-read2 = c .before .before .before .before .before in
+    goes-on (begun c .args .tag .now) (begun c .args .text .now) (begun c .args .words .now) (begun c .pre)
+    (at-read2 .read2 .given .1) (c .read-line .ensures) e
 
 add-t31 : tie.Need-add-t31
-add-t31 c =
-    let start = c .before .before .before .before .before .before .before .before .before .before .before .before .before .before .before in
-    let at-read2 = c .before .before .before .before .before .before .before .before .before .before in
-    let at-read-line = c .before .before .before .before .before in
-    omega (arith, ap reached (c .before .refusal .given .1), line-in _ (start .args .text .now) (start .args .words .now) (start .args .from) (at-read2 .read2 .given .1) (start .pre .4) (at-read-line .read-line .ensures))
-
-enum-known-len : tie.Need-enum-known-len
-enum-known-len c = search needs
+add-t31 c = omega (arith, onto (c .before .before .before .before .before) (c .before .refusal .given .1) .within)
 
 add-t32 : tie.Need-add-t32
-add-t32 c =
-    let start = c .before .before .before .before .before .before .before .before .before .before .before .before .before .before .before in
-    let at-read2 = c .before .before .before .before .before .before .before .before .before .before in
-    let at-read-line = c .before .before .before .before .before in
-    omega (arith, ap reached (c .before .len .given .1), line-in _ (start .args .text .now) (start .args .words .now) (start .args .from) (at-read2 .read2 .given .1) (start .pre .4) (at-read-line .read-line .ensures))
+add-t32 c = omega (arith, onto (c .before .before .before .before .before) (c .before .len .given .1) .within)
 
 returns : tie.Need-returns
 returns c =
     let start = c .before .before .before .before .before .before in
-    stays _ _ _ (start .pre .1) (c .before .read .given .1) (start .pre .4)
-
-same-length : tie.Need-same-length
-same-length c = search needs
+    stays _ _ _ (start .pre) (c .before .read .given .1)
 
 returns-2 : tie.Need-returns-2
-returns-2 c =
-    let start = c .before .before .before .before .before .before .before .before .before .before .before .before .before .before .before in
-    let at-read2 = c .before .before .before .before .before .before .before .before .before .before in
-    let at-read-line = c .before .before .before .before .before in
-    rw (c .before .refusal .given .1, start .pre .0) at (goes-on _ (start .args .text .now) (start .args .words .now) (start .args .from) (at-read2 .read2 .given .1) (start .pre .4) (at-read-line .read-line .ensures) (start .pre .1))
-
-same-length-2 : tie.Need-same-length-2
-same-length-2 c = search needs
+returns-2 c = onto (c .before .before .before .before .before) (c .before .refusal .given .1)
 
 returns-3 : tie.Need-returns-3
-returns-3 c =
-    let start = c .before .before .before .before .before .before .before .before .before .before .before .before .before .before .before in
-    let at-read2 = c .before .before .before .before .before .before .before .before .before .before in
-    let at-read-line = c .before .before .before .before .before in
-    rw (c .before .len .given .1, start .pre .0) at (goes-on _ (start .args .text .now) (start .args .words .now) (start .args .from) (at-read2 .read2 .given .1) (start .pre .4) (at-read-line .read-line .ensures) (start .pre .1))
+returns-3 c = onto (c .before .before .before .before .before) (c .before .len .given .1)
 
 pub next-line-spec : {M : Type 1} → statement M
 next-line-spec =
     tie.close
     (tie.spec
-    enum-known-read
-    enum-known-read-2
-    mul-read-line
-    sub-read-line
-    part-read-line-start
+    (λ c. search needs)
+    (λ c. search needs)
+    (λ c. search needs)
+    (λ c. search needs)
+    (λ c. search needs)
     part-read-line-end
-    sub-read-line-2
-    part-read-line-start-2
-    part-read-line-end-2
-    mul-read-line-2
-    sub-read-line-3
-    part-read-line-start-3
-    part-read-line-end-3
-    read-line-requires
-    enum-known-refusal
+    text-from
+    text-from
+    (λ c. search needs)
+    (λ c. search needs)
+    (λ c. search needs)
+    (λ c. search needs)
+    (λ c. search needs)
+    (λ c κs. search needs)
+    (λ c. search needs)
     add-t31
-    enum-known-len
+    (λ c. search needs)
     add-t32
     returns
-    same-length
+    (λ c. search needs)
     returns-2
-    same-length-2
+    (λ c. search needs)
     returns-3)

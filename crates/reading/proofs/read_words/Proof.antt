@@ -1,155 +1,107 @@
--- `read_words` meets its contract. Assumes nothing.
+-- `read_words` meets its contract.
+use Rattle.text.specs.declared.LineRead.{LineRead}
+use mathlib.Core.Path.{_≡_, refl, ap, _∙_}
+use Prim.Native.Nat.{ℕ}
+use lib.ListN.{length, length-replicate}
+use Rattle.text.specs.Line.{shiftBy}
+use Rattle.ground.proofs.Stores.{putBack}
 use Rattle.sheet.specs.Sheet.{limitRows, sheetLimits, limitsOn}
 use Rattle.sheet.specs.Places.{textWords}
-use mathlib.Core.Path.{refl, ap, _∙_}
-use Rattle.reading.proofs.ReadCall.{reads-long, lines-in, reads-broken, reads-rest, rest-in}
-use Rattle.sheet.proofs.Whole.{rest-zeros}
-use Rattle.text.proofs.Line.{extent}
-use lib.ListN.{length, length-replicate}
-use Prim.Native.Nat.{ℕ}
+use Rattle.sheet.specs.SheetText.{readSheet}
+use Rattle.reading.specs.Filled.{reached, Filled}
+use Rattle.reading.proofs.SheetCall.{words-long, words-broken, words-zeros, words-read}
 use native.Mathlib.Omega.{arith}
+use Rattle.reading.proofs.Found.{filled-as}
 use borrow.Author.Needs.{needs}
 use Rattle.reading.proofs.read_words.Statement.{statement}
 use Rattle.reading.proofs.read_words.Tie as tie
 
 returns : tie.Need-returns
-returns c =
-    let start = c .before .before .before in
-    reads-long (start .args .text .now) _ (c .if1 .taken)
-
-slice-aggregate-read-lines : tie.Need-slice-aggregate-read-lines
-slice-aggregate-read-lines c = search needs
+returns c = words-long (c .before .before .before .args .text .now) _ (c .if1 .taken)
 
 read-lines-requires : tie.Need-read-lines-requires
 unfolding limitRows sheetLimits limitsOn
-read-lines-requires c κs =
-    let start = c .before .before .before .before .before in
-    (refl, ap length (start .pre) ∙ length-replicate {A = ℕ} textWords 0)
+read-lines-requires c κs = (refl, c .before .before .before .before .before .pre)
 
-enum-known-refusal : tie.Need-enum-known-refusal
-enum-known-refusal c = search needs
-
-enum-known-at : tie.Need-enum-known-at
-enum-known-at c = search needs
-
-sub-read-rest : tie.Need-sub-read-rest
-sub-read-rest c =
-    let start = c .before .before .before .before .before .before .before .before .before .before .before in
+text-from : tie.Need-sub-read-rest
+text-from c =
     let at-read-lines = c .before .before .before .before .before in
-    lines-in (start .args .text .now) (rw (c .before .at .given .1) at (at-read-lines .read-lines .ensures))
+    omega (arith, at-read-lines .read-lines .ensures .within, ap reached (c .before .at .given .1))
 
-part-read-rest-start : tie.Need-part-read-rest-start
-part-read-rest-start c =
-    let start = c .before .before .before .before .before .before .before .before .before .before .before in
-    let at-read-lines = c .before .before .before .before .before in
-    lines-in (start .args .text .now) (rw (c .before .at .given .1) at (at-read-lines .read-lines .ensures))
-
-part-read-rest-end : tie.Need-part-read-rest-end
-part-read-rest-end c = search needs
-
-sub-read-rest-2 : tie.Need-sub-read-rest-2
-sub-read-rest-2 c =
-    let start = c .before .before .before .before .before .before .before .before .before .before .before .before in
+words-from : tie.Need-sub-read-rest-2
+words-from c =
     let at-read-lines = c .before .before .before .before .before .before in
-    omega (arith, ap length (start .pre) ∙ length-replicate {A = ℕ} textWords 0, at-read-lines .read-lines .kept .1 .1 .0)
-
-part-read-rest-start-2 : tie.Need-part-read-rest-start-2
-part-read-rest-start-2 c =
-    let start = c .before .before .before .before .before .before .before .before .before .before .before .before in
-    let at-read-lines = c .before .before .before .before .before .before in
-    omega (arith, ap length (start .pre) ∙ length-replicate {A = ℕ} textWords 0, at-read-lines .read-lines .kept .1 .1 .0)
-
-part-read-rest-end-2 : tie.Need-part-read-rest-end-2
-part-read-rest-end-2 c = search needs
+    let start = at-read-lines .before .before .before .before .before .before in
+    let zeros = ap length (start .pre) ∙ length-replicate {A = ℕ} textWords 0 in
+    omega (arith, at-read-lines .read-lines .kept .1 .1 .0)
 
 read-rest-requires : tie.Need-read-rest-requires
 read-rest-requires c κs =
-    let start = c .before .before .before .before .before .before .before .before .before .before .before .before .before in
-    let at-at = c .before .before .before in
     let at-read-lines = c .before .before .before .before .before .before .before in
-    rest-zeros (start .args .text .now) _ _ _ (start .pre) (rw (at-at .at .given .1) at (at-read-lines .read-lines .ensures))
+    let start = at-read-lines .before .before .before .before .before .before in
+    words-zeros (start .args .text .now)
+    (rw (c .before .before .before .at .given .1) at (at-read-lines .read-lines .ensures))
 
-enum-known-refusal-2 : tie.Need-enum-known-refusal-2
-enum-known-refusal-2 c = search needs
+abbrev begun : tie.After-read-rest → tie.Start
+begun c =
+    c .before .before .before .before .before .before .before .before .before .before .before .before .before .before
+
+-- the lines and what follows them are read
+whole : (c : tie.After-read-rest) {r : LineRead} → c .read-rest .result ≡ r
+    → Filled (readSheet (begun c .args .text .now)) (begun c .args .text .now)
+    (shiftBy (c .before .before .before .before .at .given .0 .0) r)
+    (putBack (c .before .before .before .before .before .before .before .before .read-lines .last .1 .1 .0) 45
+    (c .read-rest .last .1 .0))
+whole c e =
+    let at-at = c .before .before .before .before in
+    let at-read-lines = at-at .before .before .before .before in
+    let lines = rw (at-at .at .given .1) at (at-read-lines .read-lines .ensures) in
+    filled-as (at-at .at .given .0 .0) e (words-read (begun c .args .text .now) lines
+    (at-read-lines .before .before .before .if1 .left) (c .read-rest .ensures))
 
 add-t97 : tie.Need-add-t97
-add-t97 c =
-    let start = c .before .before .before .before .before .before .before .before .before .before .before .before .before .before .before .before .before .before .before in
-    let at-if1 = c .before .before .before .before .before .before .before .before .before .before .before .before .before .before .before .before in
-    let at-at = c .before .before .before .before .before .before .before .before .before in
-    let at-read-lines = c .before .before .before .before .before .before .before .before .before .before .before .before .before in
-    let at-read-rest = c .before .before .before .before .before in
-    omega (arith, ap extent (c .before .refusal2 .given .1), rest-in (start .args .text .now) (at-if1 .if1 .left) (rw (at-at .at .given .1) at (at-read-lines .read-lines .ensures)) (at-read-rest .read-rest .ensures))
-
-enum-known-len : tie.Need-enum-known-len
-enum-known-len c = search needs
+add-t97 c = omega (arith, whole (c .before .before .before .before .before) (c .before .refusal2 .given .1) .within)
 
 add-t98 : tie.Need-add-t98
-add-t98 c =
-    let start = c .before .before .before .before .before .before .before .before .before .before .before .before .before .before .before .before .before .before .before in
-    let at-if1 = c .before .before .before .before .before .before .before .before .before .before .before .before .before .before .before .before in
-    let at-at = c .before .before .before .before .before .before .before .before .before in
-    let at-read-lines = c .before .before .before .before .before .before .before .before .before .before .before .before .before in
-    let at-read-rest = c .before .before .before .before .before in
-    omega (arith, ap extent (c .before .len .given .1), rest-in (start .args .text .now) (at-if1 .if1 .left) (rw (at-at .at .given .1) at (at-read-lines .read-lines .ensures)) (at-read-rest .read-rest .ensures))
-
-same-length : tie.Need-same-length
-same-length c = search needs
+add-t98 c = omega (arith, whole (c .before .before .before .before .before) (c .before .len .given .1) .within)
 
 returns-2 : tie.Need-returns-2
 returns-2 c =
-    let start = c .before .before .before .before .before .before .before .before .before .before .before in
-    let at-if1 = c .before .before .before .before .before .before .before .before in
     let at-read-lines = c .before .before .before .before .before in
-    reads-broken (start .args .text .now) (at-if1 .if1 .left) (rw (c .before .refusal .given .1) at (at-read-lines .read-lines .ensures))
-
-same-length-2 : tie.Need-same-length-2
-same-length-2 c = search needs
+    let at-if1 = at-read-lines .before .before .before in
+    let start = at-if1 .before .before .before in
+    words-broken (start .args .text .now) (at-if1 .if1 .left)
+    (rw (c .before .refusal .given .1) at (at-read-lines .read-lines .ensures))
 
 returns-3 : tie.Need-returns-3
-returns-3 c =
-    let start = c .before .before .before .before .before .before .before .before .before .before .before .before .before .before .before .before .before .before .before in
-    let at-if1 = c .before .before .before .before .before .before .before .before .before .before .before .before .before .before .before .before in
-    let at-at = c .before .before .before .before .before .before .before .before .before in
-    let at-read-lines = c .before .before .before .before .before .before .before .before .before .before .before .before .before in
-    let at-read-rest = c .before .before .before .before .before in
-    rw (c .before .refusal2 .given .1) at (reads-rest (start .args .text .now) (at-if1 .if1 .left) (rw (at-at .at .given .1) at (at-read-lines .read-lines .ensures)) (at-read-rest .read-rest .ensures))
-
-same-length-3 : tie.Need-same-length-3
-same-length-3 c = search needs
+returns-3 c = whole (c .before .before .before .before .before) (c .before .refusal2 .given .1)
 
 returns-4 : tie.Need-returns-4
-returns-4 c =
-    let start = c .before .before .before .before .before .before .before .before .before .before .before .before .before .before .before .before .before .before .before in
-    let at-if1 = c .before .before .before .before .before .before .before .before .before .before .before .before .before .before .before .before in
-    let at-at = c .before .before .before .before .before .before .before .before .before in
-    let at-read-lines = c .before .before .before .before .before .before .before .before .before .before .before .before .before in
-    let at-read-rest = c .before .before .before .before .before in
-    rw (c .before .len .given .1) at (reads-rest (start .args .text .now) (at-if1 .if1 .left) (rw (at-at .at .given .1) at (at-read-lines .read-lines .ensures)) (at-read-rest .read-rest .ensures))
+returns-4 c = whole (c .before .before .before .before .before) (c .before .len .given .1)
 
 pub read-words-spec : {M : Type 1} → statement M
 read-words-spec =
     tie.close
     (tie.spec
     returns
-    slice-aggregate-read-lines
+    (λ c. search needs)
     read-lines-requires
-    enum-known-refusal
-    enum-known-at
-    sub-read-rest
-    part-read-rest-start
-    part-read-rest-end
-    sub-read-rest-2
-    part-read-rest-start-2
-    part-read-rest-end-2
+    (λ c. search needs)
+    (λ c. search needs)
+    text-from
+    text-from
+    (λ c. search needs)
+    words-from
+    words-from
+    (λ c. search needs)
     read-rest-requires
-    enum-known-refusal-2
+    (λ c. search needs)
     add-t97
-    enum-known-len
+    (λ c. search needs)
     add-t98
-    same-length
+    (λ c. search needs)
     returns-2
-    same-length-2
+    (λ c. search needs)
     returns-3
-    same-length-3
+    (λ c. search needs)
     returns-4)

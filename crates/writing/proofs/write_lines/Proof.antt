@@ -1,160 +1,139 @@
--- `write_lines` meets its contract. Assumes nothing.
-use mathlib.Core.List.{List}
-use Prim.Native.Nat.{ℕ}
-use lib.ListN.{drop}
+-- `write_lines` meets its contract.
+use mathlib.Core.Path.{_≡_, refl, ap}
+use mathlib.Core.List.{List, _∷_}
+use Prim.Native.Nat.{ℕ, _+_, _≤_}
+use lib.ListN.{length, drop}
+use Rattle.text.specs.Line.{Line, Laid, lineText}
+use Rattle.text.proofs.Laid.{laid-length}
 use Rattle.sheet.specs.Lines.{lines}
-use Rattle.sheet.proofs.Written.{Ahead, start, done, line-in, step, laid-length}
+use Rattle.sheet.specs.Sheet.{limitRows, sheetLimits, limitsOn}
+use Rattle.sheet.specs.Places.{textWords}
+use Rattle.writing.specs.Pieces.{lineFrom, Due}
+use Rattle.writing.proofs.LineByLine.{Ahead, start, done, line-room, step}
+use native.Mathlib.Omega.{arith}
 use borrow.Author.Needs.{needs}
 use Rattle.writing.proofs.write_lines.Statement.{statement}
 use Rattle.writing.proofs.write_lines.Tie as tie
 
--- k lines are written, up to the place `at` of out and the place `from` of the words; `begun` is where the function was entered
-record Past (k : ℕ) (out : List ℕ) (from at : ℕ) : Type 0 where
+-- ls are still to be written, from the place `at` of out and the place `from` of the words on; `begun` is where the
+-- function was entered
+record Past (ls : List Line) (out : List ℕ) (from at : ℕ) : Type 0 where
   begun : tie.Start
-  ahead : Ahead (drop k lines) (begun .args .limits .now) (begun .args .sheet .now) (begun .args .out .now) out from at
+  ahead : Ahead ls (begun .args .sheet .now) (begun .args .out .now) out from at
 
-abbrev unwritten : (c : tie.Start) → Past 0 (c .args .out .now) 0 0
-unwritten c = record { begun = c; ahead = start _ _ _ (c .pre .0) (c .pre .1) (c .pre .2) }
+abbrev unwritten : (c : tie.Start) → Past lines (c .args .out .now) 0 0
+unwritten c = record { begun = c; ahead = start _ _ (c .pre .2) }
 
-abbrev hull : (c : tie.After-write-next) → Past 1 (c .write-next .last .1 .1 .1 .1 .1 .0) 1 (c .write-next .result)
+module _ {l : Line} {ls : List Line} {out : List ℕ} {from at : ℕ} (p : Past (l ∷ ls) out from at) where
+  abbrev on : {r : ℕ} {o : List ℕ} → Laid (lineText l (drop from (p .begun .args .sheet .now))) out at r o
+      → Past ls o (from + length (l .limits)) r
+  on q = record { begun = p .begun; ahead = step (p .ahead) q }
+
+  -- the line is due
+  due : {tag : List ℕ} {to : ℕ} → lineFrom tag from to ≡ l → from ≤ to → to ≤ textWords
+      → Due tag (p .begun .args .limits .now) (p .begun .args .sheet .now) from to out at
+  due e h k =
+      let same = ap (λ (m : Line). length (lineText m (drop from (p .begun .args .sheet .now)))) e in
+      record {
+        table = p .begun .pre .0;
+        many = p .begun .pre .1;
+        order = h;
+        end = k;
+        room = omega (arith, same, line-room (p .ahead));
+      }
+
+abbrev hull : (c : tie.After-write-next)
+    → Past (drop 1 lines) (c .write-next .last .1 .1 .1 .1 .1 .0) 1 (c .write-next .result)
+unfolding limitRows sheetLimits limitsOn
 hull c =
-    let last = unwritten (c .before .before .before .before .before) in
-    record { begun = last .begun; ahead = step (last .ahead) (c .write-next .ensures) }
+    on (unwritten (c .before .before .before .before .before)) (c .write-next .ensures)
 
-abbrev form : (c : tie.After-write-next2) → Past 2 (c .write-next2 .last .1 .1 .1 .1 .1 .0) 7 (c .write-next2 .result)
+abbrev form : (c : tie.After-write-next2)
+    → Past (drop 2 lines) (c .write-next2 .last .1 .1 .1 .1 .1 .0) 7 (c .write-next2 .result)
+unfolding limitRows sheetLimits limitsOn
 form c =
-    let last = hull (c .before .before .before .before .before) in
-    record { begun = last .begun; ahead = step (last .ahead) (c .write-next2 .ensures) }
+    on (hull (c .before .before .before .before .before)) (c .write-next2 .ensures)
 
-abbrev station-q : (c : tie.After-write-next3) → Past 3 (c .write-next3 .last .1 .1 .1 .1 .1 .0) 14 (c .write-next3 .result)
+abbrev station-q : (c : tie.After-write-next3)
+    → Past (drop 3 lines) (c .write-next3 .last .1 .1 .1 .1 .1 .0) 14 (c .write-next3 .result)
+unfolding limitRows sheetLimits limitsOn
 station-q c =
-    let last = form (c .before .before .before .before .before) in
-    record { begun = last .begun; ahead = step (last .ahead) (c .write-next3 .ensures) }
+    on (form (c .before .before .before .before .before)) (c .write-next3 .ensures)
 
-abbrev station-r : (c : tie.After-write-next4) → Past 4 (c .write-next4 .last .1 .1 .1 .1 .1 .0) 21 (c .write-next4 .result)
+abbrev station-r : (c : tie.After-write-next4)
+    → Past (drop 4 lines) (c .write-next4 .last .1 .1 .1 .1 .1 .0) 21 (c .write-next4 .result)
+unfolding limitRows sheetLimits limitsOn
 station-r c =
-    let last = station-q (c .before .before .before .before .before) in
-    record { begun = last .begun; ahead = step (last .ahead) (c .write-next4 .ensures) }
+    on (station-q (c .before .before .before .before .before)) (c .write-next4 .ensures)
 
-abbrev station-s : (c : tie.After-write-next5) → Past 5 (c .write-next5 .last .1 .1 .1 .1 .1 .0) 28 (c .write-next5 .result)
+abbrev station-s : (c : tie.After-write-next5)
+    → Past (drop 5 lines) (c .write-next5 .last .1 .1 .1 .1 .1 .0) 28 (c .write-next5 .result)
+unfolding limitRows sheetLimits limitsOn
 station-s c =
-    let last = station-r (c .before .before .before .before .before) in
-    record { begun = last .begun; ahead = step (last .ahead) (c .write-next5 .ensures) }
+    on (station-r (c .before .before .before .before .before)) (c .write-next5 .ensures)
 
-abbrev station-t : (c : tie.After-write-next6) → Past 6 (c .write-next6 .last .1 .1 .1 .1 .1 .0) 35 (c .write-next6 .result)
+abbrev station-t : (c : tie.After-write-next6)
+    → Past (drop 6 lines) (c .write-next6 .last .1 .1 .1 .1 .1 .0) 35 (c .write-next6 .result)
+unfolding limitRows sheetLimits limitsOn
 station-t c =
-    let last = station-s (c .before .before .before .before .before) in
-    record { begun = last .begun; ahead = step (last .ahead) (c .write-next6 .ensures) }
+    on (station-s (c .before .before .before .before .before)) (c .write-next6 .ensures)
 
-abbrev vol : (c : tie.After-write-next7) → Past 7 (c .write-next7 .last .1 .1 .1 .1 .1 .0) 38 (c .write-next7 .result)
+abbrev vol : (c : tie.After-write-next7)
+    → Past (drop 7 lines) (c .write-next7 .last .1 .1 .1 .1 .1 .0) 38 (c .write-next7 .result)
+unfolding limitRows sheetLimits limitsOn
 vol c =
-    let last = station-t (c .before .before .before .before .before) in
-    record { begun = last .begun; ahead = step (last .ahead) (c .write-next7 .ensures) }
+    on (station-t (c .before .before .before .before .before)) (c .write-next7 .ensures)
 
-abbrev mass : (c : tie.After-write-next8) → Past 8 (c .write-next8 .last .1 .1 .1 .1 .1 .0) 41 (c .write-next8 .result)
+abbrev mass : (c : tie.After-write-next8)
+    → Past (drop 8 lines) (c .write-next8 .last .1 .1 .1 .1 .1 .0) 41 (c .write-next8 .result)
+unfolding limitRows sheetLimits limitsOn
 mass c =
-    let last = vol (c .before .before .before .before .before) in
-    record { begun = last .begun; ahead = step (last .ahead) (c .write-next8 .ensures) }
+    on (vol (c .before .before .before .before .before)) (c .write-next8 .ensures)
 
-abbrev power : (c : tie.After-write-next9) → Past 9 (c .write-next9 .last .1 .1 .1 .1 .1 .0) 43 (c .write-next9 .result)
+abbrev power : (c : tie.After-write-next9)
+    → Past (drop 9 lines) (c .write-next9 .last .1 .1 .1 .1 .1 .0) 43 (c .write-next9 .result)
+unfolding limitRows sheetLimits limitsOn
 power c =
-    let last = mass (c .before .before .before .before .before) in
-    record { begun = last .begun; ahead = step (last .ahead) (c .write-next9 .ensures) }
+    on (mass (c .before .before .before .before .before)) (c .write-next9 .ensures)
 
-abbrev seat : (c : tie.After-write-next10) → Past 10 (c .write-next10 .last .1 .1 .1 .1 .1 .0) 45 (c .write-next10 .result)
+abbrev seat : (c : tie.After-write-next10)
+    → Past (drop 10 lines) (c .write-next10 .last .1 .1 .1 .1 .1 .0) 45 (c .write-next10 .result)
+unfolding limitRows sheetLimits limitsOn
 seat c =
-    let last = power (c .before .before .before .before .before) in
-    record { begun = last .begun; ahead = step (last .ahead) (c .write-next10 .ensures) }
-
-slice-aggregate-write-next : tie.Need-slice-aggregate-write-next
-slice-aggregate-write-next c = search needs
-
-write-next-requires : tie.Need-write-next-requires
-write-next-requires c κs = line-in (unwritten (c .before .before .before .before) .ahead)
-
-slice-aggregate-write-next-2 : tie.Need-slice-aggregate-write-next-2
-slice-aggregate-write-next-2 c = search needs
-
-write-next-requires-2 : tie.Need-write-next-requires-2
-write-next-requires-2 c κs = line-in (hull (c .before .before .before .before) .ahead)
-
-slice-aggregate-write-next-3 : tie.Need-slice-aggregate-write-next-3
-slice-aggregate-write-next-3 c = search needs
-
-write-next-requires-3 : tie.Need-write-next-requires-3
-write-next-requires-3 c κs = line-in (form (c .before .before .before .before) .ahead)
-
-slice-aggregate-write-next-4 : tie.Need-slice-aggregate-write-next-4
-slice-aggregate-write-next-4 c = search needs
-
-write-next-requires-4 : tie.Need-write-next-requires-4
-write-next-requires-4 c κs = line-in (station-q (c .before .before .before .before) .ahead)
-
-slice-aggregate-write-next-5 : tie.Need-slice-aggregate-write-next-5
-slice-aggregate-write-next-5 c = search needs
-
-write-next-requires-5 : tie.Need-write-next-requires-5
-write-next-requires-5 c κs = line-in (station-r (c .before .before .before .before) .ahead)
-
-slice-aggregate-write-next-6 : tie.Need-slice-aggregate-write-next-6
-slice-aggregate-write-next-6 c = search needs
-
-write-next-requires-6 : tie.Need-write-next-requires-6
-write-next-requires-6 c κs = line-in (station-s (c .before .before .before .before) .ahead)
-
-slice-aggregate-write-next-7 : tie.Need-slice-aggregate-write-next-7
-slice-aggregate-write-next-7 c = search needs
-
-write-next-requires-7 : tie.Need-write-next-requires-7
-write-next-requires-7 c κs = line-in (station-t (c .before .before .before .before) .ahead)
-
-slice-aggregate-write-next-8 : tie.Need-slice-aggregate-write-next-8
-slice-aggregate-write-next-8 c = search needs
-
-write-next-requires-8 : tie.Need-write-next-requires-8
-write-next-requires-8 c κs = line-in (vol (c .before .before .before .before) .ahead)
-
-slice-aggregate-write-next-9 : tie.Need-slice-aggregate-write-next-9
-slice-aggregate-write-next-9 c = search needs
-
-write-next-requires-9 : tie.Need-write-next-requires-9
-write-next-requires-9 c κs = line-in (mass (c .before .before .before .before) .ahead)
-
-slice-aggregate-write-next-10 : tie.Need-slice-aggregate-write-next-10
-slice-aggregate-write-next-10 c = search needs
-
-write-next-requires-10 : tie.Need-write-next-requires-10
-write-next-requires-10 c κs = line-in (power (c .before .before .before .before) .ahead)
+    on (power (c .before .before .before .before .before)) (c .write-next10 .ensures)
 
 same-length : tie.Need-same-length
-same-length c = laid-length (done (seat (c .before .before) .ahead))
+unfolding hull form station-q station-r station-s station-t vol mass power seat
+same-length c = laid-length (seat (c .before .before) .ahead .laid)
 
 returns : tie.Need-returns
+unfolding hull form station-q station-r station-s station-t vol mass power seat
 returns c = done (seat (c .before .before) .ahead)
 
 pub write-lines-spec : {M : Type 1} → statement M
+unfolding limitRows sheetLimits limitsOn hull form station-q station-r station-s station-t vol mass power seat
 write-lines-spec =
     tie.close
     (tie.spec
-    slice-aggregate-write-next
-    write-next-requires
-    slice-aggregate-write-next-2
-    write-next-requires-2
-    slice-aggregate-write-next-3
-    write-next-requires-3
-    slice-aggregate-write-next-4
-    write-next-requires-4
-    slice-aggregate-write-next-5
-    write-next-requires-5
-    slice-aggregate-write-next-6
-    write-next-requires-6
-    slice-aggregate-write-next-7
-    write-next-requires-7
-    slice-aggregate-write-next-8
-    write-next-requires-8
-    slice-aggregate-write-next-9
-    write-next-requires-9
-    slice-aggregate-write-next-10
-    write-next-requires-10
+    (λ c. search needs)
+    (λ c κs. due (unwritten (c .before .before .before .before)) refl (omega arith) (omega arith))
+    (λ c. search needs)
+    (λ c κs. due (hull (c .before .before .before .before)) refl (omega arith) (omega arith))
+    (λ c. search needs)
+    (λ c κs. due (form (c .before .before .before .before)) refl (omega arith) (omega arith))
+    (λ c. search needs)
+    (λ c κs. due (station-q (c .before .before .before .before)) refl (omega arith) (omega arith))
+    (λ c. search needs)
+    (λ c κs. due (station-r (c .before .before .before .before)) refl (omega arith) (omega arith))
+    (λ c. search needs)
+    (λ c κs. due (station-s (c .before .before .before .before)) refl (omega arith) (omega arith))
+    (λ c. search needs)
+    (λ c κs. due (station-t (c .before .before .before .before)) refl (omega arith) (omega arith))
+    (λ c. search needs)
+    (λ c κs. due (vol (c .before .before .before .before)) refl (omega arith) (omega arith))
+    (λ c. search needs)
+    (λ c κs. due (mass (c .before .before .before .before)) refl (omega arith) (omega arith))
+    (λ c. search needs)
+    (λ c κs. due (power (c .before .before .before .before)) refl (omega arith) (omega arith))
     same-length
     returns)

@@ -1,94 +1,71 @@
--- `write_sheet` meets its contract. Assumes nothing.
-use mathlib.Core.Path.{refl, sym, _∙_}
-use Rattle.writing.proofs.WriteCall.{settled-outside, settled-short, written-in, written-most, settled-written}
-use Rattle.sheet.proofs.Most.{text-most}
-use Rattle.sheet.specs.Sheet.{limitRows, limitsOn, sheetLimits}
+-- `write_sheet` meets its contract.
+use mathlib.Core.Bool.{true}
+use mathlib.Core.Path.{_≡_, refl, sym, _∙_}
 use lib.Seq.{length-take-le}
+use Rattle.sheet.specs.Sheet.{limitRows, limitsOn, sheetLimits, sheetOk}
+use Rattle.sheet.proofs.Most.{text-most}
+use Rattle.writing.proofs.WriteCall.{Written, written, settled-outside, settled-short, settled-written}
 use native.Mathlib.Omega.{arith}
 use borrow.Author.Needs.{needs}
 use Rattle.writing.proofs.write_sheet.Statement.{statement}
 use Rattle.writing.proofs.write_sheet.Tie as tie
 
-sheet-ok-requires : tie.Need-sheet-ok-requires
-sheet-ok-requires c κs = search needs
+abbrev begun : tie.After-write-words → tie.Start
+begun c = c .before .before .before .before .before .before .before .before
 
-slice-aggregate-write-words : tie.Need-slice-aggregate-write-words
-slice-aggregate-write-words c = search needs
+-- the sheet is within the limits
+within : (c : tie.After-write-words) → sheetOk (begun c .args .sheet .now) ≡ true
+within c =
+    let at-if1 = c .before .before .before .before in
+    sym (at-if1 .before .sheet-ok .ensures) ∙ at-if1 .if1 .taken
 
-slice-aggregate-write-words-2 : tie.Need-slice-aggregate-write-words-2
-slice-aggregate-write-words-2 c = search needs
+-- the text is laid
+laid : (c : tie.After-write-words)
+    → Written (begun c .args .sheet .now) (c .write-words .result) (c .write-words .last .1 .1 .0)
+laid c = written (within c) (c .write-words .ensures) (text-most (begun c .args .sheet .now) (within c))
 
 write-words-requires : tie.Need-write-words-requires
 unfolding limitRows sheetLimits limitsOn
 write-words-requires c κs =
-    let start = c .before .before .before .before .before .before .before in
-    let at-sheet-ok = c .before .before .before .before in
     let at-if1 = c .before .before .before in
-    (refl, search needs, text-most (start .args .sheet .now) (sym (at-sheet-ok .sheet-ok .ensures) ∙ at-if1 .if1 .taken))
+    let start = at-if1 .before .before .before .before in
+    let ok = sym (at-if1 .before .sheet-ok .ensures) ∙ at-if1 .if1 .taken in
+    (refl, search needs, text-most (start .args .sheet .now) ok)
 
 returns : tie.Need-returns
-returns c =
-    let start = c .before .before .before .before .before .before .before .before .before .before in
-    let at-sheet-ok = c .before .before .before .before .before .before .before in
-    let at-if1 = c .before .before .before .before .before .before in
-    settled-short (start .args .sheet .now) (start .args .out .now) (sym (at-sheet-ok .sheet-ok .ensures) ∙ at-if1 .if1 .taken) (c .before .before .write-words .ensures) (c .if2 .taken)
+returns c = settled-short _ (laid (c .before .before)) (c .if2 .taken)
 
 array-share-prefix-bytes : tie.Need-array-share-prefix-bytes
-array-share-prefix-bytes c =
-    let start = c .before .before .before .before .before .before .before .before .before .before in
-    let at-sheet-ok = c .before .before .before .before .before .before .before in
-    let at-if1 = c .before .before .before .before .before .before in
-    written-in (start .args .sheet .now) (start .args .out .now) (sym (at-sheet-ok .sheet-ok .ensures) ∙ at-if1 .if1 .taken) (c .before .before .write-words .ensures) (text-most (start .args .sheet .now) (sym (at-sheet-ok .sheet-ok .ensures) ∙ at-if1 .if1 .taken))
+array-share-prefix-bytes c = laid (c .before .before) .long
 
 slice-aggregate-write-bytes : tie.Need-slice-aggregate-write-bytes
-slice-aggregate-write-bytes c =
-    let start = c .before .before .before .before .before .before .before .before .before .before .before in
-    let at-sheet-ok = c .before .before .before .before .before .before .before .before in
-    let at-if1 = c .before .before .before .before .before .before .before in
-    let at-write-words = c .before .before .before in
-    sym (length-take-le _ _ (written-in (start .args .sheet .now) (start .args .out .now) (sym (at-sheet-ok .sheet-ok .ensures) ∙ at-if1 .if1 .taken) (at-write-words .write-words .ensures) (text-most (start .args .sheet .now) (sym (at-sheet-ok .sheet-ok .ensures) ∙ at-if1 .if1 .taken))))
-
-write-bytes-requires : tie.Need-write-bytes-requires
-write-bytes-requires c κs = search needs
+slice-aggregate-write-bytes c = sym (length-take-le _ _ (laid (c .before .before .before) .long))
 
 cast-t92 : tie.Need-cast-t92
-cast-t92 c =
-    let start = c .before .before .before .before .before .before .before .before .before .before .before .before .before .before .before in
-    let at-sheet-ok = c .before .before .before .before .before .before .before .before .before .before .before .before in
-    let at-if1 = c .before .before .before .before .before .before .before .before .before .before .before in
-    let at-write-words = c .before .before .before .before .before .before .before in
-    let m = written-most (start .args .sheet .now) (start .args .out .now) (sym (at-sheet-ok .sheet-ok .ensures) ∙ at-if1 .if1 .taken) (at-write-words .write-words .ensures) (text-most (start .args .sheet .now) (sym (at-sheet-ok .sheet-ok .ensures) ∙ at-if1 .if1 .taken)) in omega arith
-
-same-length : tie.Need-same-length
-same-length c = search needs
+cast-t92 c = omega (arith, laid (c .before .before .before .before .before .before .before) .short)
 
 returns-2 : tie.Need-returns-2
 returns-2 c =
-    let start = c .before .before .before .before .before .before .before .before .before .before .before .before .before .before .before in
-    let at-sheet-ok = c .before .before .before .before .before .before .before .before .before .before .before .before in
-    let at-if1 = c .before .before .before .before .before .before .before .before .before .before .before in
-    let at-write-words = c .before .before .before .before .before .before .before in
-    let at-if2 = c .before .before .before .before .before in
-    settled-written (start .args .sheet .now) (start .args .out .now) (sym (at-sheet-ok .sheet-ok .ensures) ∙ at-if1 .if1 .taken) (at-write-words .write-words .ensures) (text-most (start .args .sheet .now) (sym (at-sheet-ok .sheet-ok .ensures) ∙ at-if1 .if1 .taken)) (at-if2 .if2 .left) (c .before .before .write-bytes .ensures)
+    let at-words = c .before .before .before .before .before .before .before in
+    let room = c .before .before .before .before .before .if2 .left in
+    settled-written (begun at-words .args .out .now) (laid at-words) room (c .before .before .write-bytes .ensures)
 
 returns-3 : tie.Need-returns-3
-returns-3 c =
-    let start = c .before .before .before .before in
-    settled-outside (start .args .sheet .now) (start .args .out .now) (sym (c .before .sheet-ok .ensures) ∙ c .if1 .left)
+returns-3 c = settled-outside _ _ (sym (c .before .sheet-ok .ensures) ∙ c .if1 .left)
 
 pub write-sheet-spec : {M : Type 1} → statement M
 write-sheet-spec =
     tie.close
     (tie.spec
-    sheet-ok-requires
-    slice-aggregate-write-words
-    slice-aggregate-write-words-2
+    (λ c κs. search needs)
+    (λ c. search needs)
+    (λ c. search needs)
     write-words-requires
     returns
     array-share-prefix-bytes
     slice-aggregate-write-bytes
-    write-bytes-requires
+    (λ c κs. search needs)
     cast-t92
-    same-length
+    (λ c. search needs)
     returns-2
     returns-3)

@@ -1,115 +1,85 @@
--- `write_words` meets its contract. Assumes nothing.
-use Rattle.writing.proofs.WriteCall.{sheet-lengths, lines-in, weights-many, fits-room, end-place, end-length, words-laid}
-use Rattle.sheet.proofs.Written.{laid-length}
-use mathlib.Core.Path.{refl}
+-- `write_words` meets its contract.
+use mathlib.Core.Path.{_≡_, refl}
+use Prim.Native.Nat.{_+_, _≤_}
+use lib.ListN.{length}
+use Rattle.sheet.specs.SheetText.{sheetText}
+use Rattle.text.proofs.Laid.{laid-length}
+use Rattle.writing.proofs.WriteCall.{lines-in, weights-many, fits-room, end-place, end-length, words-laid}
 use native.Mathlib.Omega.{arith}
 use borrow.Author.Needs.{needs}
 use Rattle.writing.proofs.write_words.Statement.{statement}
 use Rattle.writing.proofs.write_words.Tie as tie
 
-write-lines-requires : tie.Need-write-lines-requires
-write-lines-requires c κs =
-    let start = c .before .before .before in
-    (start .pre .0, start .pre .1, omega (arith, start .pre .2, sheet-lengths (start .args .sheet .now)))
-
-sub-write-fits : tie.Need-sub-write-fits
-sub-write-fits c = search needs
-
-part-write-fits-start : tie.Need-part-write-fits-start
-part-write-fits-start c = search needs
-
-part-write-fits-end : tie.Need-part-write-fits-end
-part-write-fits-end c = search needs
-
-sub-write-fits-2 : tie.Need-sub-write-fits-2
-sub-write-fits-2 c =
-    let start = c .before .before .before .before .before .before .before in
-    let at-write-lines = c .before .before .before in
-    lines-in (start .args .sheet .now) (at-write-lines .write-lines .ensures) (start .pre .1) (start .pre .2)
-
-part-write-fits-start-2 : tie.Need-part-write-fits-start-2
-part-write-fits-start-2 c =
-    let start = c .before .before .before .before .before .before .before in
-    let at-write-lines = c .before .before .before in
-    lines-in (start .args .sheet .now) (at-write-lines .write-lines .ensures) (start .pre .1) (start .pre .2)
-
-part-write-fits-end-2 : tie.Need-part-write-fits-end-2
-part-write-fits-end-2 c = search needs
+out-from : tie.Need-sub-write-fits-2
+out-from c =
+    let at-lines = c .before .before .before in
+    let start = at-lines .before .before .before .before in
+    lines-in (start .args .sheet .now) (at-lines .write-lines .ensures) (start .pre .1) (start .pre .2)
 
 write-fits-requires : tie.Need-write-fits-requires
 write-fits-requires c κs =
-    let start = c .before .before .before .before .before .before .before .before in
-    let at-write-lines = c .before .before .before .before in
-    (weights-many (start .args .sheet .now) (at-write-lines .write-lines .ensures) (start .pre .1) (start .pre .2), fits-room (start .args .sheet .now) (at-write-lines .write-lines .ensures) (start .pre .1) (start .pre .2))
+    let at-lines = c .before .before .before .before in
+    let start = at-lines .before .before .before .before in
+    let s = start .args .sheet .now in
+    let lines = at-lines .write-lines .ensures in
+    (weights-many s lines (start .pre .1) (start .pre .2), fits-room s lines (start .pre .1) (start .pre .2))
+
+abbrev begun : tie.After-write-fits → tie.Start
+begun c = c .before .before .before .before .before .before .before .before .before
+
+-- END stands at the end of the text, for which there is room
+end-in : (c : tie.After-write-fits)
+    → (c .before .before .before .before .before .write-lines .result + c .write-fits .result + 4
+    ≡ length (sheetText (begun c .args .sheet .now)))
+    × (length (sheetText (begun c .args .sheet .now)) ≤ length (begun c .args .out .now))
+end-in c =
+    let lines = c .before .before .before .before .before .write-lines .ensures in
+    (end-place _ lines (c .write-fits .ensures), begun c .pre .2)
 
 add-at : tie.Need-add-at
-add-at c =
-    let start = c .before .before .before .before .before .before .before .before .before .before .before in
-    let at-write-lines = c .before .before .before .before .before .before .before in
-    omega (arith, end-place (start .args .sheet .now) (at-write-lines .write-lines .ensures) (c .before .before .write-fits .ensures), start .pre .2, start .good)
+add-at c = omega (arith, end-in (c .before .before), begun (c .before .before) .good)
 
-slice-aggregate-write-bytes : tie.Need-slice-aggregate-write-bytes
-slice-aggregate-write-bytes c = search needs
-
-sub-write-bytes : tie.Need-sub-write-bytes
-sub-write-bytes c =
-    let start = c .before .before .before .before .before .before .before .before .before .before .before .before in
-    let at-write-lines = c .before .before .before .before .before .before .before .before in
-    let at-write-fits = c .before .before .before in
-    omega (arith, end-place (start .args .sheet .now) (at-write-lines .write-lines .ensures) (at-write-fits .write-fits .ensures), end-length (start .args .sheet .now) (at-write-lines .write-lines .ensures) (at-write-fits .write-fits .ensures), start .pre .2)
-
-part-write-bytes-start : tie.Need-part-write-bytes-start
-part-write-bytes-start c =
-    let start = c .before .before .before .before .before .before .before .before .before .before .before .before in
-    let at-write-lines = c .before .before .before .before .before .before .before .before in
-    let at-write-fits = c .before .before .before in
-    omega (arith, end-place (start .args .sheet .now) (at-write-lines .write-lines .ensures) (at-write-fits .write-fits .ensures), end-length (start .args .sheet .now) (at-write-lines .write-lines .ensures) (at-write-fits .write-fits .ensures), start .pre .2)
-
-part-write-bytes-end : tie.Need-part-write-bytes-end
-part-write-bytes-end c = search needs
-
-write-bytes-requires : tie.Need-write-bytes-requires
-write-bytes-requires c κs = search needs
+end-from : tie.Need-sub-write-bytes
+end-from c =
+    let at-fits = c .before .before .before in
+    let lines = at-fits .before .before .before .before .before .write-lines .ensures in
+    omega (arith, end-in at-fits, end-length _ lines (at-fits .write-fits .ensures))
 
 add-result : tie.Need-add-result
 add-result c =
-    let start = c .before .before .before .before .before .before .before .before .before .before .before .before .before .before .before .before in
-    let at-write-lines = c .before .before .before .before .before .before .before .before .before .before .before .before in
-    let at-write-fits = c .before .before .before .before .before .before .before in
-    omega (arith, end-place (start .args .sheet .now) (at-write-lines .write-lines .ensures) (at-write-fits .write-fits .ensures), start .pre .2, start .good)
+    let at-fits = c .before .before .before .before .before .before .before in
+    omega (arith, end-in at-fits, begun at-fits .good)
 
 same-length : tie.Need-same-length
 same-length c =
-    let start = c .before .before .before .before .before .before .before .before .before .before .before .before .before .before .before .before in
-    let at-write-lines = c .before .before .before .before .before .before .before .before .before .before .before .before in
-    let at-write-fits = c .before .before .before .before .before .before .before in
-    laid-length (words-laid (start .args .sheet .now) (at-write-lines .write-lines .ensures) (at-write-fits .write-fits .ensures) _ _ refl (c .before .before .write-bytes .ensures))
+    let at-fits = c .before .before .before .before .before .before .before in
+    let lines = at-fits .before .before .before .before .before .write-lines .ensures in
+    laid-length (words-laid _ lines (at-fits .write-fits .ensures) _ _ refl (c .before .before .write-bytes .ensures))
 
 returns : tie.Need-returns
 returns c =
-    let start = c .before .before .before .before .before .before .before .before .before .before .before .before .before .before .before .before in
-    let at-write-lines = c .before .before .before .before .before .before .before .before .before .before .before .before in
-    let at-write-fits = c .before .before .before .before .before .before .before in
-    words-laid (start .args .sheet .now) (at-write-lines .write-lines .ensures) (at-write-fits .write-fits .ensures) _ _ refl (c .before .before .write-bytes .ensures)
+    let at-fits = c .before .before .before .before .before .before .before in
+    let lines = at-fits .before .before .before .before .before .write-lines .ensures in
+    words-laid _ lines (at-fits .write-fits .ensures) _ _ refl (c .before .before .write-bytes .ensures)
 
 pub write-words-spec : {M : Type 1} → statement M
 write-words-spec =
     tie.close
     (tie.spec
-    write-lines-requires
-    sub-write-fits
-    part-write-fits-start
-    part-write-fits-end
-    sub-write-fits-2
-    part-write-fits-start-2
-    part-write-fits-end-2
+    (λ c κs. search needs)
+    (λ c. search needs)
+    (λ c. search needs)
+    (λ c. search needs)
+    out-from
+    out-from
+    (λ c. search needs)
     write-fits-requires
     add-at
-    slice-aggregate-write-bytes
-    sub-write-bytes
-    part-write-bytes-start
-    part-write-bytes-end
-    write-bytes-requires
+    (λ c. search needs)
+    end-from
+    end-from
+    (λ c. search needs)
+    (λ c κs. search needs)
     add-result
     same-length
     returns)

@@ -1,0 +1,29 @@
+-- `read_row` meets its contract.
+use mathlib.Core.Path.{refl, _∙_}
+use Rattle.text.proofs.Limit.{length-limits}
+use Rattle.reading.proofs.Row.{row-fault, row-read}
+use borrow.Author.Needs.{needs}
+use Rattle.reading.proofs.read_row.Statement.{statement}
+use Rattle.reading.proofs.read_row.Tie as tie
+
+returns : tie.Need-returns
+returns c = row-fault _ _ (rw (c .before .refusal .given .1) at (c .before .before .before .before .read-line .ensures))
+
+returns-2 : tie.Need-returns-2
+returns-2 c =
+    let start = c .before .before .before .before .before .before .before .before .before in
+    row-read _ _ (length-limits (start .args .limits .now) ∙ search needs) refl
+    (rw (c .before .len .given .1) at (c .before .before .before .before .read-line .ensures))
+
+pub read-row-spec : {M : Type 1} → statement M
+read-row-spec =
+    tie.close
+    (tie.spec
+    (λ c. search needs)
+    (λ c κs. search needs)
+    (λ c. search needs)
+    (λ c. search needs)
+    (λ c. search needs)
+    (λ c. search needs)
+    returns
+    returns-2)

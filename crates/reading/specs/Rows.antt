@@ -1,0 +1,47 @@
+-- A row of two numbers as the code reads it, and rows as two columns.
+use Prim.Native.Nat.{ℕ, _≤_}
+use mathlib.Core.Path.{_≡_}
+use mathlib.Core.List.{List, [], _∷_}
+use lib.ListN.{length}
+use Rattle.ground.specs.Lists.{putFirst}
+use Rattle.text.specs.Line.{Line, readLine}
+use Rattle.form.specs.Parts.{Row}
+use Rattle.form.specs.Outcome.{Found, took, lost, outcome}
+use Rattle.sheet.specs.declared.RowsRead.{RowsRead}
+use Rattle.sheet.specs.declared.RowsRead.the-variants.{Rows, NoRows}
+use Rattle.sheet.specs.EngineText.{powersOf, weightsOf}
+use Rattle.reading.specs.declared.RowRead.{RowRead}
+use Rattle.reading.specs.declared.RowRead.the-variants.{Pair, NoPair}
+
+-- ---- a row
+
+abbrev pub pairFound : RowRead → Found (List ℕ)
+pairFound (Pair a b k) = took k (a ∷ b ∷ [])
+pairFound (NoPair number at) = lost number at
+
+abbrev pub pairReach : RowRead → ℕ
+pairReach (Pair a b k) = k
+pairReach (NoPair number at) = at
+
+-- the line l of two numbers was read at the start of t
+pub record Paired (l : Line) (t : List ℕ) (r : RowRead) : Type 0 where
+  pub found : outcome (readLine l t) ≡ pairFound r
+  pub within : pairReach r ≤ length t
+
+-- ---- rows
+
+-- how many rows there are, or the fault
+abbrev pub rowsEnded : Found (List Row) → RowsRead
+rowsEnded (took k rows) = Rows (length rows)
+rowsEnded (lost number at) = NoRows number at
+
+-- a with a column of what was found at its start
+abbrev pub columnInto : Found (List Row) → (List Row → List ℕ) → List ℕ → List ℕ
+columnInto (took k rows) column a = putFirst (column rows) a
+columnInto (lost number at) column a = a
+
+-- the rows' two columns stand at the starts of a and b; after a fault nothing is said of a and b
+pub record Columns (f : Found (List Row)) (r : RowsRead) (a b : List ℕ) : Type 0 where
+  pub answer : r ≡ rowsEnded f
+  pub powers : a ≡ columnInto f powersOf a
+  pub weights : b ≡ columnInto f weightsOf b
