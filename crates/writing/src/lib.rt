@@ -111,8 +111,7 @@ fn write_words(limits: &[Limit], sheet: &[u32], out: &mut [u8]) -> usize
 }
 
 // Writes a sheet's text from the start of out and answers how many bytes it has. It refuses with 3 a sheet outside the
-// limits, and then with 16 an
-// out that is shorter than the text; only the bytes of the text are touched.
+// limits, and then with 16 an out that is shorter than the text; only the bytes of the text are touched.
 pub fn write_sheet(sheet: &[u32; TEXT_WORDS], out: &mut [u8]) -> Answer
     ensures { λ r. ⌜ Settled (writeAnswer (now (sheet .entry)) (length (now (out .entry))))
         (writeInto (now (sheet .entry)) (now (out .entry))) r (now (out .exit)) ⌝ }
