@@ -11,6 +11,7 @@ use Rattle.text.specs.Line.{Laid}
 use Rattle.ground.proofs.Stores.{putBack, rest-part}
 use Rattle.text.proofs.Laid.{laid-more, laid-part, laid-length}
 use Rattle.sheet.specs.declared.RowsRead.the-variants.{NoRows}
+use Rattle.sheet.specs.Sheet.{wordsOk}
 use Rattle.sheet.specs.Places.{sheetWords}
 use Rattle.sheet.specs.SheetText.{readSheet}
 use Rattle.sheet.specs.EngineText.{readEngines}
@@ -19,10 +20,9 @@ use Rattle.reading.specs.Filled.{Filled}
 use Rattle.reading.specs.Rows.{Columns}
 use Rattle.reading.proofs.Found.{filled-fault, filled-taken}
 use Rattle.reading.proofs.EnginesCall.{Held, columns-fault}
-use Rattle.capacity.specs.Bounds.{Bounds}
 use Rattle.printout.specs.Input.{mostInput, sheetBytes}
 use Rattle.printout.specs.Printed.{inputText, platesText, rowsPrinted, printed}
-use Rattle.printout.proofs.Printed.{rows-fault, rows-plates, printed-fault, printed-rows, read-bounds}
+use Rattle.printout.proofs.Printed.{rows-fault, rows-plates, printed-fault, printed-rows, read-ok}
 
 -- ---- plates A and C, one after the other
 
@@ -60,8 +60,8 @@ module _ (t : List ℕ) (h : length t ≤ mostInput) {end : ℕ} (q : end ≡ sh
     words =
         take-all sheetWords (drop 1 o) (omega (arith, length-drop 1 o, sheet-count (take end t) k o (filled-taken p)))
 
-    pub words-bounds : Bounds (take sheetWords (drop 1 o))
-    words-bounds = rw words (read-bounds (take end t) k o (filled-taken p))
+    pub words-ok : wordsOk (take sheetWords (drop 1 o)) ≡ true
+    words-ok = rw words (read-ok (take end t) k o (filled-taken p))
 
     pub rows-printed : rowsPrinted (take sheetWords (drop 1 o)) (take (length t - end) (drop end t)) ≡ printed t
     rows-printed = rw (words, rest-part t end, q) (sym (printed-rows t h (rw q at (filled-taken p))))

@@ -5,7 +5,7 @@ ghost use Prim.Native.Nat.{_≤_};
 ghost use lib.ListN.{length};
 ghost use Rattle.text.specs.Line.{Laid};
 ghost use Rattle.answers.specs.Settled.{Settled};
-ghost use Rattle.capacity.specs.Bounds.{Bounds};
+ghost use Rattle.sheet.specs.Sheet.{wordsOk};
 ghost use Rattle.printout.specs.Input.{sheetBytes};
 ghost use Rattle.printout.specs.Printed.{inputText, plateText, platesText};
 ghost use Rattle.printout.specs.Printed.{rowsPrinted, printed, printAnswer, printInto};
@@ -76,8 +76,8 @@ fn lay_plate(marked: &[u8], refused: &[u8], answer: Answer, out: &mut [u8]) -> u
 
 // Lays the lines of plates A and C.
 fn lay_plates(sheet: &[u32], powers: &[u32], weights: &[u32], out: &mut [u8]) -> usize
-    requires { ⌜ Bounds (now sheet) ×
-        (length (platesText (now sheet) (now powers) (now weights)) ≤ length (now out)) ⌝ }
+    requires { ⌜ (wordsOk (now sheet) ≡ true)
+        × (length (platesText (now sheet) (now powers) (now weights)) ≤ length (now out)) ⌝ }
     ensures { λ r. ⌜ Laid (platesText (now (sheet .entry)) (now (powers .entry)) (now (weights .entry)))
         (now (out .entry)) 0 r (now (out .exit)) ⌝ }
 {
@@ -98,7 +98,7 @@ fn lay_plates(sheet: &[u32], powers: &[u32], weights: &[u32], out: &mut [u8]) ->
 
 // Lays what is printed of a sheet and the engine lines after it.
 fn lay_rows(sheet: &[u32], engines: &[u8], out: &mut [u8]) -> usize
-    requires { ⌜ Bounds (now sheet) × (length (rowsPrinted (now sheet) (now engines)) ≤ length (now out)) ⌝ }
+    requires { ⌜ (wordsOk (now sheet) ≡ true) × (length (rowsPrinted (now sheet) (now engines)) ≤ length (now out)) ⌝ }
     ensures { λ r. ⌜ Laid (rowsPrinted (now (sheet .entry)) (now (engines .entry))) (now (out .entry)) 0 r
         (now (out .exit)) ⌝ }
 {
@@ -127,8 +127,7 @@ fn lay_printed(input: &[u8], out: &mut [u8]) -> usize
 }
 
 // Prints the plates of a sheet and engine lines into out, from its start, and answers how many bytes that is; 60 bytes
-// are always room enough. It
-// refuses with 16 an out that is shorter than what is printed, and then leaves it as it stood.
+// are always room enough. It refuses with 16 an out that is shorter than what is printed, and then leaves it as it stood.
 pub fn print_plates(input: &[u8], out: &mut [u8]) -> Answer
     ensures { λ r. ⌜ Settled (printAnswer (now (input .entry)) (length (now (out .entry))))
         (printInto (now (input .entry)) (now (out .entry))) r (now (out .exit)) ⌝ }

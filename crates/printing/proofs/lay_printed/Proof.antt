@@ -2,7 +2,7 @@
 use mathlib.Core.Bool.{true}
 use mathlib.Core.Path.{sym}
 use lib.Seq.{length-take-le}
-use Rattle.printing.proofs.Laying.{sheet-printed, words-bounds, rows-printed}
+use Rattle.printing.proofs.Laying.{sheet-printed, words-ok, rows-printed}
 use Rattle.printout.proofs.Printed.{printed-long}
 use Rattle.printout.proofs.Input.{bytes-most}
 use native.Mathlib.Omega.{arith}
@@ -38,7 +38,7 @@ lay-rows-requires c κs =
     let end = at-sheet-bytes .sheet-bytes .ensures in
     let read = rw (at-enum-told .enum-told .given .1) at (at-read-words .read-words .ensures) in
     let t = start .args .input .now in
-    (words-bounds t few end read, rw (rows-printed t few end read) (start .pre))
+    (words-ok t few end read, rw (rows-printed t few end read) (start .pre))
 
 returns-2 : tie.Need-returns-2
 returns-2 c =

@@ -23,28 +23,31 @@ add-result c =
     let at-loop = c .before .before .before .before .before .before in
     let start = at-loop .before .before in
     let few = c .before .before .before .before .before .loop-test .taken in
-    let end = end-in (at-loop .loop .starting) (start .args .input .now) (at-loop .loop .at) few in
-    omega (arith, end (c .before .agreement .ensures) (c .if2 .taken), start .good)
+    let end = end-in (at-loop .loop .starting) (start .args .input .now) (at-loop .loop .at) few
+    (c .before .agreement .ensures) (c .if2 .taken) in
+    omega (arith, start .good)
 
 returns : tie.Need-returns Inv-loop μ-loop
 returns c =
     let at-if1 = c .before .before .before .before in
     let at-loop = at-if1 .before .before in
-    let start = at-loop .before .before in
+    let t = at-loop .before .before .args .input .now in
     let few = at-if1 .before .loop-test .taken in
-    let end = bytes-end (at-loop .loop .starting) (start .args .input .now) (at-loop .loop .at) few in
-    omega (arith, at-loop .loop .inv .1, end (c .before .agreement .ensures) (at-if1 .if1 .taken) (c .if2 .taken))
+    let end = bytes-end (at-loop .loop .starting) t (at-loop .loop .at) few
+    (c .before .agreement .ensures) (at-if1 .if1 .taken) (c .if2 .taken) in
+    omega (arith, at-loop .loop .inv .1)
 
 loop-again : tie.Need-loop-again Inv-loop μ-loop
 loop-again c =
     let at-loop = c .before .before .before in
     let t = at-loop .before .before .args .input .now in
+    let starting = at-loop .loop .starting in
+    let i = at-loop .loop .at in
     let few = c .before .before .loop-test .taken in
-    let other = bytes-other (at-loop .loop .starting) t (at-loop .loop .at) few in
-    let inside = bytes-inside (at-loop .loop .starting) t (at-loop .loop .at) few in
+    let sofar = at-loop .loop .inv .1 in
     ⊎-elim
-    (λ w. (omega arith, omega (arith, at-loop .loop .inv .1, other (w .3 .ensures) (w .4 .left))))
-    (λ w. (omega arith, omega (arith, at-loop .loop .inv .1, inside (w .left))))
+    (λ w. (omega arith, omega (arith, sofar, bytes-other starting t i few (w .3 .ensures) (w .4 .left))))
+    (λ w. (omega arith, omega (arith, sofar, bytes-inside starting t i few (w .left))))
     (c .before .if1 .came)
 
 returns-2 : tie.Need-returns-2 Inv-loop μ-loop
