@@ -20,12 +20,6 @@ held c =
     let read = c .before .before .before .before .before .read-columns .ensures in
     columns-held _ (rw (c .before .rows .given .1) at read)
 
-slice-aggregate-lay-plates : tie.Need-slice-aggregate-lay-plates
-slice-aggregate-lay-plates c = sym (length-take-le _ _ (held (c .before) .powers-in))
-
-slice-aggregate-lay-plates-2 : tie.Need-slice-aggregate-lay-plates-2
-slice-aggregate-lay-plates-2 c = sym (length-take-le _ _ (held (c .before .before) .weights-in))
-
 lay-plates-requires : tie.Need-lay-plates-requires
 lay-plates-requires c κs =
     let at-rows = c .before .before .before in
@@ -60,9 +54,9 @@ lay-rows-spec =
     (λ c κs. search needs)
     (λ c. search needs)
     (λ c. held c .powers-in)
-    slice-aggregate-lay-plates
+    (λ c. sym (length-take-le _ _ (held (c .before) .powers-in)))
     (λ c. held (c .before) .weights-in)
-    slice-aggregate-lay-plates-2
+    (λ c. sym (length-take-le _ _ (held (c .before .before) .weights-in)))
     lay-plates-requires
     (λ c. search needs)
     returns

@@ -8,9 +8,6 @@ use borrow.Author.Needs.{needs}
 use Rattle.printing.proofs.print_plates.Statement.{statement}
 use Rattle.printing.proofs.print_plates.Tie as tie
 
-lay-printed-requires : tie.Need-lay-printed-requires
-lay-printed-requires c κs = printed-most (c .before .before .before .args .input .now)
-
 returns : tie.Need-returns
 returns c =
     let start = c .before .before .before .before .before .before in
@@ -48,7 +45,7 @@ print-plates-spec =
     tie.close
     (tie.spec
     (λ c. search needs)
-    lay-printed-requires
+    (λ c κs. printed-most (c .before .before .before .args .input .now))
     returns
     array-share-prefix-bytes
     slice-aggregate-write-bytes

@@ -41,12 +41,6 @@ onto c e =
     goes-on (begun c .args .tag .now) (begun c .args .text .now) (begun c .args .words .now) (begun c .pre)
     (at-read2 .read2 .given .1) (c .read-line .ensures) e
 
-add-t31 : tie.Need-add-t31
-add-t31 c = omega (arith, onto (c .before .before .before .before .before) (c .before .refusal .given .1) .within)
-
-add-t32 : tie.Need-add-t32
-add-t32 c = omega (arith, onto (c .before .before .before .before .before) (c .before .len .given .1) .within)
-
 returns : tie.Need-returns
 returns c =
     let start = c .before .before .before .before .before .before in
@@ -77,9 +71,9 @@ next-line-spec =
     (λ c. search needs)
     (λ c κs. search needs)
     (λ c. search needs)
-    add-t31
+    (λ c. omega (arith, onto (c .before .before .before .before .before) (c .before .refusal .given .1) .within))
     (λ c. search needs)
-    add-t32
+    (λ c. omega (arith, onto (c .before .before .before .before .before) (c .before .len .given .1) .within))
     returns
     (λ c. search needs)
     returns-2

@@ -27,19 +27,6 @@ returns c = settled-few-powers _ _ _ (held (c .before)) (c .if1 .taken)
 returns-2 : tie.Need-returns-2
 returns-2 c = settled-few-weights _ _ _ (held (c .before .before)) (c .before .if1 .left) (c .if2 .taken)
 
-array-share-prefix-read-powers : tie.Need-array-share-prefix-read-powers
-array-share-prefix-read-powers c = held (c .before .before) .powers-in
-
-slice-aggregate-copy-numbers : tie.Need-slice-aggregate-copy-numbers
-slice-aggregate-copy-numbers c = sym (length-take-le _ _ (held (c .before .before .before) .powers-in))
-
-copy-numbers-requires : tie.Need-copy-numbers-requires
-copy-numbers-requires c κs =
-    first-fit _ _ (held (c .before .before .before .before) .powers-in) (c .before .before .before .if1 .left)
-
-array-share-prefix-read-weights : tie.Need-array-share-prefix-read-weights
-array-share-prefix-read-weights c = held (c .before .before .before .before .before .before .before) .weights-in
-
 slice-aggregate-copy-numbers-2 : tie.Need-slice-aggregate-copy-numbers-2
 slice-aggregate-copy-numbers-2 c =
     sym (length-take-le _ _ (held (c .before .before .before .before .before .before .before .before) .weights-in))
@@ -77,10 +64,10 @@ read-engines-spec =
     (λ c. search needs)
     returns
     returns-2
-    array-share-prefix-read-powers
-    slice-aggregate-copy-numbers
-    copy-numbers-requires
-    array-share-prefix-read-weights
+    (λ c. held (c .before .before) .powers-in)
+    (λ c. sym (length-take-le _ _ (held (c .before .before .before) .powers-in)))
+    (λ c κs. first-fit _ _ (held (c .before .before .before .before) .powers-in) (c .before .before .before .if1 .left))
+    (λ c. held (c .before .before .before .before .before .before .before) .weights-in)
     slice-aggregate-copy-numbers-2
     copy-numbers-requires-2
     cast-t25

@@ -17,12 +17,6 @@ abbrev μ-loop : tie.MeasureT-loop
 loop-holds : tie.Need-loop-holds Inv-loop μ-loop
 loop-holds c = start _ _ (c .before .before .pre)
 
-sub-starts : tie.Need-sub-starts Inv-loop μ-loop
-sub-starts c = c .before .loop .inv .upto .at-in
-
-part-starts-start : tie.Need-part-starts-start Inv-loop μ-loop
-part-starts-start c = c .before .loop .inv .upto .at-in
-
 turn : (c : tie.After-read-row Inv-loop μ-loop)
     → Turn (c .before .before .before .before .before .before .before .before .before .before .before .args .text .now)
     (c .before .before .before .before .before .before .before .before .loop .weights)
@@ -42,9 +36,6 @@ turn c =
       row = c .read-row .ensures;
     }
 
-add-t29 : tie.Need-add-t29 Inv-loop μ-loop
-add-t29 c = omega (arith, place-in (turn (c .before .before .before)), ap pairReach (c .before .refusal .given .1))
-
 same-length : tie.Need-same-length Inv-loop μ-loop
 same-length c =
     let start =
@@ -53,24 +44,6 @@ same-length c =
 
 returns : tie.Need-returns Inv-loop μ-loop
 returns c = fault (turn (c .before .before .before)) (c .before .refusal .given .1)
-
-cast-weights : tie.Need-cast-weights Inv-loop μ-loop
-cast-weights c = omega (arith, bounds (turn (c .before .before .before)) (c .before .line .given .1))
-
-sub-weights : tie.Need-sub-weights Inv-loop μ-loop
-sub-weights c = omega (arith, bounds (turn (c .before .before .before)) (c .before .line .given .1))
-
-mul-weights : tie.Need-mul-weights Inv-loop μ-loop
-mul-weights c = omega (arith, bounds (turn (c .before .before .before)) (c .before .line .given .1))
-
-slice-write-weights : tie.Need-slice-write-weights Inv-loop μ-loop
-slice-write-weights c = omega (arith, bounds (turn (c .before .before .before)) (c .before .line .given .1))
-
-add-next : tie.Need-add-next Inv-loop μ-loop
-add-next c = omega (arith, bounds (turn (c .before .before .before)) (c .before .line .given .1))
-
-add-at : tie.Need-add-at Inv-loop μ-loop
-add-at c = omega (arith, bounds (turn (c .before .before .before)) (c .before .line .given .1))
 
 loop-again : tie.Need-loop-again Inv-loop μ-loop
 loop-again c = step (turn (c .before .before .before)) (c .before .line .given .1)
@@ -84,9 +57,6 @@ same-length-2 c =
 returns-2 : tie.Need-returns-2 Inv-loop μ-loop
 returns-2 c = stop (c .before .before .before .before .loop .inv) (sym (c .before .starts .ensures) ∙ c .if1 .left)
 
-same-length-3 : tie.Need-same-length-3 Inv-loop μ-loop
-same-length-3 c = kept (c .before .loop .inv) (c .before .before .before .before .pre)
-
 returns-3 : tie.Need-returns-3 Inv-loop μ-loop
 returns-3 c = full (c .before .loop .inv) (c .loop-test .left)
 
@@ -97,8 +67,8 @@ read-fits-spec =
     Inv-loop
     μ-loop
     loop-holds
-    sub-starts
-    part-starts-start
+    (λ c. c .before .loop .inv .upto .at-in)
+    (λ c. c .before .loop .inv .upto .at-in)
     (λ c. search needs)
     (λ c κs. search needs)
     (λ c. search needs)
@@ -107,20 +77,20 @@ read-fits-spec =
     (λ c. search needs)
     (λ c κs. search needs)
     (λ c. search needs)
-    add-t29
+    (λ c. omega (arith, place-in (turn (c .before .before .before)), ap pairReach (c .before .refusal .given .1)))
     same-length
     returns
     (λ c. search needs)
-    cast-weights
-    sub-weights
-    mul-weights
-    slice-write-weights
-    add-next
-    add-at
+    (λ c. omega (arith, bounds (turn (c .before .before .before)) (c .before .line .given .1)))
+    (λ c. omega (arith, bounds (turn (c .before .before .before)) (c .before .line .given .1)))
+    (λ c. omega (arith, bounds (turn (c .before .before .before)) (c .before .line .given .1)))
+    (λ c. omega (arith, bounds (turn (c .before .before .before)) (c .before .line .given .1)))
+    (λ c. omega (arith, bounds (turn (c .before .before .before)) (c .before .line .given .1)))
+    (λ c. omega (arith, bounds (turn (c .before .before .before)) (c .before .line .given .1)))
     (λ c. search needs)
     (λ c. search needs)
     loop-again
     same-length-2
     returns-2
-    same-length-3
+    (λ c. kept (c .before .loop .inv) (c .before .before .before .before .pre))
     returns-3)

@@ -30,12 +30,6 @@ whole c e =
     filled-as (at-at .at .given .0 .0) e (rest-read (begun c .args .text .now)
     (rw (at-at .at .given .1) at (at-at .before .before .before .before .read-fits .ensures)) (c .read-end .ensures))
 
-add-t19 : tie.Need-add-t19
-add-t19 c = omega (arith, whole (c .before .before .before) (c .before .refusal2 .given .1) .within)
-
-add-t20 : tie.Need-add-t20
-add-t20 c = omega (arith, whole (c .before .before .before) (c .before .len .given .1) .within)
-
 returns : tie.Need-returns
 returns c =
     let at-read-fits = c .before .before .before .before .before in
@@ -60,9 +54,9 @@ read-rest-spec =
     (λ c. search needs)
     (λ c κs. search needs)
     (λ c. search needs)
-    add-t19
+    (λ c. omega (arith, whole (c .before .before .before) (c .before .refusal2 .given .1) .within))
     (λ c. search needs)
-    add-t20
+    (λ c. omega (arith, whole (c .before .before .before) (c .before .len .given .1) .within))
     (λ c. search needs)
     returns
     (λ c. search needs)

@@ -38,15 +38,6 @@ turn c =
     let at-loop = at-loop-test .before in
     record { state = at-loop .loop .inv; few = at-loop-test .loop-test .taken; row = c .read-row .ensures }
 
-add-t25 : tie.Need-add-t25 Inv-loop μ-loop
-add-t25 c = omega (arith, place-in (turn (c .before .before .before)), ap pairReach (c .before .refusal .given .1))
-
-same-length : tie.Need-same-length Inv-loop μ-loop
-same-length c = powers-kept (turn (c .before .before .before) .state)
-
-same-length-2 : tie.Need-same-length-2 Inv-loop μ-loop
-same-length-2 c = weights-kept (turn (c .before .before .before) .state)
-
 returns : tie.Need-returns Inv-loop μ-loop
 returns c = fault (turn (c .before .before .before)) (c .before .refusal .given .1)
 
@@ -60,18 +51,6 @@ slice-write-weights c =
     let start = c .before .before .before .before .before .before .before .before .before .before .before .before in
     omega (arith, bounds (turn (c .before .before .before)) (c .before .power .given .1), start .pre)
 
-add-next : tie.Need-add-next Inv-loop μ-loop
-add-next c = omega (arith, bounds (turn (c .before .before .before)) (c .before .power .given .1))
-
-add-at : tie.Need-add-at Inv-loop μ-loop
-add-at c = omega (arith, bounds (turn (c .before .before .before)) (c .before .power .given .1))
-
-same-length-3 : tie.Need-same-length-3 Inv-loop μ-loop
-same-length-3 c = simp length-set (powers-kept (turn (c .before .before .before .before) .state))
-
-same-length-4 : tie.Need-same-length-4 Inv-loop μ-loop
-same-length-4 c = simp length-set (weights-kept (turn (c .before .before .before .before) .state))
-
 returns-2 : tie.Need-returns-2 Inv-loop μ-loop
 returns-2 c =
     let start =
@@ -81,12 +60,6 @@ returns-2 c =
 
 loop-again : tie.Need-loop-again Inv-loop μ-loop
 loop-again c = step (turn (c .before .before .before .before)) (c .before .before .power .given .1) (c .if1 .left)
-
-same-length-5 : tie.Need-same-length-5 Inv-loop μ-loop
-same-length-5 c = powers-kept (c .before .loop .inv)
-
-same-length-6 : tie.Need-same-length-6 Inv-loop μ-loop
-same-length-6 c = weights-kept (c .before .loop .inv)
 
 returns-3 : tie.Need-returns-3 Inv-loop μ-loop
 returns-3 c = full (c .before .loop .inv) (c .loop-test .left)
@@ -104,23 +77,23 @@ read-rows-spec =
     (λ c. search needs)
     (λ c κs. search needs)
     (λ c. search needs)
-    add-t25
-    same-length
-    same-length-2
+    (λ c. omega (arith, place-in (turn (c .before .before .before)), ap pairReach (c .before .refusal .given .1)))
+    (λ c. powers-kept (turn (c .before .before .before) .state))
+    (λ c. weights-kept (turn (c .before .before .before) .state))
     returns
     (λ c. search needs)
     (λ c. search needs)
     slice-write-powers
     (λ c. search needs)
     slice-write-weights
-    add-next
-    add-at
+    (λ c. omega (arith, bounds (turn (c .before .before .before)) (c .before .power .given .1)))
+    (λ c. omega (arith, bounds (turn (c .before .before .before)) (c .before .power .given .1)))
     (λ c. search needs)
-    same-length-3
-    same-length-4
+    (λ c. simp length-set (powers-kept (turn (c .before .before .before .before) .state)))
+    (λ c. simp length-set (weights-kept (turn (c .before .before .before .before) .state)))
     returns-2
     (λ c. search needs)
     loop-again
-    same-length-5
-    same-length-6
+    (λ c. powers-kept (c .before .loop .inv))
+    (λ c. weights-kept (c .before .loop .inv))
     returns-3)

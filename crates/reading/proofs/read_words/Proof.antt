@@ -59,12 +59,6 @@ whole c e =
     filled-as (at-at .at .given .0 .0) e (words-read (begun c .args .text .now) lines
     (at-read-lines .before .before .before .if1 .left) (c .read-rest .ensures))
 
-add-t97 : tie.Need-add-t97
-add-t97 c = omega (arith, whole (c .before .before .before .before .before) (c .before .refusal2 .given .1) .within)
-
-add-t98 : tie.Need-add-t98
-add-t98 c = omega (arith, whole (c .before .before .before .before .before) (c .before .len .given .1) .within)
-
 returns-2 : tie.Need-returns-2
 returns-2 c =
     let at-read-lines = c .before .before .before .before .before in
@@ -96,9 +90,9 @@ read-words-spec =
     (λ c. search needs)
     read-rest-requires
     (λ c. search needs)
-    add-t97
+    (λ c. omega (arith, whole (c .before .before .before .before .before) (c .before .refusal2 .given .1) .within))
     (λ c. search needs)
-    add-t98
+    (λ c. omega (arith, whole (c .before .before .before .before .before) (c .before .len .given .1) .within))
     (λ c. search needs)
     returns-2
     (λ c. search needs)

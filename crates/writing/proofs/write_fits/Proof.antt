@@ -35,9 +35,6 @@ loop-again c =
     let at-loop = at-loop-test .before in
     step (at-loop .loop .inv) (at-loop-test .loop-test .taken) (c .before .before .write-fit .ensures)
 
-same-length : tie.Need-same-length Inv-loop μ-loop
-same-length c = laid-length (c .before .loop .inv .laid)
-
 returns : tie.Need-returns Inv-loop μ-loop
 returns c = done (c .before .loop .inv) (c .loop-test .left)
 
@@ -55,5 +52,5 @@ write-fits-spec =
     (λ c. search needs)
     (λ c. search needs)
     loop-again
-    same-length
+    (λ c. laid-length (c .before .loop .inv .laid))
     returns)

@@ -35,15 +35,6 @@ write-words-requires c κs =
 returns : tie.Need-returns
 returns c = settled-short _ (laid (c .before .before)) (c .if2 .taken)
 
-array-share-prefix-bytes : tie.Need-array-share-prefix-bytes
-array-share-prefix-bytes c = laid (c .before .before) .long
-
-slice-aggregate-write-bytes : tie.Need-slice-aggregate-write-bytes
-slice-aggregate-write-bytes c = sym (length-take-le _ _ (laid (c .before .before .before) .long))
-
-cast-t92 : tie.Need-cast-t92
-cast-t92 c = omega (arith, laid (c .before .before .before .before .before .before .before) .short)
-
 returns-2 : tie.Need-returns-2
 returns-2 c =
     let at-words = c .before .before .before .before .before .before .before in
@@ -62,10 +53,10 @@ write-sheet-spec =
     (λ c. search needs)
     write-words-requires
     returns
-    array-share-prefix-bytes
-    slice-aggregate-write-bytes
+    (λ c. laid (c .before .before) .long)
+    (λ c. sym (length-take-le _ _ (laid (c .before .before .before) .long)))
     (λ c κs. search needs)
-    cast-t92
+    (λ c. omega (arith, laid (c .before .before .before .before .before .before .before) .short))
     (λ c. search needs)
     returns-2
     returns-3)

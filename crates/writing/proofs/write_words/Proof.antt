@@ -36,9 +36,6 @@ end-in c =
     let lines = c .before .before .before .before .before .write-lines .ensures in
     (end-place _ lines (c .write-fits .ensures), begun c .pre .2)
 
-add-at : tie.Need-add-at
-add-at c = omega (arith, end-in (c .before .before), begun (c .before .before) .good)
-
 end-from : tie.Need-sub-write-bytes
 end-from c =
     let at-fits = c .before .before .before in
@@ -74,7 +71,7 @@ write-words-spec =
     out-from
     (λ c. search needs)
     write-fits-requires
-    add-at
+    (λ c. omega (arith, end-in (c .before .before), begun (c .before .before) .good))
     (λ c. search needs)
     end-from
     end-from
