@@ -41,16 +41,9 @@ pub record State (t a₀ b₀ a b : List ℕ) (rows at next : ℕ) : Type 0 wher
 
 pub start : (t a b : List ℕ) → State t a b a b 0 0 1
 start t a b =
-    let none : 0 < 0 → 0 < length t = λ (h : 0 < 0). absurd (omega arith) in
-    record {
-      read = [];
-      above = 0;
-      upto = loop.start enginePart t;
-      starts = refl;
-      more = none;
-      powers = refl;
-      weights = refl;
-    }
+    let more : 0 < 0 → 0 < length t = λ (h : 0 < 0). absurd (omega arith) in
+    let upto = loop.start enginePart t in
+    record { read = []; above = 0; upto = upto; starts = refl; more = more; powers = refl; weights = refl }
 
 module _ {t a₀ b₀ a b : List ℕ} {rows at next : ℕ} (s : State t a₀ b₀ a b rows at next) where
   pub powers-kept : length a ≡ length a₀

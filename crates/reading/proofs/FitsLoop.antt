@@ -28,7 +28,7 @@ use Rattle.reading.proofs.RowsLoop as loop
 use Rattle.reading.proofs.RowsLoop.{rowsAt, Upto, part-in}
 
 -- the weights of the FIT lines that t starts with
-abbrev weightsAt : List ℕ → Found (List ℕ)
+abbrev pub weightsAt : List ℕ → Found (List ℕ)
 weightsAt t = mapped (weightsFrom 1) (rowsAt fitPart t)
 
 -- a FIT line whose number is from next on
@@ -52,16 +52,18 @@ pub record State (t o : List ℕ) (read at next : ℕ) : Type 0 where
 
 pub start : (t o : List ℕ) → o ≡ replicate fittings 0 → State t o 0 0 1
 start t o z =
+    let upto = loop.start fitPart t in
+    let placed : (qs : Rows) → weightsFrom 1 qs ≡ weightsFrom 1 qs = λ (qs : Rows). refl in
     record {
       rows = [];
       above = 0;
-      upto = loop.start fitPart t;
+      upto = upto;
       starts = refl;
       so = [];
       stored = z;
       many = refl;
       next-in = omega arith;
-      placed = λ (qs : Rows). refl;
+      placed = placed;
     }
 
 module _ {t o : List ℕ} {read at next : ℕ} (s : State t o read at next) where

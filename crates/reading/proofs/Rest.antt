@@ -22,6 +22,7 @@ use Rattle.reading.specs.Steps.{restOn}
 use Rattle.reading.proofs.Found.{found-taken, found-fault, ended-mapped}
 use Rattle.reading.proofs.RowsLoop.{rowsAt, part-in}
 use Rattle.reading.proofs.NextLine.{reached-shift}
+use Rattle.reading.proofs.FitsLoop.{weightsAt}
 use Rattle.reading.proofs.Row.{one-taken, one-lost}
 
 -- ---- END
@@ -82,9 +83,6 @@ rest-closed t {at} {rs} e = rw e (go (endAt (drop at t)))
     go : (f : Found (List Rows)) → mapped (numbersOn []) (ahead at rs f) ≡ closed at (weightsFrom 1 rs) f
     go (took k v) = refl
     go (lost number i) = refl
-
-abbrev weightsAt : List ℕ → Found (List ℕ)
-weightsAt t = mapped (weightsFrom 1) (rowsAt fitPart t)
 
 pub rest-fault : (t : List ℕ) {number at : ℕ} {o : List ℕ} → Filled (weightsAt t) t (Fault number at) o
     → Filled (restOn [] t) t (Fault number at) o

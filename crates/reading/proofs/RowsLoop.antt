@@ -1,6 +1,5 @@
 -- The loop that reads the rows of a part whose lines rise, whatever it does with them.
 use mathlib.Core.Path.{_≡_, refl, sym, ap, _∙_}
-use mathlib.Core.Bool.{true}
 use mathlib.Core.List.{List, [], _∷_, _++_}
 use mathlib.Core.Option.{none, some}
 use Prim.Native.Nat.{ℕ, suc, _+_, _-_, _≤_, _<_}
@@ -12,7 +11,7 @@ use Rattle.text.specs.Line.{Line, readLine}
 use Rattle.ground.proofs.Stores.{rest-part}
 use Rattle.form.specs.Parts.{Part, Row, Rows, lineRow, letterOf, raised, nextAfter}
 use Rattle.form.specs.Outcome.{Found, took, lost, outcome, mapped, chained}
-use Rattle.form.specs.Reading.{kindAt, readRow, noMore, readRows}
+use Rattle.form.specs.Reading.{kindAt, noMore, readRows}
 use Rattle.form.proofs.RowsTrip.{rows-none, rows-more}
 use Rattle.reading.specs.declared.RowRead.{RowRead}
 use Rattle.reading.specs.declared.RowRead.the-variants.{Pair, NoPair}

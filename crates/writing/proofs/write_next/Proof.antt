@@ -1,5 +1,4 @@
 -- `write_next` meets its contract.
-use lib.ListN.{drop}
 use Rattle.text.specs.Line.{lineText}
 use Rattle.text.proofs.Laid.{laid-rest}
 use Rattle.sheet.proofs.Table.{rows-long}
