@@ -1,15 +1,19 @@
--- A call by its refusal: refused, it answers the number alone and leaves the memory; accepted, it answers and leaves what its definition says. These serve every call.
--- Assumes nothing.
+-- A call by its refusal: refused, it answers the number alone and leaves what it was lent; passed, it is what comes
+-- next. These serve every call.
 use mathlib.Core.Path.{_≡_, refl, sym}
 use mathlib.Core.List.{List}
 use Prim.Native.Nat.{ℕ}
 use borrow.Author.Tests.{ne-eqb}
-use Rattle.text.specs.declared.LineRead.the-variants.{Taken, Fault}
+use Rattle.form.specs.Outcome.{took, lost}
 use Rattle.answers.specs.declared.Answer.{Answer}
-use Rattle.answers.specs.declared.Answer.the-variants.{Refused}
+use Rattle.answers.specs.declared.Answer.the-variants.{Refused, Done}
 use Rattle.answers.specs.Settled.{Settled}
-use Rattle.sheet.specs.Reading.{readSheet}
-use Rattle.register.specs.Refusals.{orNext, orRefused, orKept, onText}
+use Rattle.sheet.specs.SheetText.{readSheet}
+use Rattle.register.specs.Refusals.{orRefused, leaves, onText}
+
+-- it answers r and leaves y, as one that answers a, makes x and was lent m should
+abbrev pub Left : Answer → List ℕ → List ℕ → Answer → List ℕ → Type 0
+Left a x m r y = Settled a (leaves a x m) r y
 
 module _ {refusal f : ℕ} (e : f ≡ refusal) where
   pub answer-refused : (a : Answer) → (f ≡ 0 → ⊥) → Refused f ≡ orRefused refusal a
@@ -18,24 +22,21 @@ module _ {refusal f : ℕ} (e : f ≡ refusal) where
   pub answer-given : {a r : Answer} → f ≡ 0 → r ≡ a → r ≡ orRefused refusal a
   answer-given z g = rw (sym e, z) g
 
-  pub refused : {A : Type 0} (a : Answer) (x : A) {m : A} → (f ≡ 0 → ⊥) → Settled (orRefused refusal a) (orKept refusal x m) (Refused f) m
+  pub refused : (a : Answer) (x : List ℕ) {m : List ℕ} → (f ≡ 0 → ⊥) → Left (orRefused refusal a) x m (Refused f) m
   refused a x n = record { answered = answer-refused a n; kept = rw (sym e, ne-eqb f 0 n) refl }
 
-  pub accepted : {A : Type 0} (m : A) {a r : Answer} {x y : A} → f ≡ 0 → r ≡ a → y ≡ x → Settled (orRefused refusal a) (orKept refusal x m) r y
-  accepted m z g h = record { answered = answer-given z g; kept = rw (sym e, z) h }
+  pub passed : (a : Answer) (x m : List ℕ) {r : Answer} {y : List ℕ} → f ≡ 0 → Left a x m r y → Left (orRefused refusal a) x m r y
+  passed a x m z p = rw (sym e, z) p
 
-  -- what comes next among the refusals
-  pub next-passed : (next : ℕ) → (f ≡ 0 → ⊥) → f ≡ orNext refusal next
-  next-passed next n = rw (sym e, ne-eqb f 0 n) refl
-
-  pub next-comes : {g next : ℕ} → f ≡ 0 → g ≡ next → g ≡ orNext refusal next
-  next-comes z h = rw (sym e, z) h
+-- nothing refuses it
+pub done : {x y : List ℕ} → y ≡ x → Settled Done x Done y
+done e = record { answered = refl; kept = e }
 
 -- ---- a text that is read
 
-module _ {A : Type 0} (t : List ℕ) (x : A) (g : ℕ → A) where
-  pub text-read : {k : ℕ} → readSheet t .ended ≡ Taken k → x ≡ onText t x g
-  text-read e = rw (e, onText) refl
+module _ (t : List ℕ) (a : Answer) (x : List ℕ) where
+  pub text-refused : {m : List ℕ} {number at : ℕ} → readSheet t ≡ lost number at → Left (onText t a Refused) x m (Refused number) m
+  text-refused e = rw (e, onText) (record { answered = refl; kept = refl })
 
-  pub text-refused : {number at : ℕ} → readSheet t .ended ≡ Fault number at → g number ≡ onText t x g
-  text-refused e = rw (e, onText) refl
+  pub text-passed : (m : List ℕ) {k : ℕ} {s y : List ℕ} {r : Answer} → readSheet t ≡ took k s → Left a x m r y → Left (onText t a Refused) x m r y
+  text-passed m e p = rw (e, onText) p

@@ -1,28 +1,34 @@
--- A sheet in the memory, which stands within it and is within its limits, and a text's sheet as the calls read it. Assumes nothing.
+-- A sheet in the memory, which stands within it and is within its limits, and a text's sheet as the calls read it.
 use mathlib.Core.Path.{_≡_, sym, ap, _∙_}
 use mathlib.Core.Bool.{true}
 use mathlib.Core.List.{List, [], _∷_, _++_, append-nil}
-use Prim.Native.Nat.{ℕ, _-_}
+use Prim.Native.Nat.{ℕ, _+_, _-_, _≤_, _<_}
 use native.Mathlib.Omega.{arith}
 use lib.ListN.{length, take, drop, replicate, length-drop}
 use lib.Seq.{take-all}
-use Rattle.text.specs.declared.LineRead.the-variants.{Taken}
-use Rattle.text.specs.Line.{Reads}
-use Rattle.sheet.specs.Places.{sheetWords, textWords}
-use Rattle.sheet.specs.Sheet.{wordsOk}
-use Rattle.sheet.specs.Reading.{readSheet}
+use Rattle.text.specs.declared.LineRead.the-variants.{Taken, Fault}
+use Rattle.form.specs.Outcome.{Found, took, lost}
+use Rattle.sheet.specs.Places.{sheetWords}
+use Rattle.sheet.specs.SheetText.{readSheet}
 use Rattle.answers.specs.declared.Answer.{Answer}
 use Rattle.answers.specs.Settled.{Settled}
-use Rattle.sheet.specs.Calls.{writeAnswer, writeInto}
+use Rattle.sheet.specs.TextCalls.{readInto, writeAnswer, writeInto}
 use Rattle.ground.specs.Lists.{putFirst}
-use Rattle.sheet.proofs.Whole.{sheet-count, sheet-stored}
-use Rattle.memory.specs.Layout.{hullSheet, draftSheet}
-use Rattle.memory.specs.Asked.{AtHull, AtDesk}
+use Rattle.sheet.proofs.Refused.{write-refused}
+use Rattle.sheet.proofs.SheetText.{sheet-count}
+use Rattle.reading.specs.Filled.{Filled}
+use Rattle.reading.proofs.Found.{found-taken, found-fault}
+use Rattle.sheet.specs.Lines.{fittings}
+use Rattle.sheet.specs.Sheet.{wordsOk}
+use Rattle.memory.specs.Layout.{mostHulls, hullSheet, draftHull, draftSheet}
+use Rattle.memory.specs.Asked.{AtHull, AtDesk, AtLine, ToSave}
 use Rattle.memory.proofs.Sound.{sound}
-use Rattle.register.specs.Refusals.{hullRefusal, deskRefusal, sheetOf}
-use Rattle.register.specs.Hulls.{hullWritten, hullWrittenInto}
+use Rattle.register.specs.Refusals.{hullRefusal, deskRefusal, saveOwn, sheetOf}
+use Rattle.register.specs.Calls.{write, ask, step, Writes}
 use Rattle.register.proofs.Refusals.{hull-goes, desk-goes}
-use Rattle.answering.proofs.Settling.{accepted}
+use Rattle.register.proofs.Own.{save-unspent}
+use Rattle.register.proofs.Effects.{leaves-made}
+use Rattle.answering.proofs.Settling.{passed}
 
 -- ---- a hull's sheet, and a draft's, where nothing refuses the call
 
@@ -36,30 +42,74 @@ pub at-desk : {m : List ℕ} {d : ℕ} → deskRefusal m d ≡ 0 → AtDesk m d
 at-desk {m} {d} z = let g = desk-goes m d z in record { size = sound m (g .ok) .size; desk = g .desk }
 
 -- what the plates ask of it, by the refusal that the code has found
-pub hull-ok : (m : List ℕ) (h : ℕ) {s : List ℕ} {f : ℕ} → f ≡ hullRefusal m h → f ≡ 0 → s ≡ hullSheet m h → wordsOk s ≡ true
+pub hull-ok : (m : List ℕ) (h : ℕ) {s : List ℕ} {f : ℕ}
+    → f ≡ hullRefusal m h
+    → f ≡ 0
+    → s ≡ hullSheet m h
+    → wordsOk s ≡ true
 hull-ok m h e z q = let g = hull-goes m h (sym e ∙ z) in rw q (sound m (g .ok) .hulls h (g .entered) .sheet)
 
-pub draft-ok : (m : List ℕ) (d : ℕ) {s : List ℕ} {f : ℕ} → f ≡ deskRefusal m d → f ≡ 0 → s ≡ draftSheet m d → wordsOk s ≡ true
+pub draft-ok : (m : List ℕ) (d : ℕ) {s : List ℕ} {f : ℕ}
+    → f ≡ deskRefusal m d
+    → f ≡ 0
+    → s ≡ draftSheet m d
+    → wordsOk s ≡ true
 draft-ok m d e z q = rw q (desk-goes m d (sym e ∙ z) .draft .sheet)
 
 -- written under its number, it is what the call on the register says
-pub written-given : (m : List ℕ) (h : ℕ) (out : List ℕ) {f : ℕ} {ws o : List ℕ} {r : Answer} → f ≡ hullRefusal m h → f ≡ 0 → ws ≡ h ∷ hullSheet m h → Settled (writeAnswer ws (length out)) (writeInto ws out) r o → Settled (hullWritten m h (length out)) (hullWrittenInto m h out) r o
-written-given m h out e z q w = let v = rw q at w in accepted e out z (v .answered) (v .kept)
+pub written-given : (m : List ℕ) (h : ℕ) (out : List ℕ) {f : ℕ} {ws o : List ℕ} {r : Answer}
+    → f ≡ hullRefusal m h
+    → f ≡ 0
+    → ws ≡ h ∷ hullSheet m h
+    → Settled (writeAnswer ws (length out)) (writeInto ws out) r o
+    → Writes (step m (ask h (write out))) r o
+written-given m h out e z q w =
+    let s = h ∷ hullSheet m h in
+    let a = writeAnswer s (length out) in
+    let v = rw q at w in
+    passed e _ _ _ z
+    (record { answered = v .answered; kept = v .kept ∙ leaves-made a (writeInto s out) out (write-refused s out) })
+
+-- ---- what the changes to the memory ask
+
+module _ (m : List ℕ) (d : ℕ) (z : deskRefusal m d ≡ 0) where
+  pub at-line : (line : ℕ) → line ≤ fittings → AtLine m d line
+  at-line line l = let g = at-desk z in record { size = g .size; desk = g .desk; line = l }
+
+  pub draft-hull-in : draftHull m d < mostHulls
+  draft-hull-in = let g = desk-goes m d z in omega (arith, sound m (g .ok) .few, g .draft .entered)
+
+  pub to-save : saveOwn m d ≡ 0 → ToSave m d
+  to-save y =
+      let g = desk-goes m d z in
+      let s = sound m (g .ok) in
+      record {
+        size = s .size;
+        desk = g .desk;
+        hull = draft-hull-in;
+        number = omega (arith, save-unspent m d y, s .hulls _ (g .draft .entered) .number);
+      }
 
 -- ---- a text's sheet
 
-module _ (t : List ℕ) {o : List ℕ} {k : ℕ} (p : Reads (readSheet t) (replicate textWords 0) (Taken k) o) where
-  pub read-ended : readSheet t .ended ≡ Taken k
-  read-ended = sym (p .answer)
+module _ (t : List ℕ) {o : List ℕ} where
+  pub text-lost : {number at : ℕ} → Filled (readSheet t) t (Fault number at) o → readSheet t ≡ lost number at
+  text-lost p = found-fault (readSheet t) (p .answer)
 
-  sheet-long : length (sheetOf t) ≡ sheetWords
-  sheet-long = length-drop 1 (readSheet t .numbers) ∙ ap (λ (n : ℕ). n - 1) (sheet-count t k read-ended)
+  module _ {k : ℕ} (p : Filled (readSheet t) t (Taken k) o) where
+    pub text-took : readSheet t ≡ took k o
+    text-took =
+        let f = found-taken (readSheet t) (p .answer) in
+        f .1 ∙ ap (took k) (sym (p .stored ∙ ap (λ (q : Found (List ℕ)). readInto q o) (f .1)))
 
-  pub read-lent : take sheetWords (drop 1 o) ≡ sheetOf t
-  read-lent = ap (λ (l : List ℕ). take sheetWords (drop 1 l)) (sheet-stored t o k p) ∙ take-all sheetWords (sheetOf t) (omega (arith, sheet-long))
+    sheet-long : length (drop 1 o) ≡ sheetWords
+    sheet-long = length-drop 1 o ∙ ap (λ (n : ℕ). n - 1) (sheet-count t k o text-took)
 
-  pub read-long : length (take sheetWords (drop 1 o)) ≡ sheetWords
-  read-long = ap length read-lent ∙ sheet-long
+    pub read-lent : take sheetWords (drop 1 o) ≡ sheetOf t
+    read-lent = take-all sheetWords (drop 1 o) (omega (arith, sheet-long)) ∙ rw (text-took, sheetOf)
+
+    pub read-long : length (take sheetWords (drop 1 o)) ≡ sheetWords
+    read-long = ap length (take-all sheetWords (drop 1 o) (omega (arith, sheet-long))) ∙ sheet-long
 
 -- ---- a sheet's words under a number
 

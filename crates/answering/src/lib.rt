@@ -1,15 +1,25 @@
-// Every call on the register, in lent memory. Each is total: it refuses by 01's numbers, in 01's order, and a refusal leaves the memory as it stood.
+// Every call on the register, in lent memory. Each is total: it refuses by 01's numbers, in 01's order, and a refusal
+// leaves the memory as it stood.
+ghost use Prim.Native.Nat.{_<_};
 ghost use mathlib.Core.Path.{_≡_};
 ghost use mathlib.Core.List.{_∷_};
 ghost use lib.ListN.{length};
-ghost use Rattle.answers.specs.Settled.{Settled};
 ghost use Rattle.sheet.specs.Places.{sheetWords};
-ghost use Rattle.memory.specs.Layout.{hullSheet, draftSheet};
+ghost use Rattle.memory.specs.Layout.{mostHulls, hullSheet, draftHull, draftSheet};
+ghost use Rattle.memory.specs.Asked.{AtDesk};
 ghost use Rattle.capacity.specs.Kinds.{kindA, kindC, kindU};
-ghost use Rattle.register.specs.Refusals.{hullRefusal, deskRefusal};
-ghost use Rattle.register.specs.Hulls.{freshAnswer, freshMemory, roomRefusal, newAnswer, newMemory, hullPlate, hullWritten, hullWrittenInto};
-ghost use Rattle.register.specs.Drafts.{openRefusal, openAnswer, openMemory, putRefusal, putAnswer, putMemory, takeRefusal, takeAnswer, takeMemory, replaceAnswer, replaceMemory, trial, saveRefusal, saveAnswer, saveMemory, dropAnswer, dropMemory};
+ghost use Rattle.register.specs.Refusals.{hullRefusal, deskRefusal, roomRefusal, openRefusal, putOwn, takeOwn, saveOwn};
+ghost use Rattle.register.specs.Calls.{put, takeOff, replace, tryPlate, plate, write, newHull, openHull, work, save};
+ghost use Rattle.register.specs.Calls.{dropDraft, ask, freshStep, step, Changes, Writes};
 use answers::Answer;
+use answers::BAD_MEMORY;
+use answers::EDITED_SINCE;
+use answers::EDITS_SPENT;
+use answers::EMPTY_LINE;
+use answers::FULL;
+use answers::NO_DESK;
+use answers::NO_DRAFT;
+use answers::NO_HULL;
 use answers::OUTSIDE_LIMITS;
 use memory::COUNT;
 use memory::DESKS;
@@ -20,23 +30,6 @@ use sheet::FITTING_HIGH;
 use sheet::FITTING_LINES;
 use sheet::TEXT_WORDS;
 use text::LineRead;
-
-// The refusals that are the register's own.
-const BAD_MEMORY: u32 = 1;
-
-const FULL: u32 = 4;
-
-const NO_HULL: u32 = 5;
-
-const NO_DESK: u32 = 6;
-
-const NO_DRAFT: u32 = 7;
-
-const EDITED_SINCE: u32 = 8;
-
-const EDITS_SPENT: u32 = 9;
-
-const EMPTY_LINE: u32 = 17;
 
 // ---- the shared checks; 0 where nothing is refused
 
@@ -92,7 +85,7 @@ fn draft_sheet(mem: &[u32], desk: u32) -> &[u32]
 
 // Fresh start: makes of a memory of the right size one with no hulls and no drafts, every word 0.
 pub fn fresh(mem: &mut [u32]) -> Answer
-    ensures { λ r. ⌜ Settled (freshAnswer (now (mem .entry))) (freshMemory (now (mem .entry))) r (now (mem .exit)) ⌝ }
+    ensures { λ r. ⌜ Changes (freshStep (now (mem .entry))) r (now (mem .exit)) ⌝ }
 {
     if mem.len() != REGISTER_WORDS {
         return Answer::Refused(BAD_MEMORY);
@@ -118,7 +111,7 @@ fn room_refusal(mem: &[u32]) -> u32
 
 // Enters a new hull from a text and answers its number.
 pub fn new_hull(mem: &mut [u32], text: &[u8]) -> Answer
-    ensures { λ r. ⌜ Settled (newAnswer (now (mem .entry)) (now (text .entry))) (newMemory (now (mem .entry)) (now (text .entry))) r (now (mem .exit)) ⌝ }
+    ensures { λ r. ⌜ Changes (step (now (mem .entry)) (newHull (now (text .entry)))) r (now (mem .exit)) ⌝ }
 {
     let refusal = room_refusal(&mem[..]);
     if refusal != 0 {
@@ -133,7 +126,7 @@ pub fn new_hull(mem: &mut [u32], text: &[u8]) -> Answer
 
 // Plate A of a hull.
 pub fn plate_a(mem: &[u32], hull: u32) -> Answer
-    ensures { λ r. ⌜ r ≡ hullPlate (now (mem .entry)) hull kindA ⌝ }
+    ensures { λ r. ⌜ r ≡ step (now (mem .entry)) (ask hull (plate kindA)) .answer ⌝ }
 {
     let refusal = hull_refusal(mem, hull);
     if refusal != 0 {
@@ -144,7 +137,7 @@ pub fn plate_a(mem: &[u32], hull: u32) -> Answer
 
 // Plate C of a hull.
 pub fn plate_c(mem: &[u32], hull: u32, powers: &[u32], weights: &[u32]) -> Answer
-    ensures { λ r. ⌜ r ≡ hullPlate (now (mem .entry)) hull (kindC (now (powers .entry)) (now (weights .entry))) ⌝ }
+    ensures { λ r. ⌜ r ≡ step (now (mem .entry)) (ask hull (plate (kindC (now (powers .entry)) (now (weights .entry))))) .answer ⌝ }
 {
     let refusal = hull_refusal(mem, hull);
     if refusal != 0 {
@@ -155,7 +148,7 @@ pub fn plate_c(mem: &[u32], hull: u32, powers: &[u32], weights: &[u32]) -> Answe
 
 // Plate U of a hull.
 pub fn plate_u(mem: &[u32], hull: u32) -> Answer
-    ensures { λ r. ⌜ r ≡ hullPlate (now (mem .entry)) hull kindU ⌝ }
+    ensures { λ r. ⌜ r ≡ step (now (mem .entry)) (ask hull (plate kindU)) .answer ⌝ }
 {
     let refusal = hull_refusal(mem, hull);
     if refusal != 0 {
@@ -177,7 +170,7 @@ fn numbered(number: u32, sheet: &[u32]) -> [u32; TEXT_WORDS]
 
 // Writes a hull's sheet, under the register's number, from the start of out and answers how many bytes it has.
 pub fn write_hull(mem: &[u32], hull: u32, out: &mut [u8]) -> Answer
-    ensures { λ r. ⌜ Settled (hullWritten (now (mem .entry)) hull (length (now (out .entry)))) (hullWrittenInto (now (mem .entry)) hull (now (out .entry))) r (now (out .exit)) ⌝ }
+    ensures { λ r. ⌜ Writes (step (now (mem .entry)) (ask hull (write (now (out .entry))))) r (now (out .exit)) ⌝ }
 {
     let refusal = hull_refusal(mem, hull);
     if refusal != 0 {
@@ -208,7 +201,7 @@ fn open_refusal(mem: &[u32], desk: u32, hull: u32) -> u32
 
 // Opens a hull at a desk, which discards a draft that the desk held, and answers the hull's edit number.
 pub fn open_hull(mem: &mut [u32], desk: u32, hull: u32) -> Answer
-    ensures { λ r. ⌜ Settled (openAnswer (now (mem .entry)) desk hull) (openMemory (now (mem .entry)) desk hull) r (now (mem .exit)) ⌝ }
+    ensures { λ r. ⌜ Changes (step (now (mem .entry)) (openHull desk hull)) r (now (mem .exit)) ⌝ }
 {
     let refusal = open_refusal(&mem[..], desk, hull);
     if refusal != 0 {
@@ -217,14 +210,10 @@ pub fn open_hull(mem: &mut [u32], desk: u32, hull: u32) -> Answer
     Answer::Count(keeping::open_draft(mem, desk as usize, hull))
 }
 
-// What refuses a put: as for every call on a draft, then a line or a weight outside the limits.
-fn put_refusal(mem: &[u32], desk: u32, line: u32, weight: u32) -> u32
-    ensures { λ r. ⌜ r ≡ putRefusal (now (mem .entry)) desk line weight ⌝ }
+// What refuses a put for what it is given: a line or a weight outside the limits.
+fn put_own(line: u32, weight: u32) -> u32
+    ensures { λ r. ⌜ r ≡ putOwn line weight ⌝ }
 {
-    let refusal = desk_refusal(mem, desk);
-    if refusal != 0 {
-        return refusal;
-    }
     if line < 1 {
         return OUTSIDE_LIMITS;
     }
@@ -242,24 +231,25 @@ fn put_refusal(mem: &[u32], desk: u32, line: u32, weight: u32) -> u32
 
 // Puts a fitting on a line of a desk's draft, in place of one that is there.
 pub fn put_fitting(mem: &mut [u32], desk: u32, line: u32, weight: u32) -> Answer
-    ensures { λ r. ⌜ Settled (putAnswer (now (mem .entry)) desk line weight) (putMemory (now (mem .entry)) desk line weight) r (now (mem .exit)) ⌝ }
+    ensures { λ r. ⌜ Changes (step (now (mem .entry)) (work desk (put line weight))) r (now (mem .exit)) ⌝ }
 {
-    let refusal = put_refusal(&mem[..], desk, line, weight);
+    let refusal = desk_refusal(&mem[..], desk);
     if refusal != 0 {
         return Answer::Refused(refusal);
+    }
+    let own = put_own(line, weight);
+    if own != 0 {
+        return Answer::Refused(own);
     }
     keeping::set_fitting(mem, desk as usize, line as usize, weight);
     Answer::Done
 }
 
-// What refuses a taking off: as for every call on a draft, then a line outside the limits, then an empty one.
-fn take_refusal(mem: &[u32], desk: u32, line: u32) -> u32
-    ensures { λ r. ⌜ r ≡ takeRefusal (now (mem .entry)) desk line ⌝ }
+// What refuses a taking off from a draft that is there: a line outside the limits, then an empty one.
+fn take_own(mem: &[u32], desk: u32, line: u32) -> u32
+    requires { ⌜ AtDesk (now mem) desk ⌝ }
+    ensures { λ r. ⌜ r ≡ takeOwn (draftSheet (now (mem .entry)) desk) line ⌝ }
 {
-    let refusal = desk_refusal(mem, desk);
-    if refusal != 0 {
-        return refusal;
-    }
     if line < 1 {
         return OUTSIDE_LIMITS;
     }
@@ -275,11 +265,15 @@ fn take_refusal(mem: &[u32], desk: u32, line: u32) -> u32
 
 // Takes off the fitting on a line of a desk's draft.
 pub fn take_off(mem: &mut [u32], desk: u32, line: u32) -> Answer
-    ensures { λ r. ⌜ Settled (takeAnswer (now (mem .entry)) desk line) (takeMemory (now (mem .entry)) desk line) r (now (mem .exit)) ⌝ }
+    ensures { λ r. ⌜ Changes (step (now (mem .entry)) (work desk (takeOff line))) r (now (mem .exit)) ⌝ }
 {
-    let refusal = take_refusal(&mem[..], desk, line);
+    let refusal = desk_refusal(&mem[..], desk);
     if refusal != 0 {
         return Answer::Refused(refusal);
+    }
+    let own = take_own(&mem[..], desk, line);
+    if own != 0 {
+        return Answer::Refused(own);
     }
     keeping::set_fitting(mem, desk as usize, line as usize, 0);
     Answer::Done
@@ -287,7 +281,7 @@ pub fn take_off(mem: &mut [u32], desk: u32, line: u32) -> Answer
 
 // Makes a desk's draft the sheet of a text.
 pub fn replace(mem: &mut [u32], desk: u32, text: &[u8]) -> Answer
-    ensures { λ r. ⌜ Settled (replaceAnswer (now (mem .entry)) desk (now (text .entry))) (replaceMemory (now (mem .entry)) desk (now (text .entry))) r (now (mem .exit)) ⌝ }
+    ensures { λ r. ⌜ Changes (step (now (mem .entry)) (work desk (replace (now (text .entry))))) r (now (mem .exit)) ⌝ }
 {
     let refusal = desk_refusal(&mem[..], desk);
     if refusal != 0 {
@@ -305,7 +299,7 @@ pub fn replace(mem: &mut [u32], desk: u32, text: &[u8]) -> Answer
 
 // Plate A of a desk's draft, as a trial.
 pub fn trial_a(mem: &[u32], desk: u32) -> Answer
-    ensures { λ r. ⌜ r ≡ trial (now (mem .entry)) desk kindA ⌝ }
+    ensures { λ r. ⌜ r ≡ step (now (mem .entry)) (work desk (tryPlate kindA)) .answer ⌝ }
 {
     let refusal = desk_refusal(mem, desk);
     if refusal != 0 {
@@ -316,7 +310,7 @@ pub fn trial_a(mem: &[u32], desk: u32) -> Answer
 
 // Plate C of a desk's draft, as a trial.
 pub fn trial_c(mem: &[u32], desk: u32, powers: &[u32], weights: &[u32]) -> Answer
-    ensures { λ r. ⌜ r ≡ trial (now (mem .entry)) desk (kindC (now (powers .entry)) (now (weights .entry))) ⌝ }
+    ensures { λ r. ⌜ r ≡ step (now (mem .entry)) (work desk (tryPlate (kindC (now (powers .entry)) (now (weights .entry))))) .answer ⌝ }
 {
     let refusal = desk_refusal(mem, desk);
     if refusal != 0 {
@@ -327,7 +321,7 @@ pub fn trial_c(mem: &[u32], desk: u32, powers: &[u32], weights: &[u32]) -> Answe
 
 // Plate U of a desk's draft, as a trial.
 pub fn trial_u(mem: &[u32], desk: u32) -> Answer
-    ensures { λ r. ⌜ r ≡ trial (now (mem .entry)) desk kindU ⌝ }
+    ensures { λ r. ⌜ r ≡ step (now (mem .entry)) (work desk (tryPlate kindU)) .answer ⌝ }
 {
     let refusal = desk_refusal(mem, desk);
     if refusal != 0 {
@@ -336,14 +330,12 @@ pub fn trial_u(mem: &[u32], desk: u32) -> Answer
     figuring::plate_u(draft_sheet(mem, desk))
 }
 
-// What refuses a save: as for every call on a draft, then an edit of the hull since the open, then that no edit number is left.
-fn save_refusal(mem: &[u32], desk: u32) -> u32
-    ensures { λ r. ⌜ r ≡ saveRefusal (now (mem .entry)) desk ⌝ }
+// What refuses a save of a draft that is there: an edit of the hull since the open, then that no edit number is left.
+fn save_own(mem: &[u32], desk: u32) -> u32
+    requires { ⌜ AtDesk (now mem) desk ⌝ }
+    requires { ⌜ draftHull (now mem) desk < mostHulls ⌝ }
+    ensures { λ r. ⌜ r ≡ saveOwn (now (mem .entry)) desk ⌝ }
 {
-    let refusal = desk_refusal(mem, desk);
-    if refusal != 0 {
-        return refusal;
-    }
     let d = desk as usize;
     let edits = keeping::edit(mem, keeping::draft_hull(mem, d));
     if edits != keeping::opening(mem, d) {
@@ -357,18 +349,22 @@ fn save_refusal(mem: &[u32], desk: u32) -> u32
 
 // Saves a desk's draft as its hull's sheet, ends it, and answers the hull's edit number.
 pub fn save(mem: &mut [u32], desk: u32) -> Answer
-    ensures { λ r. ⌜ Settled (saveAnswer (now (mem .entry)) desk) (saveMemory (now (mem .entry)) desk) r (now (mem .exit)) ⌝ }
+    ensures { λ r. ⌜ Changes (step (now (mem .entry)) (save desk)) r (now (mem .exit)) ⌝ }
 {
-    let refusal = save_refusal(&mem[..], desk);
+    let refusal = desk_refusal(&mem[..], desk);
     if refusal != 0 {
         return Answer::Refused(refusal);
+    }
+    let own = save_own(&mem[..], desk);
+    if own != 0 {
+        return Answer::Refused(own);
     }
     Answer::Count(keeping::save_draft(mem, desk as usize))
 }
 
 // Ends a desk's draft.
 pub fn drop_draft(mem: &mut [u32], desk: u32) -> Answer
-    ensures { λ r. ⌜ Settled (dropAnswer (now (mem .entry)) desk) (dropMemory (now (mem .entry)) desk) r (now (mem .exit)) ⌝ }
+    ensures { λ r. ⌜ Changes (step (now (mem .entry)) (dropDraft desk)) r (now (mem .exit)) ⌝ }
 {
     let refusal = desk_refusal(&mem[..], desk);
     if refusal != 0 {

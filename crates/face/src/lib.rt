@@ -1,13 +1,14 @@
-// The C face: every call that the office's server makes, under the names of include/willowblink.h. A lent slice is a pointer and a length in C.
+// The C face: every call that the office's server makes, under the names of include/willowblink.h. A lent slice is a
+// pointer and a length in C.
 ghost use mathlib.Core.Path.{_≡_};
 ghost use lib.ListN.{length};
 ghost use Rattle.answers.specs.Settled.{Settled};
-ghost use Rattle.sheet.specs.Reading.{readSheet};
-ghost use Rattle.sheet.specs.Engines.{readEngines};
-ghost use Rattle.sheet.specs.Calls.{readAnswer, readInto, writeAnswer, writeInto, enginesAnswer, columnsInto};
+ghost use Rattle.sheet.specs.SheetText.{readSheet};
+ghost use Rattle.sheet.specs.EngineText.{readEngines};
+ghost use Rattle.sheet.specs.TextCalls.{readAnswer, readInto, writeAnswer, writeInto, enginesAnswer, columnsInto};
 ghost use Rattle.capacity.specs.Kinds.{kindA, kindC, kindU};
-ghost use Rattle.register.specs.Hulls.{freshAnswer, freshMemory, newAnswer, newMemory, hullPlate, hullWritten, hullWrittenInto};
-ghost use Rattle.register.specs.Drafts.{openAnswer, openMemory, putAnswer, putMemory, takeAnswer, takeMemory, replaceAnswer, replaceMemory, trial, saveAnswer, saveMemory, dropAnswer, dropMemory};
+ghost use Rattle.register.specs.Calls.{put, takeOff, replace, tryPlate, plate, write, newHull, openHull, work, save};
+ghost use Rattle.register.specs.Calls.{dropDraft, ask, freshStep, step, WbChanges, WbWrites};
 ghost use Rattle.answers.specs.Values.{faced};
 use answers::Answer;
 use answers::WbAnswer;
@@ -48,7 +49,7 @@ fn face(answer: Answer) -> WbAnswer
 // Fresh start.
 #[no_mangle]
 pub extern "C" fn wb_fresh(mem: &mut [u32]) -> WbAnswer
-    ensures { λ r. ⌜ Settled (faced (freshAnswer (now (mem .entry)))) (freshMemory (now (mem .entry))) r (now (mem .exit)) ⌝ }
+    ensures { λ r. ⌜ WbChanges (freshStep (now (mem .entry))) r (now (mem .exit)) ⌝ }
 {
     face(answering::fresh(mem))
 }
@@ -56,7 +57,7 @@ pub extern "C" fn wb_fresh(mem: &mut [u32]) -> WbAnswer
 // New hull from a text; answers its number.
 #[no_mangle]
 pub extern "C" fn wb_new_hull(mem: &mut [u32], text: &[u8]) -> WbAnswer
-    ensures { λ r. ⌜ Settled (faced (newAnswer (now (mem .entry)) (now (text .entry)))) (newMemory (now (mem .entry)) (now (text .entry))) r (now (mem .exit)) ⌝ }
+    ensures { λ r. ⌜ WbChanges (step (now (mem .entry)) (newHull (now (text .entry)))) r (now (mem .exit)) ⌝ }
 {
     face(answering::new_hull(mem, text))
 }
@@ -64,7 +65,7 @@ pub extern "C" fn wb_new_hull(mem: &mut [u32], text: &[u8]) -> WbAnswer
 // Opens a hull at a desk; answers the edit number.
 #[no_mangle]
 pub extern "C" fn wb_open(mem: &mut [u32], desk: u32, hull: u32) -> WbAnswer
-    ensures { λ r. ⌜ Settled (faced (openAnswer (now (mem .entry)) desk hull)) (openMemory (now (mem .entry)) desk hull) r (now (mem .exit)) ⌝ }
+    ensures { λ r. ⌜ WbChanges (step (now (mem .entry)) (openHull desk hull)) r (now (mem .exit)) ⌝ }
 {
     face(answering::open_hull(mem, desk, hull))
 }
@@ -72,7 +73,7 @@ pub extern "C" fn wb_open(mem: &mut [u32], desk: u32, hull: u32) -> WbAnswer
 // Puts a fitting on a line of a desk's draft.
 #[no_mangle]
 pub extern "C" fn wb_put(mem: &mut [u32], desk: u32, line: u32, weight: u32) -> WbAnswer
-    ensures { λ r. ⌜ Settled (faced (putAnswer (now (mem .entry)) desk line weight)) (putMemory (now (mem .entry)) desk line weight) r (now (mem .exit)) ⌝ }
+    ensures { λ r. ⌜ WbChanges (step (now (mem .entry)) (work desk (put line weight))) r (now (mem .exit)) ⌝ }
 {
     face(answering::put_fitting(mem, desk, line, weight))
 }
@@ -80,7 +81,7 @@ pub extern "C" fn wb_put(mem: &mut [u32], desk: u32, line: u32, weight: u32) -> 
 // Takes off the fitting on a line of a desk's draft.
 #[no_mangle]
 pub extern "C" fn wb_take_off(mem: &mut [u32], desk: u32, line: u32) -> WbAnswer
-    ensures { λ r. ⌜ Settled (faced (takeAnswer (now (mem .entry)) desk line)) (takeMemory (now (mem .entry)) desk line) r (now (mem .exit)) ⌝ }
+    ensures { λ r. ⌜ WbChanges (step (now (mem .entry)) (work desk (takeOff line))) r (now (mem .exit)) ⌝ }
 {
     face(answering::take_off(mem, desk, line))
 }
@@ -88,7 +89,7 @@ pub extern "C" fn wb_take_off(mem: &mut [u32], desk: u32, line: u32) -> WbAnswer
 // Makes a desk's draft the sheet of a text.
 #[no_mangle]
 pub extern "C" fn wb_replace(mem: &mut [u32], desk: u32, text: &[u8]) -> WbAnswer
-    ensures { λ r. ⌜ Settled (faced (replaceAnswer (now (mem .entry)) desk (now (text .entry)))) (replaceMemory (now (mem .entry)) desk (now (text .entry))) r (now (mem .exit)) ⌝ }
+    ensures { λ r. ⌜ WbChanges (step (now (mem .entry)) (work desk (replace (now (text .entry))))) r (now (mem .exit)) ⌝ }
 {
     face(answering::replace(mem, desk, text))
 }
@@ -96,7 +97,7 @@ pub extern "C" fn wb_replace(mem: &mut [u32], desk: u32, text: &[u8]) -> WbAnswe
 // Plate A of a desk's draft; answers load and power.
 #[no_mangle]
 pub extern "C" fn wb_trial_a(mem: &[u32], desk: u32) -> WbAnswer
-    ensures { λ r. ⌜ r ≡ faced (trial (now (mem .entry)) desk kindA) ⌝ }
+    ensures { λ r. ⌜ r ≡ faced (step (now (mem .entry)) (work desk (tryPlate kindA)) .answer) ⌝ }
 {
     face(answering::trial_a(mem, desk))
 }
@@ -104,7 +105,7 @@ pub extern "C" fn wb_trial_a(mem: &[u32], desk: u32) -> WbAnswer
 // Plate C of a desk's draft; answers load and persons.
 #[no_mangle]
 pub extern "C" fn wb_trial_c(mem: &[u32], desk: u32, powers: &[u32], weights: &[u32]) -> WbAnswer
-    ensures { λ r. ⌜ r ≡ faced (trial (now (mem .entry)) desk (kindC (now (powers .entry)) (now (weights .entry)))) ⌝ }
+    ensures { λ r. ⌜ r ≡ faced (step (now (mem .entry)) (work desk (tryPlate (kindC (now (powers .entry)) (now (weights .entry))))) .answer) ⌝ }
 {
     face(answering::trial_c(mem, desk, powers, weights))
 }
@@ -112,7 +113,7 @@ pub extern "C" fn wb_trial_c(mem: &[u32], desk: u32, powers: &[u32], weights: &[
 // Plate U of a desk's draft; answers pounds.
 #[no_mangle]
 pub extern "C" fn wb_trial_u(mem: &[u32], desk: u32) -> WbAnswer
-    ensures { λ r. ⌜ r ≡ faced (trial (now (mem .entry)) desk kindU) ⌝ }
+    ensures { λ r. ⌜ r ≡ faced (step (now (mem .entry)) (work desk (tryPlate kindU)) .answer) ⌝ }
 {
     face(answering::trial_u(mem, desk))
 }
@@ -120,7 +121,7 @@ pub extern "C" fn wb_trial_u(mem: &[u32], desk: u32) -> WbAnswer
 // Saves a desk's draft; answers the edit number.
 #[no_mangle]
 pub extern "C" fn wb_save(mem: &mut [u32], desk: u32) -> WbAnswer
-    ensures { λ r. ⌜ Settled (faced (saveAnswer (now (mem .entry)) desk)) (saveMemory (now (mem .entry)) desk) r (now (mem .exit)) ⌝ }
+    ensures { λ r. ⌜ WbChanges (step (now (mem .entry)) (save desk)) r (now (mem .exit)) ⌝ }
 {
     face(answering::save(mem, desk))
 }
@@ -128,7 +129,7 @@ pub extern "C" fn wb_save(mem: &mut [u32], desk: u32) -> WbAnswer
 // Ends a desk's draft.
 #[no_mangle]
 pub extern "C" fn wb_drop(mem: &mut [u32], desk: u32) -> WbAnswer
-    ensures { λ r. ⌜ Settled (faced (dropAnswer (now (mem .entry)) desk)) (dropMemory (now (mem .entry)) desk) r (now (mem .exit)) ⌝ }
+    ensures { λ r. ⌜ WbChanges (step (now (mem .entry)) (dropDraft desk)) r (now (mem .exit)) ⌝ }
 {
     face(answering::drop_draft(mem, desk))
 }
@@ -136,7 +137,7 @@ pub extern "C" fn wb_drop(mem: &mut [u32], desk: u32) -> WbAnswer
 // Plate A of a hull; answers load and power.
 #[no_mangle]
 pub extern "C" fn wb_plate_a(mem: &[u32], hull: u32) -> WbAnswer
-    ensures { λ r. ⌜ r ≡ faced (hullPlate (now (mem .entry)) hull kindA) ⌝ }
+    ensures { λ r. ⌜ r ≡ faced (step (now (mem .entry)) (ask hull (plate kindA)) .answer) ⌝ }
 {
     face(answering::plate_a(mem, hull))
 }
@@ -144,7 +145,7 @@ pub extern "C" fn wb_plate_a(mem: &[u32], hull: u32) -> WbAnswer
 // Plate C of a hull; answers load and persons.
 #[no_mangle]
 pub extern "C" fn wb_plate_c(mem: &[u32], hull: u32, powers: &[u32], weights: &[u32]) -> WbAnswer
-    ensures { λ r. ⌜ r ≡ faced (hullPlate (now (mem .entry)) hull (kindC (now (powers .entry)) (now (weights .entry)))) ⌝ }
+    ensures { λ r. ⌜ r ≡ faced (step (now (mem .entry)) (ask hull (plate (kindC (now (powers .entry)) (now (weights .entry))))) .answer) ⌝ }
 {
     face(answering::plate_c(mem, hull, powers, weights))
 }
@@ -152,7 +153,7 @@ pub extern "C" fn wb_plate_c(mem: &[u32], hull: u32, powers: &[u32], weights: &[
 // Plate U of a hull; answers pounds.
 #[no_mangle]
 pub extern "C" fn wb_plate_u(mem: &[u32], hull: u32) -> WbAnswer
-    ensures { λ r. ⌜ r ≡ faced (hullPlate (now (mem .entry)) hull kindU) ⌝ }
+    ensures { λ r. ⌜ r ≡ faced (step (now (mem .entry)) (ask hull (plate kindU)) .answer) ⌝ }
 {
     face(answering::plate_u(mem, hull))
 }
@@ -160,7 +161,7 @@ pub extern "C" fn wb_plate_u(mem: &[u32], hull: u32) -> WbAnswer
 // Writes a hull's sheet; answers the count of bytes.
 #[no_mangle]
 pub extern "C" fn wb_write_hull(mem: &[u32], hull: u32, out: &mut [u8]) -> WbAnswer
-    ensures { λ r. ⌜ Settled (faced (hullWritten (now (mem .entry)) hull (length (now (out .entry))))) (hullWrittenInto (now (mem .entry)) hull (now (out .entry))) r (now (out .exit)) ⌝ }
+    ensures { λ r. ⌜ WbWrites (step (now (mem .entry)) (ask hull (write (now (out .entry))))) r (now (out .exit)) ⌝ }
 {
     face(answering::write_hull(mem, hull, out))
 }
@@ -168,7 +169,7 @@ pub extern "C" fn wb_write_hull(mem: &[u32], hull: u32, out: &mut [u8]) -> WbAns
 // Reads a sheet from a text, its HULL number too.
 #[no_mangle]
 pub extern "C" fn wb_read_sheet(text: &[u8], sheet: &mut [u32; TEXT_WORDS]) -> WbAnswer
-    ensures { λ r. ⌜ Settled (faced (readAnswer (readSheet (now (text .entry)) .ended))) (readInto (readSheet (now (text .entry))) (now (sheet .entry))) r (now (sheet .exit)) ⌝ }
+    ensures { λ r. ⌜ Settled (faced (readAnswer (readSheet (now (text .entry))))) (readInto (readSheet (now (text .entry))) (now (sheet .entry))) r (now (sheet .exit)) ⌝ }
 {
     face(reading::read_sheet(text, sheet))
 }

@@ -1,5 +1,5 @@
 -- What a block is, of any list of events: where the desk holds a draft, it is the accepted open that made it and every
--- call on it since, with nothing left out. Assumes nothing.
+-- call on it since, with nothing left out.
 use Prim.Native.Nat.{ℕ}
 use mathlib.Core.Path.{_≡_, refl, ap, _∙_}
 use mathlib.Core.Bool.{Bool, true, false, cond, _&&_}
@@ -7,13 +7,15 @@ use mathlib.Core.List.{List, [], _∷_, _++_}
 use mathlib.Core.Option.{some}
 use lib.Dec.{eqb}
 use borrow.Author.Tests.{eqb-true}
-use Rattle.history.specs.Calls.{Work, newHull, openHull, work, save, dropDraft, ask, Reply}
-use Rattle.history.specs.Runs.{Event, _⇒_, accepted}
+use Rattle.register.specs.Calls.{Work, newHull, openHull, work, save, dropDraft, ask}
+use Rattle.history.specs.Replies.{Reply, accepted}
+use Rattle.history.specs.Runs.{Event, _⇒_}
 use Rattle.history.specs.History.{Role, itsOpen, itsCall, itsEnd, elsewhere, role, block}
 use Rattle.history.specs.Told.{Opening, opening}
 use Rattle.history.proofs.Tools.{self, none≢some, some-inj}
 
--- the work and the saves of desk d among the events: with its drop, which ends it, these are the calls on a draft that it holds
+-- the work and the saves of desk d among the events: with its drop, which ends it, these are the calls on a draft that
+-- it holds
 unfoldable pub callsBy : ℕ → List Event → List Event
 callsBy d [] = []
 callsBy d ((newHull t ⇒ r) ∷ es) = callsBy d es
@@ -78,7 +80,8 @@ known d (ask h q ⇒ r) = another (ask h q ⇒ r) (λ es. refl) (λ es. refl)
 
 -- ---- the whole block
 
--- b is the block of the draft that desk d opened as o says: past is what came since, the accepted open, and what was before
+-- b is the block of the draft that desk d opened as o says: past is what came since, the accepted open, and what was
+-- before
 pub record Whole (d : ℕ) (past : List Event) (o : Opening) (b : List Event) : Type 0 where
   pub newer : List Event
   pub its-reply : Reply
@@ -121,7 +124,8 @@ whole-step past o (vain-save a) p q f = rw (p, block) (joined _ (f (rw (p, openi
 whole-step past o an-end p q f = absurd (none≢some (rw (p, opening) at q))
 whole-step past o (another e s c) p q f = rw (p, block) (passed _ (f (rw (p, opening) at q)) s c)
 
--- Where the history says that the desk holds a draft, its block is the draft's own open and every call on the draft since.
+-- Where the history says that the desk holds a draft, its block is the draft's own open and every call on the draft
+-- since.
 pub block-whole : (d : ℕ) (past : List Event) (o : Opening) → opening d past ≡ some o → Whole d past o (block d past)
 unfolding opening
 block-whole d [] o q = absurd (none≢some q)

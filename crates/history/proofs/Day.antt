@@ -1,5 +1,5 @@
--- A day at the register, computed: two desks on one hull, a save that comes too late, trials, plates and a writing between; and its serial list, spelled out and run.
--- Oldest first. Assumes nothing.
+-- A day at the register, computed: two desks on one hull, a save that comes too late, trials, plates and a writing
+-- between; and its serial list, spelled out and run. Oldest first.
 use mathlib.Core.Path.{_≡_, refl}
 use mathlib.Core.Bool.{false}
 use mathlib.Core.List.{List, [], _∷_, _++_, map, reverse}
@@ -12,20 +12,23 @@ use Rattle.text.specs.Number.{restOf, numberOf, digitsIn, digitsOf}
 use Rattle.text.specs.Limit.{allHold}
 use Rattle.text.specs.Line.{readEntry, readNumbers, readLine, numbersText}
 use Rattle.answers.specs.declared.Answer.the-variants.{Refused, Done, Count, Plate}
-use Rattle.sheet.specs.Sheet.{limitsOn, sheetLimits, fitText, fitsText, linesText, sheetText}
-use Rattle.sheet.specs.Reading.{readLines, readFits, readEnd, readRest, readSheet}
+use Rattle.sheet.specs.Sheet.{limitsOn, sheetLimits}
+use Rattle.form.specs.Parts.{kindOf, numbersOf}
+use Rattle.form.specs.Reading.{readRows, readParts, readForm}
+use Rattle.form.specs.Writing.{rowsText, partsText}
+use Rattle.sheet.specs.SheetText.{sheetForm, weightsFrom, fitRows, fitsOf, numbersOn, rowsOn, readSheet, sheetText}
 use Rattle.capacity.specs.Volume.{stationProduct, volumeN, netZ}
 use Rattle.capacity.specs.Weights.{addedUp, boatM}
-use Rattle.capacity.specs.PlateC.{exactX, markedC, rising, rowsRight, rowFor, lacksRow, engineWeight, liveLoad, persons, lacksTests, plateC}
+use Rattle.capacity.specs.PlateC.{exactX, markedC, rising, rowsRight, rowFor, lacksRow, engineWeight, liveLoad, persons}
+use Rattle.capacity.specs.PlateC.{lacksTests, plateC}
 use Rattle.capacity.specs.PlateA.{inboardX, loadX, markedA, formulaWatts, powerA, plateA}
 use Rattle.capacity.specs.PlateU.{ruleU, markedU, plateU}
 use Rattle.capacity.specs.Kinds.{kindA, kindC, kindU}
 use Rattle.memory.specs.Formed.{each, hullOk, draftOk, formed}
 use Rattle.memory.specs.Updates.{freshWords, entered, opened, fitted, replaced, dropped, saved}
-use Rattle.register.specs.Refusals.{hullRefusal, deskRefusal}
-use Rattle.register.specs.Hulls.{roomRefusal}
-use Rattle.register.specs.Drafts.{openRefusal, putRefusal, takeRefusal, saveRefusal}
-use Rattle.history.specs.Calls.{put, takeOff, tryPlate, plate, write, newHull, openHull, work, save, dropDraft, ask, says, reply, next}
+use Rattle.register.specs.Refusals.{hullRefusal, deskRefusal, roomRefusal, openRefusal}
+use Rattle.register.specs.Calls.{put, takeOff, tryPlate, plate, write, newHull, openHull, work, save, dropDraft, ask}
+use Rattle.history.specs.Replies.{says, reply, next}
 use Rattle.history.specs.Runs.{Event, _⇒_, call}
 use Rattle.history.specs.History.{role, block, spot, serial}
 use Rattle.history.specs.Told.{opening, isSaveOf, savesOf, quietSince}
@@ -81,7 +84,13 @@ serial-day =
 
 -- the day is as it says
 a-day : transcript freshWords (map call day) ≡ day
-unfolding transcript reply next day text stations freshWords entered opened fitted replaced dropped saved each hullOk draftOk formed hullRefusal deskRefusal roomRefusal openRefusal putRefusal takeRefusal saveRefusal readSheet readLines readLine agreed readNumbers readEntry fieldOf numberOf restOf readRest readFits readEnd allHold sheetLimits limitsOn sheetText linesText fitsText fitText numbersText digitsOf digitsIn stationProduct volumeN netZ addedUp boatM exactX markedC rising rowsRight rowFor lacksRow engineWeight liveLoad persons lacksTests plateC inboardX loadX markedA formulaWatts powerA plateA ruleU markedU plateU
+unfolding transcript reply next day text stations freshWords entered opened fitted replaced dropped saved each
+    hullOk draftOk formed hullRefusal deskRefusal roomRefusal openRefusal readSheet sheetForm numbersOn
+    numbersOf fitsOf weightsFrom readForm readParts readRows kindOf readLine agreed readNumbers readEntry
+    fieldOf numberOf restOf allHold sheetLimits limitsOn sheetText rowsOn fitRows partsText rowsText numbersText
+    digitsOf digitsIn stationProduct volumeN netZ addedUp boatM exactX markedC rising rowsRight rowFor lacksRow
+    engineWeight liveLoad persons lacksTests plateC inboardX loadX markedA formulaWatts powerA plateA ruleU
+    markedU plateU
 a-day = refl
 
 -- its serial list is this one
@@ -91,7 +100,13 @@ a-day-in-order = refl
 
 -- and that list, run from fresh, has the same replies
 a-day-again : transcript freshWords (map call serial-day) ≡ serial-day
-unfolding transcript reply next serial-day text stations freshWords entered opened fitted replaced dropped saved each hullOk draftOk formed hullRefusal deskRefusal roomRefusal openRefusal putRefusal takeRefusal saveRefusal readSheet readLines readLine agreed readNumbers readEntry fieldOf numberOf restOf readRest readFits readEnd allHold sheetLimits limitsOn sheetText linesText fitsText fitText numbersText digitsOf digitsIn stationProduct volumeN netZ addedUp boatM exactX markedC rising rowsRight rowFor lacksRow engineWeight liveLoad persons lacksTests plateC inboardX loadX markedA formulaWatts powerA plateA ruleU markedU plateU
+unfolding transcript reply next serial-day text stations freshWords entered opened fitted replaced dropped saved
+    each hullOk draftOk formed hullRefusal deskRefusal roomRefusal openRefusal readSheet sheetForm numbersOn
+    numbersOf fitsOf weightsFrom readForm readParts readRows kindOf readLine agreed readNumbers readEntry
+    fieldOf numberOf restOf allHold sheetLimits limitsOn sheetText rowsOn fitRows partsText rowsText numbersText
+    digitsOf digitsIn stationProduct volumeN netZ addedUp boatM exactX markedC rising rowsRight rowFor lacksRow
+    engineWeight liveLoad persons lacksTests plateC inboardX loadX markedA formulaWatts powerA plateA ruleU
+    markedU plateU
 a-day-again = refl
 
 -- what the day's history tells: hull 0 has had two accepted saves, though five were tried

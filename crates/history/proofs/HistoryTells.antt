@@ -1,5 +1,5 @@
--- The state of a run is what its history tells: the edit numbers are counts of accepted saves, and the block of a desk, redone on its hull's sheet at the opening,
--- makes the desk's draft. Assumes nothing.
+-- The state of a run is what its history tells: the edit numbers are counts of accepted saves, and the block of a desk,
+-- redone on its hull's sheet at the opening, makes the desk's draft.
 use Prim.Native.Nat.{ℕ, _≤_, _<_}
 use native.Mathlib.Omega.{arith}
 use native.Mathlib.Nat.{le-refl}
@@ -9,14 +9,18 @@ use mathlib.Core.List.{List, [], _∷_, map}
 use mathlib.Core.Option.{Option, none, some}
 use lib.Dec.{eqb}
 use borrow.Author.Tests.{ne-eqb}
+use Rattle.answers.specs.Refusals.{noDesk, noDraft, editedSince, editsSpent}
 use Rattle.answers.specs.declared.Answer.the-variants.{Refused, Count}
-use Rattle.history.specs.Calls.{Work, Call, openHull, work, save, Reply, says}
+use Rattle.register.specs.Calls.{Work, Call, openHull, work, save}
+use Rattle.history.specs.Replies.{Reply, says}
 use Rattle.history.specs.Runs.{Event, _⇒_, call}
 use Rattle.history.specs.History.{block, role}
 use Rattle.history.specs.Told.{Opening, opening, isSaveOf, savesOf, redo}
 use Rattle.history.proofs.Tools.{at-or, self, none≢some, some-inj}
 use Rattle.history.proofs.Model.{Draft, State, workSays, but, store, opens, edited, fresh, stateOf, eventsOf}
-use Rattle.history.proofs.Rules.{Way, new-enters, new-unread, new-full, open-done, open-unknown, open-high, work-done, work-idle, work-high, save-done, save-spent, save-stale, save-idle, save-high, drop-done, drop-idle, drop-high, ask-done, ask-unknown, by-ways}
+use Rattle.history.proofs.Rules.{Way, new-enters, new-unread, new-full, open-done, open-unknown, open-high}
+use Rattle.history.proofs.Rules.{work-done, work-idle, work-high, save-done, save-spent, save-stale, save-idle}
+use Rattle.history.proofs.Rules.{save-high, drop-done, drop-idle, drop-high, ask-done, ask-unknown, by-ways}
 use Rattle.history.proofs.Replay.{Drafts, drafts, high-none}
 
 -- ---- what is told
@@ -105,7 +109,7 @@ unsaved {s} {past} g n f = same _ f (λ h. refl) (at-or g _ (rw (self, block, op
 
 tells-step : (s : State) (past : List Event) {c : Call} {t : State} {r : Reply} → stateOf (map call past) ≡ s → Way s c t r → Drafts s past → Tells s past → Tells t ((c ⇒ r) ∷ past)
 unfolding block opening savesOf isSaveOf role redo
-tells-step s past w (new-enters k p e) z f =
+tells-step s past w (new-enters k r p e) z f =
     record {
       edits = at-or (s .register .entered) _ (rw (self, f .unentered (s .register .entered) (le-refl _))) (λ h n. rw n (f .edits h));
       drafts = f .drafts;
@@ -126,10 +130,10 @@ tells-step s past w (work-done {d = g} {w = x} y p q) z f =
 tells-step s past w (work-idle {d = g} {w = x} p q) z f = idle g x _ f q
 tells-step s past w (work-high {d = g} {w = x} p) z f = idle g x _ f (high-none s past g p z)
 tells-step s past w (save-done {d = g} y p q u l) z f = tells-saves s past g y _ q (z g y q .hull) f
-tells-step s past w (save-spent {d = g} y p q u l) z f = unsaved g 9 f
-tells-step s past w (save-stale {d = g} y p q u) z f = unsaved g 8 f
-tells-step s past w (save-idle {d = g} p q) z f = unsaved g 7 f
-tells-step s past w (save-high {d = g} p) z f = unsaved g 6 f
+tells-step s past w (save-spent {d = g} y p q u l) z f = unsaved g editsSpent f
+tells-step s past w (save-stale {d = g} y p q u) z f = unsaved g editedSince f
+tells-step s past w (save-idle {d = g} p q) z f = unsaved g noDraft f
+tells-step s past w (save-high {d = g} p) z f = unsaved g noDesk f
 tells-step s past w (drop-done {d = g} y p q) z f = record { edits = f .edits; drafts = at-or g _ (rw (self, block, opening)) (λ d n. rw (n, block, opening) (f .drafts d)); unentered = f .unentered }
 tells-step s past w (drop-idle {d = g} p q) z f = same _ f (λ h. refl) (λ d. rw (and-false (eqb d g), block, opening))
 tells-step s past w (drop-high {d = g} p) z f = same _ f (λ h. refl) (λ d. rw (and-false (eqb d g), block, opening))

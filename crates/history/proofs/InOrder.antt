@@ -1,4 +1,4 @@
--- DEMAND 3 with the oldest call first. Assumes nothing.
+-- DEMAND 3 with the oldest call first.
 use Prim.Native.Nat.{ℕ, _<_}
 use mathlib.Core.Path.{_≡_, refl, sym, ap, _∙_}
 use mathlib.Core.Bool.{true}
@@ -6,9 +6,9 @@ use mathlib.Core.List.{List, [], _∷_, map, reverse, reverseAux, reverse-revers
 use mathlib.Core.Logic.{_↔_}
 use lib.ListN.{length}
 use Rattle.memory.specs.Layout.{registerWords, hullCount, edit}
-use Rattle.register.specs.Hulls.{freshMemory}
-use Rattle.history.specs.Calls.{Call, save, reply, next}
-use Rattle.history.specs.Runs.{Event, call, after, history, accepted}
+use Rattle.register.specs.Calls.{freshStep, Call, save}
+use Rattle.history.specs.Replies.{reply, next, accepted}
+use Rattle.history.specs.Runs.{Event, call, after, history}
 use Rattle.history.specs.History.{serial}
 use Rattle.history.specs.Told.{savesOf}
 use Rattle.history.specs.Demand.{Due, SaveDoes, Gives}
@@ -28,21 +28,21 @@ module _ (m : List ℕ) where
   after-turned [] past = refl
   after-turned (c ∷ cs) past = after-turned cs (c ∷ past)
 
-  newest-first : (cs : List Call) → history m (reverse cs) ≡ reverse (transcript (freshMemory m) cs)
+  newest-first : (cs : List Call) → history m (reverse cs) ≡ reverse (transcript (freshStep m .memory) cs)
   unfolding after history
   newest-first cs = history-turned cs []
 
-  newest-last : (cs : List Call) → after m (reverse cs) ≡ lastly (freshMemory m) cs
+  newest-last : (cs : List Call) → after m (reverse cs) ≡ lastly (freshStep m .memory) cs
   unfolding after
   newest-last cs = after-turned cs []
 
-  oldest-first : (cs : List Call) → transcript (freshMemory m) (reverse cs) ≡ reverse (history m cs)
+  oldest-first : (cs : List Call) → transcript (freshStep m .memory) (reverse cs) ≡ reverse (history m cs)
   oldest-first cs = sym (reverse-reverse _) ∙ ap reverse (sym (newest-first (reverse cs)) ∙ ap (history m) (reverse-reverse cs))
 
-  oldest-last : (cs : List Call) → lastly (freshMemory m) (reverse cs) ≡ after m cs
+  oldest-last : (cs : List Call) → lastly (freshStep m .memory) (reverse cs) ≡ after m cs
   oldest-last cs = sym (newest-last (reverse cs)) ∙ ap (after m) (reverse-reverse cs)
 
-  order-turned : (cs : List Call) → order (transcript (freshMemory m) cs) ≡ reverse (serial (history m (reverse cs)))
+  order-turned : (cs : List Call) → order (transcript (freshStep m .memory) cs) ≡ reverse (serial (history m (reverse cs)))
   unfolding order
   order-turned cs = rw (newest-first cs)
 
@@ -53,30 +53,31 @@ calls-turned (e ∷ es) fs = calls-turned es (e ∷ fs)
 -- ---- the theorems
 
 module _ (m : List ℕ) (z : length m ≡ registerWords) where
-  -- From a fresh register: the calls of a run in serial order have the replies that they had in the run, and leave the same hulls with the same edit numbers.
-  pub serial-in-order : (cs : List Call) → GivesInOrder m (transcript (freshMemory m) cs) (lastly (freshMemory m) cs)
+  -- From a fresh register: the calls of a run in serial order have the replies that they had in the run, and leave the
+  -- same hulls with the same edit numbers.
+  pub serial-in-order : (cs : List Call) → GivesInOrder m (transcript (freshStep m .memory) cs) (lastly (freshStep m .memory) cs)
   serial-in-order cs =
       let es : List Event = serial (history m (reverse cs)) in
       let g : Gives m es (after m (reverse cs)) = serial-gives m z (reverse cs) in
-      let q : map call (order (transcript (freshMemory m) cs)) ≡ reverse (map call es) = ap (map call) (order-turned m cs) ∙ calls-turned es [] in
+      let q : map call (order (transcript (freshStep m .memory) cs)) ≡ reverse (map call es) = ap (map call) (order-turned m cs) ∙ calls-turned es [] in
       record {
-        replies = ap (transcript (freshMemory m)) q ∙ oldest-first m (map call es) ∙ ap reverse (g .replies) ∙ sym (order-turned m cs);
+        replies = ap (transcript (freshStep m .memory)) q ∙ oldest-first m (map call es) ∙ ap reverse (g .replies) ∙ sym (order-turned m cs);
         hulls = rw (q, oldest-last m (map call es), ← newest-last m cs) (g .hulls);
       }
 
   -- From a fresh register: a save after a run is accepted exactly when it is due.
-  pub save-iff-in-order : (cs : List Call) (d : ℕ) → (accepted (reply (lastly (freshMemory m) cs) (save d)) ≡ true) ↔ Due d (reverse (transcript (freshMemory m) cs))
+  pub save-iff-in-order : (cs : List Call) (d : ℕ) → (accepted (reply (lastly (freshStep m .memory) cs) (save d)) ≡ true) ↔ Due d (reverse (transcript (freshStep m .memory) cs))
   save-iff-in-order cs d = rw (← newest-last m cs, ← newest-first m cs) (save-iff m z (reverse cs) d)
 
   -- And then does what demand 3 says.
-  pub save-does-in-order : (cs : List Call) (d : ℕ) (u : Due d (reverse (transcript (freshMemory m) cs)))
-      → SaveDoes d (u .draft) (reverse (transcript (freshMemory m) cs)) (lastly (freshMemory m) (reverse (map call (u .draft .before)))) (lastly (freshMemory m) cs)
-      (reply (lastly (freshMemory m) cs) (save d) .answer) (next (lastly (freshMemory m) cs) (save d))
+  pub save-does-in-order : (cs : List Call) (d : ℕ) (u : Due d (reverse (transcript (freshStep m .memory) cs)))
+      → SaveDoes d (u .draft) (reverse (transcript (freshStep m .memory) cs)) (lastly (freshStep m .memory) (reverse (map call (u .draft .before)))) (lastly (freshStep m .memory) cs)
+      (reply (lastly (freshStep m .memory) cs) (save d) .answer) (next (lastly (freshStep m .memory) cs) (save d))
   unfolding after
   save-does-in-order cs d = rw (← newest-last m cs, ← newest-first m cs) (λ u. rw (oldest-last m (map call (u .draft .before))) (save-does m z (reverse cs) d u))
 
   -- Edit numbers count accepted saves.
-  pub edits-count-in-order : (cs : List Call) (h : ℕ) → h < hullCount (lastly (freshMemory m) cs) → edit (lastly (freshMemory m) cs) h ≡ savesOf h (reverse (transcript (freshMemory m) cs))
+  pub edits-count-in-order : (cs : List Call) (h : ℕ) → h < hullCount (lastly (freshStep m .memory) cs) → edit (lastly (freshStep m .memory) cs) h ≡ savesOf h (reverse (transcript (freshStep m .memory) cs))
   edits-count-in-order cs h = rw (← newest-last m cs, ← newest-first m cs) (edits-count m z (reverse cs) h)
 
 pub demand-3-in-order : (m : List ℕ) → length m ≡ registerWords → DemandInOrder m

@@ -18,4 +18,3 @@ pub mod Theorems
 pub mod InOrder
 pub mod Day
 pub mod Samples
-pub mod Refusing

@@ -1,23 +1,21 @@
--- The register as the office would draw it, with no words of memory: hulls, drafts, and what each call does to them. A tool of the proofs alone: `Shown.antt` ties it
--- to the memory of the calls, and no theorem of `Theorems.antt` speaks of it. Assumes nothing.
+-- The register as the office would draw it, with no words of memory: hulls, drafts, and what each call does to them. A
+-- tool of the proofs alone: `Shown.antt` ties it to the memory of the calls, and no theorem of `Theorems.antt` speaks
+-- of it.
 use Prim.Native.Nat.{ℕ, suc}
-use mathlib.Core.Bool.{_&&_, cond}
+use mathlib.Core.Bool.{cond}
 use mathlib.Core.List.{List, [], _∷_}
 use mathlib.Core.Option.{Option, none, some}
-use lib.Dec.{eqb, leb, ltb}
-use lib.ListN.{length, getD}
+use lib.Dec.{eqb, ltb}
+use Rattle.answers.specs.Refusals.{full, noHull, noDesk, noDraft, editedSince, editsSpent}
 use Rattle.answers.specs.declared.Answer.the-variants.{Refused, Done, Count}
-use Rattle.sheet.specs.Lines.{fittings}
-use Rattle.sheet.specs.Calls.{writeAnswer, writeInto}
-use Rattle.capacity.specs.Kinds.{plateOf}
 use Rattle.memory.specs.Layout.{mostHulls, desks, hullSheet}
 use Rattle.memory.specs.Formed.{mostEdits}
 use Rattle.memory.specs.Updates.{freshWords}
-use Rattle.register.specs.Refusals.{orRefused, sheetOf, onText}
-use Rattle.register.specs.Drafts.{putOwn}
-use Rattle.history.specs.Calls.{Work, put, takeOff, replace, tryPlate, Ask, plate, write, Call, newHull, openHull, work, save, dropDraft, ask, Reply, says}
-use Rattle.history.specs.Runs.{Event, _⇒_, accepted}
-use Rattle.sheet.specs.Places.{fittingWord}
+use Rattle.register.specs.Refusals.{leaves, sheetOf, onText}
+use Rattle.register.specs.Calls.{Work, Ask, Call, newHull, openHull, work, save, dropDraft, ask}
+use Rattle.register.specs.Calls.{askLent, lent, workAnswer, askAnswer, askFills}
+use Rattle.history.specs.Replies.{Reply, says, accepted}
+use Rattle.history.specs.Runs.{Event, _⇒_}
 use Rattle.history.specs.Told.{worked}
 
 pub record Hull : Type 0 where
@@ -43,28 +41,20 @@ pub record Outcome : Type 0 where
 
 -- ---- what is answered of a sheet
 
--- take off: 3 for the line number, then 17 where the line is empty
-abbrev pub takeFrom : List ℕ → ℕ → ℕ
-takeFrom s line = cond (leb 1 line && leb line fittings) (cond (eqb (getD s (fittingWord line) 0) 0) 17 0) 3
-
 -- work on a draft whose sheet is s: the reply, and the sheet after it
 unfoldable pub workSays : Work → List ℕ → Reply
-workSays (put line weight) s = says (orRefused (putOwn line weight) Done)
-workSays (takeOff line) s = says (orRefused (takeFrom s line) Done)
-workSays (replace t) s = says (onText t Done Refused)
-workSays (tryPlate k) s = says (plateOf k s)
+workSays w s = says (workAnswer w s)
 
 abbrev workDone : Work → List ℕ → List ℕ
 workDone w s = cond (accepted (workSays w s)) (worked w s) s
 
--- what is asked of hull h, whose sheet is s; and of a hull that is not there
+-- what is asked of hull h, whose sheet is s
 unfoldable pub askSays : ℕ → Ask → List ℕ → Reply
-askSays h (plate k) s = says (plateOf k s)
-askSays h (write out) s = record { answer = writeAnswer (h ∷ s) (length out); output = writeInto (h ∷ s) out }
+askSays h q s = let a = askAnswer h q s in record { answer = a; output = leaves a (askFills h q s) (askLent q) }
 
-unfoldable pub askRefused : Ask → Reply
-askRefused (plate k) = says (Refused 5)
-askRefused (write out) = record { answer = Refused 5; output = out }
+-- a call that is refused: what it was lent is as it stood
+abbrev pub refusal : Call → ℕ → Reply
+refusal c n = record { answer = Refused n; output = lent c }
 
 -- ---- a state with one thing changed
 
@@ -87,41 +77,44 @@ opens r h = record { hull = h; opening = r .hull h .edits; sheet = r .hull h .sh
 abbrev pub edited : Work → Draft → Draft
 edited w x = record { hull = x .hull; opening = x .opening; sheet = workDone w (x .sheet) }
 
-abbrev refuse : State → ℕ → Outcome
-refuse s n = record { state = s; reply = says (Refused n) }
+abbrev refuse : State → Call → ℕ → Outcome
+refuse s c n = record { state = s; reply = refusal c n }
 
 -- ---- a call
 
 abbrev workOn : State → ℕ → Work → Option Draft → Outcome
-workOn s d w none = refuse s 7
+workOn s d w none = refuse s (work d w) noDraft
 workOn s d w (some x) = record { state = atDesk s d (some (edited w x)); reply = workSays w (x .sheet) }
 
 abbrev saveOf : State → ℕ → Option Draft → Outcome
-saveOf s d none = refuse s 7
+saveOf s d none = refuse s (save d) noDraft
 saveOf s d (some x) =
     cond (eqb (s .register .hull (x .hull) .edits) (x .opening))
     (cond (eqb (s .register .hull (x .hull) .edits) mostEdits)
-    (refuse s 9)
+    (refuse s (save d) editsSpent)
     (record { state = record { register = store (s .register) x; draft = but (s .draft) d none }; reply = says (Count (suc (s .register .hull (x .hull) .edits))) }))
-    (refuse s 8)
+    (refuse s (save d) editedSince)
 
 abbrev dropOf : State → ℕ → Option Draft → Outcome
-dropOf s d none = refuse s 7
+dropOf s d none = refuse s (dropDraft d) noDraft
 dropOf s d (some x) = record { state = atDesk s d none; reply = says Done }
 
 unfoldable pub step : State → Call → Outcome
 step s (newHull t) =
     cond (ltb (s .register .entered) mostHulls)
-    (onText t (record { state = record { register = enter (s .register) t; draft = s .draft }; reply = says (Count (s .register .entered)) }) (refuse s))
-    (refuse s 4)
+    (onText t (record { state = record { register = enter (s .register) t; draft = s .draft }; reply = says (Count (s .register .entered)) }) (refuse s (newHull t)))
+    (refuse s (newHull t) full)
 step s (openHull d h) =
     cond (ltb d desks)
-    (cond (ltb h (s .register .entered)) (record { state = atDesk s d (some (opens (s .register) h)); reply = says (Count (s .register .hull h .edits)) }) (refuse s 5))
-    (refuse s 6)
-step s (work d w) = cond (ltb d desks) (workOn s d w (s .draft d)) (refuse s 6)
-step s (save d) = cond (ltb d desks) (saveOf s d (s .draft d)) (refuse s 6)
-step s (dropDraft d) = cond (ltb d desks) (dropOf s d (s .draft d)) (refuse s 6)
-step s (ask h q) = cond (ltb h (s .register .entered)) (record { state = s; reply = askSays h q (s .register .hull h .sheet) }) (record { state = s; reply = askRefused q })
+    (cond (ltb h (s .register .entered)) (record { state = atDesk s d (some (opens (s .register) h)); reply = says (Count (s .register .hull h .edits)) }) (refuse s (openHull d h) noHull))
+    (refuse s (openHull d h) noDesk)
+step s (work d w) = cond (ltb d desks) (workOn s d w (s .draft d)) (refuse s (work d w) noDesk)
+step s (save d) = cond (ltb d desks) (saveOf s d (s .draft d)) (refuse s (save d) noDesk)
+step s (dropDraft d) = cond (ltb d desks) (dropOf s d (s .draft d)) (refuse s (dropDraft d) noDesk)
+step s (ask h q) =
+    cond (ltb h (s .register .entered))
+    (record { state = s; reply = askSays h q (s .register .hull h .sheet) })
+    (refuse s (ask h q) noHull)
 
 -- ---- a run from fresh, newest first. The slots of hulls not entered are as fresh start leaves them.
 

@@ -1,4 +1,4 @@
--- Every call of the serial list is one of the history, and stands there once: of any list of events. Assumes nothing.
+-- Every call of the serial list is one of the history, and stands there once: of any list of events.
 use Prim.Native.Nat.{ℕ, zero, suc, _+_, _≤_, _<_}
 use native.Mathlib.Omega.{arith}
 use native.Mathlib.Nat.{le-refl}
@@ -8,8 +8,9 @@ use mathlib.Core.List.{List, [], _∷_, _++_}
 use mathlib.Core.Logic.{inl, inr}
 use lib.Dec.{eqb}
 use borrow.Author.Tests.{ne-eqb}
-use Rattle.history.specs.Calls.{newHull, openHull, work, save, dropDraft, ask, Reply}
-use Rattle.history.specs.Runs.{Event, _⇒_, accepted}
+use Rattle.register.specs.Calls.{newHull, openHull, work, save, dropDraft, ask}
+use Rattle.history.specs.Replies.{Reply, accepted}
+use Rattle.history.specs.Runs.{Event, _⇒_}
 use Rattle.history.specs.History.{Role, itsOpen, itsCall, itsEnd, elsewhere, role, block, spot, serial}
 use Rattle.history.proofs.Tools.{self, below}
 

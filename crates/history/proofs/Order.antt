@@ -1,11 +1,12 @@
--- The order of a block and of the serial list, of any list of events: a block keeps the order of its calls, and the calls that are kept, with the accepted saves, stand
--- in the serial list in the order of the history. Assumes nothing.
+-- The order of a block and of the serial list, of any list of events: a block keeps the order of its calls, and the
+-- calls that are kept, with the accepted saves, stand in the serial list in the order of the history.
 use Prim.Native.Nat.{ℕ}
 use mathlib.Core.Path.{_≡_, refl, ap}
 use mathlib.Core.Bool.{Bool, true, false, cond}
 use mathlib.Core.List.{List, [], _∷_, _++_}
-use Rattle.history.specs.Calls.{newHull, openHull, work, save, dropDraft, ask}
-use Rattle.history.specs.Runs.{Event, _⇒_, accepted}
+use Rattle.register.specs.Calls.{newHull, openHull, work, save, dropDraft, ask}
+use Rattle.history.specs.Replies.{accepted}
+use Rattle.history.specs.Runs.{Event, _⇒_}
 use Rattle.history.specs.History.{Role, itsOpen, itsCall, itsEnd, elsewhere, role, block, spot, serial}
 use Rattle.history.proofs.Blocks.{Known, an-open, some-work, vain-save, an-end, another, known}
 

@@ -1,4 +1,5 @@
--- A hull has had no accepted save since a desk opened it exactly when its count of accepted saves is what it was then: of any list of events. Assumes nothing.
+-- A hull has had no accepted save since a desk opened it exactly when its count of accepted saves is what it was then:
+-- of any list of events.
 use Prim.Native.Nat.{ℕ, suc, _<_}
 use native.Mathlib.Omega.{arith}
 use mathlib.Core.Path.{_≡_, refl, sym, ap, _∙_}

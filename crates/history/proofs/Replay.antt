@@ -1,5 +1,6 @@
--- A desk's draft and its block: wherever the draft's hull is as it was at the open, the calls of the block give that draft again, each with the reply that it had.
--- Assumes nothing.
+-- A desk's draft and its block: wherever the draft's hull is as it was at the open, the calls of the block give that
+-- draft again, each with the reply that it had.
+--
 use Prim.Native.Nat.{ℕ, _≤_, _<_}
 use native.Mathlib.Omega.{arith}
 use native.Mathlib.Nat.{le-refl}
@@ -14,13 +15,18 @@ use Rattle.answers.specs.declared.Answer.the-variants.{Count}
 use Rattle.memory.specs.Layout.{desks}
 use Rattle.memory.specs.Formed.{mostEdits}
 use Rattle.memory.proofs.Same.{same-or-not}
-use Rattle.history.specs.Calls.{Work, Call, openHull, work, Reply, says}
+use Rattle.register.specs.Calls.{Work, Call, openHull, work}
+use Rattle.history.specs.Replies.{Reply, says}
 use Rattle.history.specs.Runs.{Event, _⇒_, call}
 use Rattle.history.specs.History.{block, role}
 use Rattle.history.proofs.Tools.{at-or, self, none≢some, some-inj}
 use Rattle.history.proofs.Blocks.{saveless}
-use Rattle.history.proofs.Model.{Draft, Register, State, Outcome, workSays, store, opens, edited, fresh, stateOf, eventsOf}
-use Rattle.history.proofs.Rules.{Way, new-enters, new-unread, new-full, open-done, open-unknown, open-high, work-done, work-idle, work-high, save-done, save-spent, save-stale, save-idle, save-high, drop-done, drop-idle, drop-high, ask-done, ask-unknown, way-taken, by-ways}
+use Rattle.history.proofs.Model.{Draft, Register, State, Outcome, workSays, store, opens, edited, fresh, stateOf}
+use Rattle.history.proofs.Model.{eventsOf}
+use Rattle.history.proofs.Rules.{Way, new-enters, new-unread, new-full, open-done, open-unknown, open-high}
+use Rattle.history.proofs.Rules.{work-done, work-idle, work-high, save-done, save-spent, save-stale, save-idle}
+use Rattle.history.proofs.Rules.{save-high, drop-done, drop-idle, drop-high, ask-done, ask-unknown, way-taken}
+use Rattle.history.proofs.Rules.{by-ways}
 
 -- ---- a rule, as what it adds to a run
 
@@ -40,7 +46,8 @@ pub record Replays (d : ℕ) (x : Draft) (b : List Event) (cs : List Call) : Typ
   pub register : stateOf (map call b ++ cs) .register ≡ stateOf cs .register
   pub draft : stateOf (map call b ++ cs) .draft d ≡ some x
 
--- the draft x of desk d, made by the calls b: while it may still be saved, b has no save, and gives x wherever its hull is as it is here
+-- the draft x of desk d, made by the calls b: while it may still be saved, b has no save, and gives x wherever its hull
+-- is as it is here
 pub record Ready (R : Register) (d : ℕ) (x : Draft) (b : List Event) : Type 0 where
   pub desk : d < desks
   pub hull : x .hull < R .entered
@@ -95,7 +102,7 @@ Drafts s past = (d : ℕ) (x : Draft) → s .draft d ≡ some x → Ready (s .re
 
 ready-step : (s : State) (past : List Event) {c : Call} {t : State} {r : Reply} → Way s c t r → Drafts s past → Drafts t ((c ⇒ r) ∷ past)
 unfolding block role
-ready-step s past (new-enters k p e) f = λ d x e. let z = f d x e in kept _ z (omega arith) (rw (ne-eqb (x .hull) (s .register .entered) (omega (arith, z .hull))))
+ready-step s past (new-enters k r p e) f = λ d x e. let z = f d x e in kept _ z (omega arith) (rw (ne-eqb (x .hull) (s .register .entered) (omega (arith, z .hull))))
 ready-step s past (new-unread n at p e) f = f
 ready-step s past (new-full p) f = f
 ready-step s past (open-done {d = g} {h} p q) f =

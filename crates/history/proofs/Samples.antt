@@ -1,4 +1,4 @@
--- The starred samples of 01, cases 1 to 7 and 9, as one statement over one list of them. Assumes nothing.
+-- The starred samples of 01, cases 1 to 7 and 9, as one statement over one list of them.
 use mathlib.Core.Path.{_≡_, refl}
 use mathlib.Core.Bool.{Bool, true, false, _&&_}
 use mathlib.Core.List.{List, [], _∷_, _++_, map}
@@ -12,18 +12,22 @@ use Rattle.text.specs.Line.{readEntry, readNumbers, readLine}
 use Rattle.answers.specs.declared.Answer.{Answer}
 use Rattle.answers.specs.declared.Answer.the-variants.{Refused, Done, Count, Plate}
 use Rattle.sheet.specs.Sheet.{limitsOn, sheetLimits}
-use Rattle.sheet.specs.Reading.{readLines, readFits, readEnd, readRest, readSheet}
+use Rattle.form.specs.Parts.{kindOf, numbersOf}
+use Rattle.form.specs.Reading.{readRows, readParts, readForm}
+use Rattle.form.specs.Writing.{rowsText, partsText}
+use Rattle.sheet.specs.SheetText.{sheetForm, weightsFrom, fitRows, fitsOf, numbersOn, rowsOn, readSheet, sheetText}
 use Rattle.capacity.specs.Volume.{stationProduct, volumeN, netZ}
 use Rattle.capacity.specs.Weights.{addedUp, boatM}
-use Rattle.capacity.specs.PlateC.{exactX, markedC, rising, rowsRight, rowFor, lacksRow, engineWeight, liveLoad, persons, lacksTests, plateC}
+use Rattle.capacity.specs.PlateC.{exactX, markedC, rising, rowsRight, rowFor, lacksRow, engineWeight, liveLoad, persons}
+use Rattle.capacity.specs.PlateC.{lacksTests, plateC}
 use Rattle.capacity.specs.PlateA.{inboardX, loadX, markedA, formulaWatts, powerA, plateA}
-use Rattle.capacity.specs.Samples.{words, seated, load, power, inboard, Case, marks, agrees, refuses, second-is, answer-c, holds-of, stands, cases}
+use Rattle.capacity.specs.Samples.{words, seated, load, power, inboard, Case, marks, agrees, refuses, second-is}
+use Rattle.capacity.specs.Samples.{answer-c, holds-of, stands, cases}
 use Rattle.memory.specs.Formed.{each, hullOk, draftOk, formed}
 use Rattle.memory.specs.Updates.{freshWords, entered, opened, saved, dropped}
-use Rattle.register.specs.Refusals.{deskRefusal}
-use Rattle.register.specs.Hulls.{roomRefusal}
-use Rattle.register.specs.Drafts.{openRefusal, saveRefusal}
-use Rattle.history.specs.Calls.{Call, newHull, openHull, save, reply, next}
+use Rattle.register.specs.Refusals.{deskRefusal, roomRefusal, openRefusal}
+use Rattle.register.specs.Calls.{Call, newHull, openHull, save}
+use Rattle.history.specs.Replies.{reply, next}
 
 -- ---- what a case is of: a sheet, or a run of calls from a fresh register, each with the number that it answers or is refused with
 
@@ -73,5 +77,10 @@ ninth = four-saves ++ (answers (openHull 0 0) 4 ∷ answers (openHull 1 0) 4 ∷
 
 -- Every starred case is as 01 says.
 starred-all : all-right (map of-sheet cases ++ (of-run ninth ∷ [])) ≡ true
-unfolding all-right right ninth four-saves turns-right text counts stands cases holds-of answer-c marks agrees refuses second-is seated load power inboard words allHold sheetLimits limitsOn stationProduct volumeN netZ addedUp boatM exactX markedC rising rowsRight rowFor lacksRow engineWeight liveLoad persons lacksTests plateC inboardX loadX markedA formulaWatts powerA plateA reply next freshWords entered opened saved dropped each hullOk draftOk formed deskRefusal roomRefusal openRefusal saveRefusal readSheet readLines readLine agreed readNumbers readEntry fieldOf numberOf restOf readRest readFits readEnd
+unfolding all-right right ninth four-saves turns-right text counts stands cases holds-of answer-c marks agrees
+    refuses second-is seated load power inboard words allHold sheetLimits limitsOn stationProduct volumeN netZ
+    addedUp boatM exactX markedC rising rowsRight rowFor lacksRow engineWeight liveLoad persons lacksTests plateC
+    inboardX loadX markedA formulaWatts powerA plateA reply next freshWords entered opened saved dropped each
+    hullOk draftOk formed deskRefusal roomRefusal openRefusal readSheet sheetForm numbersOn numbersOf fitsOf
+    weightsFrom readForm readParts readRows kindOf readLine agreed readNumbers readEntry fieldOf numberOf restOf
 starred-all = refl

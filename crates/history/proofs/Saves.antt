@@ -1,4 +1,4 @@
--- Saves in the model, by the history alone: those that are due are taken, and no others. Assumes nothing.
+-- Saves in the model, by the history alone: those that are due are taken, and no others.
 use Prim.Native.Nat.{ℕ, suc, _≤_, _<_}
 use native.Mathlib.Omega.{arith}
 use mathlib.Core.Path.{_≡_, sym, ap, _∙_}
@@ -7,8 +7,9 @@ use mathlib.Core.List.{List}
 use mathlib.Core.Option.{none, some}
 use Rattle.answers.specs.declared.Answer.the-variants.{Count}
 use Rattle.memory.specs.Formed.{mostEdits}
-use Rattle.history.specs.Calls.{Call, save, Reply, says}
-use Rattle.history.specs.Runs.{Event, accepted}
+use Rattle.register.specs.Calls.{Call, save}
+use Rattle.history.specs.Replies.{Reply, says, accepted}
+use Rattle.history.specs.Runs.{Event}
 use Rattle.history.specs.History.{block}
 use Rattle.history.specs.Told.{Opening, opening, savesOf, quietSince}
 use Rattle.history.specs.Demand.{Due}

@@ -1,17 +1,21 @@
--- The list of demand 3, run from fresh in the model: the same register, and the same reply to each call kept. Assumes nothing.
+-- The list of demand 3, run from fresh in the model: the same register, and the same reply to each call kept.
 use Prim.Native.Nat.{ℕ, suc, _≤_, _<_}
 use mathlib.Core.Path.{_≡_, refl, ap, _∙_}
 use mathlib.Core.List.{List, [], _∷_, _++_, map}
-use Rattle.text.specs.declared.LineRead.the-variants.{Taken, Fault}
+use Rattle.form.specs.Outcome.{took, lost}
+use Rattle.answers.specs.Refusals.{full, noHull}
 use Rattle.answers.specs.declared.Answer.the-variants.{Refused, Count}
-use Rattle.sheet.specs.Reading.{readSheet}
+use Rattle.sheet.specs.SheetText.{readSheet}
 use Rattle.memory.specs.Layout.{mostHulls}
 use Rattle.memory.specs.Formed.{mostEdits}
-use Rattle.history.specs.Calls.{Ask, Call, newHull, save, ask, Reply, says}
+use Rattle.register.specs.Calls.{Ask, Call, newHull, save, ask}
+use Rattle.history.specs.Replies.{Reply, says}
 use Rattle.history.specs.Runs.{Event, _⇒_, call}
 use Rattle.history.specs.History.{spot, serial}
-use Rattle.history.proofs.Model.{Draft, Register, State, askSays, askRefused, enter, store, stateOf, eventsOf}
-use Rattle.history.proofs.Rules.{Way, new-enters, new-unread, new-full, open-done, open-unknown, open-high, work-done, work-idle, work-high, save-done, save-spent, save-stale, save-idle, save-high, drop-done, drop-idle, drop-high, ask-done, ask-unknown, by-ways}
+use Rattle.history.proofs.Model.{Draft, Register, State, askSays, refusal, enter, store, stateOf, eventsOf}
+use Rattle.history.proofs.Rules.{Way, new-enters, new-unread, new-full, open-done, open-unknown, open-high}
+use Rattle.history.proofs.Rules.{work-done, work-idle, work-high, save-done, save-spent, save-stale, save-idle}
+use Rattle.history.proofs.Rules.{save-high, drop-done, drop-idle, drop-high, ask-done, ask-unknown, by-ways}
 use Rattle.history.proofs.Replay.{state-by, events-by, Replays, Ready, Drafts, drafts}
 
 -- from fresh, the calls in es end with the register R, and are answered as es says
@@ -22,17 +26,17 @@ pub record RunsTo (R : Register) (es : List Event) : Type 0 where
 -- ---- one call more
 
 module _ {R : Register} {es : List Event} (g : RunsTo R es) where
-  enters-runs : (t : List ℕ) (k : ℕ) → R .entered < mostHulls → readSheet t .ended ≡ Taken k → RunsTo (enter R t) ((newHull t ⇒ says (Count (R .entered))) ∷ es)
-  enters-runs t k p e =
+  enters-runs : (t : List ℕ) (k : ℕ) (r : List ℕ) → R .entered < mostHulls → readSheet t ≡ took k r → RunsTo (enter R t) ((newHull t ⇒ says (Count (R .entered))) ∷ es)
+  enters-runs t k r p e =
       let q : stateOf (map call es) .register .entered < mostHulls = rw (g .register) p in
-      record { replies = rw (events-by (map call es) (new-enters {t = t} k q e), g .register, g .replies); register = rw (state-by (map call es) (new-enters {t = t} k q e), g .register) }
+      record { replies = rw (events-by (map call es) (new-enters {t = t} k r q e), g .register, g .replies); register = rw (state-by (map call es) (new-enters {t = t} k r q e), g .register) }
 
-  unread-runs : (t : List ℕ) (n at : ℕ) → R .entered < mostHulls → readSheet t .ended ≡ Fault n at → RunsTo R ((newHull t ⇒ says (Refused n)) ∷ es)
+  unread-runs : (t : List ℕ) (n at : ℕ) → R .entered < mostHulls → readSheet t ≡ lost n at → RunsTo R ((newHull t ⇒ says (Refused n)) ∷ es)
   unread-runs t n at p e =
       let q : stateOf (map call es) .register .entered < mostHulls = rw (g .register) p in
       record { replies = rw (events-by (map call es) (new-unread {t = t} n at q e), g .replies); register = rw (state-by (map call es) (new-unread {t = t} n at q e)) (g .register) }
 
-  full-runs : (t : List ℕ) → mostHulls ≤ R .entered → RunsTo R ((newHull t ⇒ says (Refused 4)) ∷ es)
+  full-runs : (t : List ℕ) → mostHulls ≤ R .entered → RunsTo R ((newHull t ⇒ says (Refused full)) ∷ es)
   full-runs t p =
       let q : mostHulls ≤ stateOf (map call es) .register .entered = rw (g .register) p in
       record { replies = rw (events-by (map call es) (new-full {t = t} q), g .replies); register = rw (state-by (map call es) (new-full {t = t} q)) (g .register) }
@@ -42,7 +46,7 @@ module _ {R : Register} {es : List Event} (g : RunsTo R es) where
       let l : h < stateOf (map call es) .register .entered = rw (g .register) p in
       record { replies = rw (events-by (map call es) (ask-done {q = q} l), g .register, g .replies); register = rw (state-by (map call es) (ask-done {q = q} l)) (g .register) }
 
-  unasked-runs : (h : ℕ) (q : Ask) → R .entered ≤ h → RunsTo R ((ask h q ⇒ askRefused q) ∷ es)
+  unasked-runs : (h : ℕ) (q : Ask) → R .entered ≤ h → RunsTo R ((ask h q ⇒ refusal (ask h q) noHull) ∷ es)
   unasked-runs h q p =
       let l : stateOf (map call es) .register .entered ≤ h = rw (g .register) p in
       record { replies = rw (events-by (map call es) (ask-unknown {q = q} l), g .replies); register = rw (state-by (map call es) (ask-unknown {q = q} l)) (g .register) }
@@ -69,7 +73,7 @@ saves-runs {R} {es} {d} {x} {b} r u l g =
 
 serial-step : (s : State) (past : List Event) {c : Call} {t : State} {r : Reply} → Way s c t r → Drafts s past → RunsTo (s .register) (serial past) → RunsTo (t .register) (serial ((c ⇒ r) ∷ past))
 unfolding serial spot
-serial-step s past (new-enters {t} k p e) f g = enters-runs g t k p e
+serial-step s past (new-enters {t} k r p e) f g = enters-runs g t k r p e
 serial-step s past (new-unread {t} n at p e) f g = unread-runs g t n at p e
 serial-step s past (new-full {t} p) f g = full-runs g t p
 serial-step s past (open-done p q) f g = g

@@ -1,5 +1,6 @@
--- A memory shows a state of the model: the same count, hulls and drafts. Fresh start shows the model's start; a change of one desk's slot shows that desk changed.
--- Assumes nothing.
+-- A memory shows a state of the model: the same count, hulls and drafts. Fresh start shows the model's start; a change
+-- of one desk's slot shows that desk changed.
+--
 use Prim.Native.Nat.{ℕ, _<_}
 use native.Mathlib.Omega.{arith}
 use mathlib.Core.Path.{_≡_, refl, sym, ap, _∙_}
@@ -8,7 +9,8 @@ use mathlib.Core.List.{List}
 use mathlib.Core.Option.{Option, none, some}
 use lib.Dec.{eqb}
 use borrow.Author.Tests.{eqb-true, eqb-false}
-use Rattle.memory.specs.Layout.{mostHulls, desks, editAt, heldAt, hullCount, edit, hullSheet, held, draftHull, opening, draftSheet}
+use Rattle.memory.specs.Layout.{mostHulls, desks, editAt, heldAt, hullCount, edit, hullSheet, held, draftHull, opening}
+use Rattle.memory.specs.Layout.{draftSheet}
 use Rattle.memory.specs.Formed.{formed}
 use Rattle.memory.specs.Updates.{freshWords}
 use Rattle.memory.proofs.Sound.{sound, held-draft}

@@ -1,4 +1,5 @@
--- DEMAND 3: the theorems. Of any memory m of the right size, fresh start on it, and any list of calls after it, newest first. Assumes nothing.
+-- DEMAND 3: the theorems. Of any memory m of the right size, fresh start on it, and any list of calls after it, newest
+-- first.
 use Prim.Native.Nat.{ℕ, _≤_, _<_}
 use mathlib.Core.Path.{_≡_, refl, sym, ap, _∙_}
 use mathlib.Core.Bool.{true}
@@ -9,8 +10,9 @@ use borrow.Author.Tests.{ne-eqb}
 use Rattle.memory.specs.Layout.{registerWords, hullCount, edit}
 use Rattle.memory.specs.Formed.{mostEdits, formed}
 use Rattle.memory.proofs.Sound
-use Rattle.history.specs.Calls.{Call, save, Reply, reply}
-use Rattle.history.specs.Runs.{call, after, history, taken, accepted}
+use Rattle.register.specs.Calls.{Call, save}
+use Rattle.history.specs.Replies.{Reply, reply, accepted}
+use Rattle.history.specs.Runs.{call, after, history}
 use Rattle.history.specs.History.{block, serial}
 use Rattle.history.specs.Told.{Opening, savesOf}
 use Rattle.history.specs.Demand.{Due, SaveDoes, Gives, Demand}
@@ -71,11 +73,13 @@ module _ (m : List ℕ) (z : length m ≡ registerWords) where
 
   -- A save is accepted exactly when the history says that it is due.
   pub save-iff : (cs : List Call) (d : ℕ) → (accepted (reply (after m cs) (save d)) ≡ true) ↔ Due d (history m cs)
-  save-iff cs d =
-      (λ a. rw (run-history m z cs) (save-only cs d (few cs) (rw (run-replies m z cs (save d)) at a)), λ u. ap taken (save-due-does cs d (u .draft) (due-taken cs d u) .answer))
+  save-iff cs d = (
+    λ a. rw (run-history m z cs) (save-only cs d (few cs) (rw (run-replies m z cs (save d)) at a)),
+    λ u. rw (save-due-does cs d (u .draft) (due-taken cs d u) .answer) refl,
+  )
 
-  -- The accepted save answers the count of accepted saves, which the hull then has as its edit number, and the hull holds its sheet at the opening with the draft's
-  -- accepted work done on it; every other hull is as it was.
+  -- The accepted save answers the count of accepted saves, which the hull then has as its edit number, and the hull
+  -- holds its sheet at the opening with the draft's accepted work done on it; every other hull is as it was.
   pub save-does : (cs : List Call) (d : ℕ) (u : Due d (history m cs))
       → SaveDoes d (u .draft) (history m cs) (after m (map call (u .draft .before))) (after m cs) (reply (after m cs) (save d) .answer) (after m (save d ∷ cs))
   save-does cs d u = save-due-does cs d (u .draft) (due-taken cs d u)
@@ -90,7 +94,8 @@ module _ (m : List ℕ) (z : length m ≡ registerWords) where
 
   -- ---- (b) the list of demand 3
 
-  -- The serial list of a history, run from fresh: its calls reply as they did, and it leaves the hulls as they were left, edit numbers too.
+  -- The serial list of a history, run from fresh: its calls reply as they did, and it leaves the hulls as they were
+  -- left, edit numbers too.
   pub serial-gives : (cs : List Call) → Gives m (serial (history m cs)) (after m cs)
   serial-gives cs =
       let ks : List Call = map call (serial (eventsOf cs)) in

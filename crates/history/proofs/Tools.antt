@@ -1,4 +1,4 @@
--- Small tools of the proofs: tests and options. Assumes nothing.
+-- Small tools of the proofs: tests and options.
 use Prim.Native.Nat.{ℕ, _≤_, _<_}
 use native.Mathlib.Omega.{arith}
 use mathlib.Core.Path.{_≡_, refl, sym, subst}

@@ -1,4 +1,4 @@
--- 00, demand 3, whole: of every memory m of the right size, fresh start on it, and every list of calls after it. Assumes nothing: these are definitions.
+-- 00, demand 3, whole: of every memory m of the right size, fresh start on it, and every list of calls after it.
 use Prim.Native.Nat.{ℕ, suc, _<_}
 use mathlib.Core.Path.{_≡_}
 use mathlib.Core.Bool.{true}
@@ -9,20 +9,22 @@ use Rattle.answers.specs.declared.Answer.{Answer}
 use Rattle.answers.specs.declared.Answer.the-variants.{Count}
 use Rattle.memory.specs.Layout.{hullCount, edit, hullSheet}
 use Rattle.memory.specs.Formed.{mostEdits}
-use Rattle.history.specs.Calls.{Call, save, reply}
-use Rattle.history.specs.Runs.{Event, call, after, history, accepted}
+use Rattle.register.specs.Calls.{Call, save}
+use Rattle.history.specs.Replies.{reply, accepted}
+use Rattle.history.specs.Runs.{Event, call, after, history}
 use Rattle.history.specs.History.{block, serial}
 use Rattle.history.specs.Told.{Opening, opening, savesOf, quietSince, redo}
 
--- (a) a save by desk d is due: there is a draft, no save of its hull was accepted after its open, and 65,535 of them were not yet
+-- (a) a save by desk d is due: there is a draft, no save of its hull was accepted after its open, and 65,535 of them
+-- were not yet
 pub record Due (d : ℕ) (past : List Event) : Type 0 where
   pub draft : Opening
   pub holds : opening d past ≡ some draft
   pub quiet : quietSince d (draft .hull) past ≡ true
   pub room : savesOf (draft .hull) past < mostEdits
 
--- (a) what an accepted save by desk d, of the draft opened as o says, does: by the history and the memory before it, the memory at the opening, its answer, and the
--- memory after it
+-- (a) what an accepted save by desk d, of the draft opened as o says, does: by the history and the memory before it,
+-- the memory at the opening, its answer, and the memory after it
 pub record SaveDoes (d : ℕ) (o : Opening) (past : List Event) (opened before : List ℕ) (said : Answer) (saved : List ℕ) : Type 0 where
   -- it answers the edit number that the hull now has, and that counts the accepted saves
   pub answer : said ≡ Count (suc (savesOf (o .hull) past))

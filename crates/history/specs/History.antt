@@ -1,14 +1,16 @@
--- 00, demand 3 (b): an accepted save stands with the open and the calls of its draft as one block, where the save was; new hulls, plates and texts stand where they
--- were. Histories are newest first. Assumes nothing: these are definitions.
+-- 00, demand 3 (b): an accepted save stands with the open and the calls of its draft as one block, where the save was;
+-- new hulls, plates and texts stand where they were. Histories are newest first.
 use Prim.Native.Nat.{ℕ}
 use mathlib.Core.Bool.{cond, _&&_}
 use mathlib.Core.List.{List, [], _∷_, _++_}
 use lib.Dec.{eqb}
-use Rattle.history.specs.Calls.{newHull, openHull, work, save, dropDraft, ask}
-use Rattle.history.specs.Runs.{Event, _⇒_, accepted}
+use Rattle.register.specs.Calls.{newHull, openHull, work, save, dropDraft, ask}
+use Rattle.history.specs.Replies.{accepted}
+use Rattle.history.specs.Runs.{Event, _⇒_}
 
--- what an event is to the draft of desk d: its open, the accepted one that made it; a call on it, be it a trial or a refused save; its end, an accepted save or drop;
--- or nothing to it, as every call of another desk, a refused open or drop, and all that is asked of hulls
+-- what an event is to the draft of desk d: its open, the accepted one that made it; a call on it, be it a trial or a
+-- refused save; its end, an accepted save or drop; or nothing to it, as every call of another desk, a refused open or
+-- drop, and all that is asked of hulls
 pub data Role : Type 0 where
   itsOpen : Role
   itsCall : Role
@@ -23,13 +25,15 @@ role d (save e ⇒ r) = cond (eqb d e) (cond (accepted r) itsEnd itsCall) elsewh
 role d (dropDraft e ⇒ r) = cond (eqb d e && accepted r) itsEnd elsewhere
 role d (ask h q ⇒ r) = elsewhere
 
--- the open of desk d's draft and the calls on it. (Of a desk that holds none it is the work and the saves that were refused since its last. The block of its next
--- draft goes back to that draft's open and no further, so none of them is ever taken.)
+-- the open of desk d's draft and the calls on it. (Of a desk that holds none it is the work and the saves that were
+-- refused since its last. The block of its next draft goes back to that draft's open and no further, so none of them is
+-- ever taken.)
 unfoldable pub block : ℕ → List Event → List Event
 block d [] = []
 block d (e ∷ past) = elim (role d e) [ itsOpen ↦ e ∷ [] | itsCall ↦ e ∷ block d past | itsEnd ↦ [] | elsewhere ↦ block d past ]
 
--- where an event stands in the serial list: at its own place, alone; at its own place, after the block of a desk's draft; or at none, unless it is in a block
+-- where an event stands in the serial list: at its own place, alone; at its own place, after the block of a desk's
+-- draft; or at none, unless it is in a block
 pub data Spot : Type 0 where
   alone : Spot
   withBlock : ℕ → Spot

@@ -1,13 +1,13 @@
--- 00, demand 3, once more with the oldest call first. Assumes nothing: these are definitions.
+-- 00, demand 3, once more with the oldest call first.
 use Prim.Native.Nat.{ℕ, _<_}
 use mathlib.Core.Path.{_≡_}
 use mathlib.Core.Bool.{true}
 use mathlib.Core.Logic.{_↔_}
 use mathlib.Core.List.{List, [], _∷_, map, reverse}
 use Rattle.memory.specs.Layout.{hullCount, edit}
-use Rattle.register.specs.Hulls.{freshMemory}
-use Rattle.history.specs.Calls.{Call, save, reply, next}
-use Rattle.history.specs.Runs.{Event, _⇒_, call, accepted}
+use Rattle.register.specs.Calls.{freshStep, Call, save}
+use Rattle.history.specs.Replies.{reply, next, accepted}
+use Rattle.history.specs.Runs.{Event, _⇒_, call}
 use Rattle.history.specs.History.{serial}
 use Rattle.history.specs.Told.{savesOf}
 use Rattle.history.specs.Demand.{Due, SaveDoes, SameHulls}
@@ -25,16 +25,17 @@ lastly m (c ∷ cs) = lastly (next m c) cs
 unfoldable pub order : List Event → List Event
 order es = reverse (serial (reverse es))
 
--- run from fresh, the calls of the transcript es in serial order each have the reply that they had, and leave the hulls of the memory r
+-- run from fresh, the calls of the transcript es in serial order each have the reply that they had, and leave the hulls
+-- of the memory r
 pub record GivesInOrder (m : List ℕ) (es : List Event) (r : List ℕ) : Type 0 where
-  pub replies : transcript (freshMemory m) (map call (order es)) ≡ order es
-  pub hulls : SameHulls (lastly (freshMemory m) (map call (order es))) r
+  pub replies : transcript (freshStep m .memory) (map call (order es)) ≡ order es
+  pub hulls : SameHulls (lastly (freshStep m .memory) (map call (order es))) r
 
 -- the demand, of a memory that was m before its fresh start, and of any calls after it
 pub record DemandInOrder (m : List ℕ) : Type 0 where
-  pub accepts : (cs : List Call) (d : ℕ) → (accepted (reply (lastly (freshMemory m) cs) (save d)) ≡ true) ↔ Due d (reverse (transcript (freshMemory m) cs))
-  pub saves : (cs : List Call) (d : ℕ) (u : Due d (reverse (transcript (freshMemory m) cs)))
-      → SaveDoes d (u .draft) (reverse (transcript (freshMemory m) cs)) (lastly (freshMemory m) (reverse (map call (u .draft .before)))) (lastly (freshMemory m) cs)
-      (reply (lastly (freshMemory m) cs) (save d) .answer) (next (lastly (freshMemory m) cs) (save d))
-  pub counts : (cs : List Call) (h : ℕ) → h < hullCount (lastly (freshMemory m) cs) → edit (lastly (freshMemory m) cs) h ≡ savesOf h (reverse (transcript (freshMemory m) cs))
-  pub serves : (cs : List Call) → GivesInOrder m (transcript (freshMemory m) cs) (lastly (freshMemory m) cs)
+  pub accepts : (cs : List Call) (d : ℕ) → (accepted (reply (lastly (freshStep m .memory) cs) (save d)) ≡ true) ↔ Due d (reverse (transcript (freshStep m .memory) cs))
+  pub saves : (cs : List Call) (d : ℕ) (u : Due d (reverse (transcript (freshStep m .memory) cs)))
+      → SaveDoes d (u .draft) (reverse (transcript (freshStep m .memory) cs)) (lastly (freshStep m .memory) (reverse (map call (u .draft .before)))) (lastly (freshStep m .memory) cs)
+      (reply (lastly (freshStep m .memory) cs) (save d) .answer) (next (lastly (freshStep m .memory) cs) (save d))
+  pub counts : (cs : List Call) (h : ℕ) → h < hullCount (lastly (freshStep m .memory) cs) → edit (lastly (freshStep m .memory) cs) h ≡ savesOf h (reverse (transcript (freshStep m .memory) cs))
+  pub serves : (cs : List Call) → GivesInOrder m (transcript (freshStep m .memory) cs) (lastly (freshStep m .memory) cs)

@@ -1,5 +1,5 @@
--- What a history tells by itself, with no memory in sight: the draft that a desk holds, the accepted saves of a hull, and the sheet that work makes of a sheet. 01,
--- Calls on the register. Histories are newest first. Assumes nothing: these are definitions.
+-- What a history tells by itself, with no memory in sight: the draft that a desk holds, the accepted saves of a hull,
+-- and the sheet that work makes of a sheet. 01, Calls on the register. Histories are newest first.
 use Prim.Native.Nat.{ℕ, suc}
 use mathlib.Core.Bool.{Bool, true, false, _&&_, cond}
 use mathlib.Core.List.{List, [], _∷_}
@@ -8,8 +8,9 @@ use lib.Dec.{eqb}
 use lib.ListN.{set}
 use Rattle.sheet.specs.Places.{fittingWord}
 use Rattle.register.specs.Refusals.{sheetOf}
-use Rattle.history.specs.Calls.{Work, put, takeOff, replace, tryPlate, newHull, openHull, work, save, dropDraft, ask}
-use Rattle.history.specs.Runs.{Event, _⇒_, accepted}
+use Rattle.register.specs.Calls.{Work, put, takeOff, replace, tryPlate, newHull, openHull, work, save, dropDraft, ask}
+use Rattle.history.specs.Replies.{accepted}
+use Rattle.history.specs.Runs.{Event, _⇒_}
 use Rattle.history.specs.History.{itsOpen, itsCall, itsEnd, elsewhere, role}
 
 -- ---- drafts and saves

@@ -1,110 +1,50 @@
--- What comes first. The memory, the room, the desk, the hull and the draft are judged before what only this call asks, whatever that would say; a memory that is not well
--- formed is 1. And writing a hull never answers 3: its sheet is within the limits, or the memory was refused. Assumes nothing.
-use mathlib.Core.Path.{_≡_, refl, sym, _∙_}
+-- What comes first. What calls share decides before what only this call asks, whatever that would say; and a memory
+-- that is not well formed comes before all. And writing a hull is never outside the limits: its sheet is within them,
+-- or the memory was refused.
+use mathlib.Core.Path.{_≡_, refl}
 use mathlib.Core.Bool.{Bool, true, false, cond}
 use mathlib.Core.List.{List, _∷_}
 use Prim.Native.Nat.{ℕ, _<_}
 use native.Mathlib.Omega.{arith}
-use borrow.Author.Tests.{ltb-true, ne-eqb}
+use borrow.Author.Tests.{eqb-true, ne-eqb}
 use lib.Dec.{eqb, leb, ltb}
 use lib.ListN.{length}
-use Rattle.answers.specs.Refusals.{outsideLimits, noRoom}
+use Rattle.answers.specs.Refusals.{badMemory, outsideLimits, noRoom}
 use Rattle.answers.specs.declared.Answer.{Answer}
 use Rattle.answers.specs.declared.Answer.the-variants.{Refused, Done, Count, Plate}
-use Rattle.sheet.specs.Sheet.{sheetOk, sheetText}
-use Rattle.sheet.specs.Calls.{writeAnswer}
+use Rattle.ground.proofs.Booleans.{either}
+use Rattle.sheet.specs.Sheet.{sheetOk}
+use Rattle.sheet.specs.SheetText.{sheetText}
+use Rattle.sheet.specs.TextCalls.{writeAnswer}
 use Rattle.sheet.proofs.Words.{numbered}
-use Rattle.capacity.specs.Kinds.{PlateKind}
 use Rattle.memory.specs.Layout.{hullCount, hullSheet}
 use Rattle.memory.specs.Formed.{formed}
 use Rattle.memory.proofs.Sound.{sound}
-use Rattle.register.specs.Refusals.{hullRefusal, deskRefusal, orNext, orRefused}
-use Rattle.register.specs.Hulls.{roomRefusal, newAnswer, hullPlate, hullWritten}
-use Rattle.register.specs.Drafts.{openAnswer, openRefusal, putRefusal, putAnswer, takeRefusal, takeAnswer, replaceAnswer, trial, saveRefusal, saveAnswer, dropAnswer}
-use Rattle.register.proofs.Refusals.{hull-unformed, desk-unformed, room-unformed}
-use Rattle.register.proofs.Own.{open-unformed}
+use Rattle.register.specs.Refusals.{hullRefusal}
+use Rattle.register.specs.Calls.{write, Call, newHull, openHull, work, save, dropDraft, ask, shared, step}
+use Rattle.register.proofs.Refusals.{hull-unformed, desk-unformed, room-unformed, open-unformed, hull-goes}
 
--- ---- what calls share decides
-
-decides : (n : ℕ) (a : Answer) → (n ≡ 0 → ⊥) → orRefused n a ≡ Refused n
-decides n a h = rw (ne-eqb n 0 h) refl
-
-decides-next : (n k : ℕ) → (n ≡ 0 → ⊥) → orNext n k ≡ n
-decides-next n k h = rw (ne-eqb n 0 h) refl
-
-pub room-first : (m t : List ℕ) → (roomRefusal m ≡ 0 → ⊥) → newAnswer m t ≡ Refused (roomRefusal m)
-room-first m t = decides (roomRefusal m) _
-
-module _ (m : List ℕ) (d : ℕ) (h : deskRefusal m d ≡ 0 → ⊥) where
-  pub put-first : (line w : ℕ) → putAnswer m d line w ≡ Refused (deskRefusal m d)
-  unfolding putRefusal
-  put-first line w = rw (decides-next (deskRefusal m d) _ h) (decides (deskRefusal m d) _ h)
-
-  pub take-first : (line : ℕ) → takeAnswer m d line ≡ Refused (deskRefusal m d)
-  unfolding takeRefusal
-  take-first line = rw (decides-next (deskRefusal m d) _ h) (decides (deskRefusal m d) _ h)
-
-  pub replace-first : (t : List ℕ) → replaceAnswer m d t ≡ Refused (deskRefusal m d)
-  replace-first t = decides (deskRefusal m d) _ h
-
-  pub trial-first : (k : PlateKind) → trial m d k ≡ Refused (deskRefusal m d)
-  trial-first k = decides (deskRefusal m d) _ h
-
-  pub save-first : saveAnswer m d ≡ Refused (deskRefusal m d)
-  unfolding saveRefusal
-  save-first = rw (decides-next (deskRefusal m d) _ h) (decides (deskRefusal m d) _ h)
-
-  pub drop-first : dropAnswer m d ≡ Refused (deskRefusal m d)
-  drop-first = decides (deskRefusal m d) _ h
-
-module _ (m : List ℕ) (i : ℕ) (h : hullRefusal m i ≡ 0 → ⊥) where
-  pub plate-first : (k : PlateKind) → hullPlate m i k ≡ Refused (hullRefusal m i)
-  plate-first k = decides (hullRefusal m i) _ h
-
-  pub written-first : (room : ℕ) → hullWritten m i room ≡ Refused (hullRefusal m i)
-  written-first room = decides (hullRefusal m i) _ h
+pub shared-first : (m : List ℕ) (c : Call) → (shared m c ≡ 0 → ⊥) → step m c .answer ≡ Refused (shared m c)
+shared-first m c n = rw (ne-eqb (shared m c) 0 n) refl
 
 -- ---- a memory that is not well formed
 
-is-one : {a : Answer} {n : ℕ} → ((n ≡ 0 → ⊥) → a ≡ Refused n) → 1 ≡ n → a ≡ Refused 1
-is-one f e = f (λ z. omega arith) ∙ rw (sym e) refl
+shared-unformed : (m : List ℕ) (c : Call) → formed m ≡ false → badMemory ≡ shared m c
+shared-unformed m (newHull t) e = room-unformed m e
+shared-unformed m (openHull d h) e = open-unformed m d h e
+shared-unformed m (work d w) e = desk-unformed m d e
+shared-unformed m (save d) e = desk-unformed m d e
+shared-unformed m (dropDraft d) e = desk-unformed m d e
+shared-unformed m (ask h q) e = hull-unformed m h e
 
-module _ (m : List ℕ) (e : formed m ≡ false) where
-  pub new-unformed : (t : List ℕ) → newAnswer m t ≡ Refused 1
-  new-unformed t = is-one (room-first m t) (room-unformed m e)
-
-  pub opens-unformed : (d i : ℕ) → openAnswer m d i ≡ Refused 1
-  opens-unformed d i = is-one (decides (openRefusal m d i) _) (open-unformed m d i e)
-
-  pub put-unformed : (d line w : ℕ) → putAnswer m d line w ≡ Refused 1
-  put-unformed d line w = is-one (λ h. put-first m d h line w) (desk-unformed m d e)
-
-  pub take-unformed : (d line : ℕ) → takeAnswer m d line ≡ Refused 1
-  take-unformed d line = is-one (λ h. take-first m d h line) (desk-unformed m d e)
-
-  pub replace-unformed : (d : ℕ) (t : List ℕ) → replaceAnswer m d t ≡ Refused 1
-  replace-unformed d t = is-one (λ h. replace-first m d h t) (desk-unformed m d e)
-
-  pub trial-unformed : (d : ℕ) (k : PlateKind) → trial m d k ≡ Refused 1
-  trial-unformed d k = is-one (λ h. trial-first m d h k) (desk-unformed m d e)
-
-  pub save-unformed : (d : ℕ) → saveAnswer m d ≡ Refused 1
-  save-unformed d = is-one (save-first m d) (desk-unformed m d e)
-
-  pub drop-unformed : (d : ℕ) → dropAnswer m d ≡ Refused 1
-  drop-unformed d = is-one (drop-first m d) (desk-unformed m d e)
-
-  pub plate-unformed : (i : ℕ) (k : PlateKind) → hullPlate m i k ≡ Refused 1
-  plate-unformed i k = is-one (λ h. plate-first m i h k) (hull-unformed m i e)
-
-  pub written-unformed : (i room : ℕ) → hullWritten m i room ≡ Refused 1
-  written-unformed i room = is-one (λ h. written-first m i h room) (hull-unformed m i e)
+pub memory-first : (m : List ℕ) (c : Call) → formed m ≡ false → step m c .answer ≡ Refused badMemory
+memory-first m c e = rw (← shared-unformed m c e) refl
 
 -- ---- writing a hull
 
 -- an entered hull's sheet is within the limits, its number included
-pub hull-within : (m : List ℕ) (i : ℕ) → formed m ≡ true → i < hullCount m → sheetOk (i ∷ hullSheet m i) ≡ true
-hull-within m i e l = let s = sound m e in numbered i (hullSheet m i) (omega (arith, s .few)) (s .hulls i l .sheet)
+pub hull-within : (m : List ℕ) (h : ℕ) → formed m ≡ true → h < hullCount m → sheetOk (h ∷ hullSheet m h) ≡ true
+hull-within m h e l = let s = sound m e in numbered h (hullSheet m h) (omega (arith, s .few)) (s .hulls h l .sheet)
 
 abbrev isOutside : Answer → Bool
 isOutside (Refused number) = eqb number outsideLimits
@@ -112,15 +52,26 @@ isOutside Done = false
 isOutside (Count n) = false
 isOutside (Plate a b) = false
 
-pub never-outside : (m : List ℕ) (i room : ℕ) → isOutside (hullWritten m i room) ≡ false
-unfolding hullRefusal
-never-outside m i room = go (formed m) (ltb i (hullCount m)) refl refl
-  where
-    room-or-not : (u : Bool) (n : ℕ) → isOutside (cond u (Count n) (Refused noRoom)) ≡ false
-    room-or-not true n = refl
-    room-or-not false n = refl
+abbrev Inside : Answer → Type 0
+Inside a = isOutside a ≡ false
 
-    go : (f t : Bool) → formed m ≡ f → ltb i (hullCount m) ≡ t → isOutside (orRefused (cond f (cond t 0 5) 1) (writeAnswer (i ∷ hullSheet m i) room)) ≡ false
-    go true true e l = rw (hull-within m i e (ltb-true i (hullCount m) l)) (room-or-not (leb (length (sheetText (i ∷ hullSheet m i))) room) _)
-    go true false e l = refl
-    go false t e l = refl
+hull-inside : (m : List ℕ) (h : ℕ) → Inside (Refused (hullRefusal m h))
+unfolding hullRefusal
+hull-inside m h = either P (formed m) (either P (ltb h (hullCount m)) refl refl) refl
+  where
+    P : ℕ → Type 0
+    P n = Inside (Refused n)
+
+pub never-outside : (m : List ℕ) (h : ℕ) (out : List ℕ) → Inside (step m (ask h (write out)) .answer)
+never-outside m h out = go (eqb (hullRefusal m h) 0) refl
+  where
+    fits : Bool
+    fits = leb (length (sheetText (h ∷ hullSheet m h))) (length out)
+
+    go : (t : Bool)
+        → eqb (hullRefusal m h) 0 ≡ t
+        → Inside (cond t (writeAnswer (h ∷ hullSheet m h) (length out)) (Refused (hullRefusal m h)))
+    go true z =
+        let g = hull-goes m h (eqb-true (hullRefusal m h) 0 z) in
+        rw (hull-within m h (g .ok) (g .entered)) (either Inside fits refl refl)
+    go false z = hull-inside m h

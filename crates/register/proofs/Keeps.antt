@@ -1,4 +1,4 @@
--- Every call keeps a well-formed memory well formed, and fresh start makes one. Assumes nothing.
+-- Every call keeps a well-formed memory well formed, and fresh start makes one.
 use mathlib.Core.Path.{_≡_, refl}
 use mathlib.Core.Bool.{Bool, true, false, cond}
 use mathlib.Core.List.{List}
@@ -7,71 +7,93 @@ use native.Mathlib.Omega.{arith}
 use borrow.Author.Tests.{eqb-true}
 use lib.Dec.{eqb}
 use lib.ListN.{length}
-use Rattle.text.specs.declared.LineRead.{LineRead}
-use Rattle.text.specs.declared.LineRead.the-variants.{Taken, Fault}
+use Rattle.form.specs.Outcome.{Found, took, lost}
+use Rattle.answers.specs.declared.Answer.{Answer}
+use Rattle.answers.specs.declared.Answer.the-variants.{Refused, Done, Count, Plate}
 use Rattle.sheet.specs.Sheet.{wordsOk}
-use Rattle.sheet.specs.Reading.{readSheet}
+use Rattle.sheet.specs.SheetText.{readSheet}
 use Rattle.sheet.proofs.Words.{words-of}
-use Rattle.sheet.proofs.SheetTrip.{reads-written}
-use Rattle.memory.specs.Layout.{registerWords}
+use Rattle.sheet.proofs.SheetText.{reads-written}
+use Rattle.memory.specs.Layout.{registerWords, hullCount, draftSheet}
 use Rattle.memory.specs.Formed.{formed}
 use Rattle.memory.proofs.Sound.{sound}
-use Rattle.memory.proofs.Keeps.{fresh-formed, entered-formed, opened-formed, fitted-formed, replaced-formed, dropped-formed, saved-formed}
-use Rattle.register.specs.Refusals.{deskRefusal, orKept, sheetOf, onText}
-use Rattle.register.specs.Hulls.{freshMemory, roomRefusal, newMemory}
-use Rattle.register.specs.Drafts.{openRefusal, openMemory, putRefusal, putMemory, takeRefusal, takeMemory, replaceMemory, saveRefusal, saveMemory, dropMemory}
-use Rattle.register.proofs.Refusals.{desk-goes, room-goes}
-use Rattle.register.proofs.Own.{open-goes, put-goes, take-goes, save-goes}
+use Rattle.memory.proofs.Keeps.{fresh-formed, entered-formed, opened-formed, fitted-formed, replaced-formed}
+use Rattle.memory.proofs.Keeps.{dropped-formed, saved-formed}
+use Rattle.register.specs.Refusals.{putOwn, takeOwn, saveOwn, orRefused, leaves, sheetOf, onText}
+use Rattle.register.specs.Calls.{Work, put, takeOff, replace, tryPlate, Call, newHull, openHull, work, save}
+use Rattle.register.specs.Calls.{dropDraft, ask}
+use Rattle.register.specs.Calls.{workAnswer, workMakes, shared, own, makes, freshStep, step}
+use Rattle.register.proofs.Refusals.{DeskGoes, desk-goes, room-goes, open-goes}
+use Rattle.register.proofs.Own.{put-fits, take-fits, save-unspent}
 
--- a memory that is kept, or changed into another well-formed one
-keeps-or : (refusal : ℕ) (x m : List ℕ) → formed m ≡ true → (refusal ≡ 0 → formed x ≡ true) → formed (orKept refusal x m) ≡ true
-keeps-or refusal x m ok f = go (eqb refusal 0) refl
+-- ---- a memory that is kept, or changed into another well-formed one
+
+kept-or-made : (a : Answer) (x m : List ℕ) → formed m ≡ true → formed x ≡ true → formed (leaves a x m) ≡ true
+kept-or-made (Refused n) x m ok f = ok
+kept-or-made Done x m ok f = f
+kept-or-made (Count n) x m ok f = f
+kept-or-made (Plate a b) x m ok f = f
+
+past-refusal : (refusal : ℕ) (a : Answer) (x m : List ℕ)
+    → formed m ≡ true
+    → (refusal ≡ 0 → formed (leaves a x m) ≡ true)
+    → formed (leaves (orRefused refusal a) x m) ≡ true
+past-refusal refusal a x m ok f = go (eqb refusal 0) refl
   where
-    go : (t : Bool) → eqb refusal 0 ≡ t → formed (cond t x m) ≡ true
+    go : (t : Bool) → eqb refusal 0 ≡ t → formed (leaves (cond t a (Refused refusal)) x m) ≡ true
     go true e = f (eqb-true refusal 0 e)
     go false e = ok
 
 -- the sheet of a text that is read is within the limits
-pub text-words : (t : List ℕ) (k : ℕ) → readSheet t .ended ≡ Taken k → wordsOk (sheetOf t) ≡ true
-text-words t k e = words-of (readSheet t .numbers) (reads-written t k e .within)
+pub text-words : (t : List ℕ) (k : ℕ) (s : List ℕ) → readSheet t ≡ took k s → wordsOk (sheetOf t) ≡ true
+text-words t k s e = rw (e, sheetOf) (words-of s (reads-written t k s e .within))
 
-keeps-text : (t x m : List ℕ) → formed m ≡ true → (wordsOk (sheetOf t) ≡ true → formed x ≡ true) → formed (onText t x (λ (n : ℕ). m)) ≡ true
-keeps-text t x m ok f = go (readSheet t .ended) refl
+past-text : (t : List ℕ) (a : Answer) (x m : List ℕ)
+    → formed m ≡ true
+    → (wordsOk (sheetOf t) ≡ true → formed (leaves a x m) ≡ true)
+    → formed (leaves (onText t a Refused) x m) ≡ true
+past-text t a x m ok f = go (readSheet t) refl
   where
-    go : (r : LineRead) → readSheet t .ended ≡ r → formed (elim r [ Taken k ↦ x | Fault number at ↦ m ]) ≡ true
-    go (Taken k) e = f (text-words t k e)
-    go (Fault number at) e = ok
+    go : (r : Found (List ℕ))
+        → readSheet t ≡ r
+        → formed (leaves (elim r [ took k s ↦ a | lost number at ↦ Refused number ]) x m) ≡ true
+    go (took k s) e = f (text-words t k s e)
+    go (lost number at) e = ok
 
 -- ---- the calls
 
-pub fresh-keeps : (m : List ℕ) → length m ≡ registerWords → formed (freshMemory m) ≡ true
-fresh-keeps m e = rw e fresh-formed
+work-keeps : (m : List ℕ) (d : ℕ) (w : Work)
+    → formed m ≡ true
+    → DeskGoes m d
+    → formed (leaves (workAnswer w (draftSheet m d)) (workMakes m d w) m) ≡ true
+work-keeps m d (put line w) ok g =
+    past-refusal (putOwn line w) Done _ m ok
+    (λ y. let p = put-fits line w y in fitted-formed m d line w ok (g .desk) (g .some) (p .low) (p .high) (p .most))
+work-keeps m d (takeOff line) ok g =
+    let s = draftSheet m d in
+    past-refusal (takeOwn s line) Done _ m ok
+    (λ y.
+    let p = take-fits s line y in
+    fitted-formed m d line _ ok (g .desk) (g .some) (p .low) (p .high) (omega arith))
+work-keeps m d (replace t) ok g = past-text t Done _ m ok (replaced-formed m d (sheetOf t) ok (g .desk) (g .some))
+work-keeps m d (tryPlate k) ok g = kept-or-made (workAnswer (tryPlate k) (draftSheet m d)) m m ok ok
 
-pub new-keeps : (m t : List ℕ) → formed m ≡ true → formed (newMemory m t) ≡ true
-new-keeps m t ok = keeps-or (roomRefusal m) _ m ok (λ (z : roomRefusal m ≡ 0). keeps-text t _ m ok (λ (w : wordsOk (sheetOf t) ≡ true). entered-formed m (sheetOf t) ok (room-goes m z .room) w))
+own-keeps : (m : List ℕ) (c : Call) → formed m ≡ true → shared m c ≡ 0 → formed (leaves (own m c) (makes m c) m) ≡ true
+own-keeps m (newHull t) ok z =
+    past-text t (Count (hullCount m)) _ m ok (entered-formed m (sheetOf t) ok (room-goes m z .room))
+own-keeps m (openHull d h) ok z = let g = open-goes m d h z in opened-formed m d h ok (g .desk) (g .entered)
+own-keeps m (work d w) ok z = work-keeps m d w ok (desk-goes m d z)
+own-keeps m (save d) ok z =
+    let g = desk-goes m d z in
+    let l = sound m ok .hulls _ (g .draft .entered) .number in
+    past-refusal (saveOwn m d) _ _ m ok
+    (λ y. saved-formed m d ok (g .desk) (g .some) (omega (arith, save-unspent m d y, l)))
+own-keeps m (dropDraft d) ok z = dropped-formed m d ok (desk-goes m d z .desk)
+own-keeps m (ask h q) ok z = kept-or-made (own m (ask h q)) m m ok ok
 
-pub open-keeps : (m : List ℕ) (d h : ℕ) → formed m ≡ true → formed (openMemory m d h) ≡ true
-open-keeps m d h ok = keeps-or (openRefusal m d h) _ m ok (λ (z : openRefusal m d h ≡ 0). let g = open-goes m d h z in opened-formed m d h ok (g .desk) (g .entered))
+-- A well-formed memory stays well formed, whatever is called.
+pub keeps-formed : (m : List ℕ) (c : Call) → formed m ≡ true → formed (step m c .memory) ≡ true
+keeps-formed m c ok = past-refusal (shared m c) (own m c) (makes m c) m ok (own-keeps m c ok)
 
-pub put-keeps : (m : List ℕ) (d line w : ℕ) → formed m ≡ true → formed (putMemory m d line w) ≡ true
-put-keeps m d line w ok =
-    keeps-or (putRefusal m d line w) _ m ok
-    (λ (z : putRefusal m d line w ≡ 0). let p = put-goes m d line w z in let g = desk-goes m d (p .desk-passes) in fitted-formed m d line w ok (g .desk) (g .some) (p .low) (p .high) (p .most))
-
-pub take-keeps : (m : List ℕ) (d line : ℕ) → formed m ≡ true → formed (takeMemory m d line) ≡ true
-take-keeps m d line ok =
-    keeps-or (takeRefusal m d line) _ m ok
-    (λ (z : takeRefusal m d line ≡ 0). let p = take-goes m d line z in let g = desk-goes m d (p .desk-passes) in fitted-formed m d line _ ok (g .desk) (g .some) (p .low) (p .high) (omega arith))
-
-pub replace-keeps : (m : List ℕ) (d : ℕ) (t : List ℕ) → formed m ≡ true → formed (replaceMemory m d t) ≡ true
-replace-keeps m d t ok =
-    keeps-or (deskRefusal m d) _ m ok
-    (λ (z : deskRefusal m d ≡ 0). let g = desk-goes m d z in keeps-text t _ m ok (λ (w : wordsOk (sheetOf t) ≡ true). replaced-formed m d (sheetOf t) ok (g .desk) (g .some) w))
-
-pub save-keeps : (m : List ℕ) (d : ℕ) → formed m ≡ true → formed (saveMemory m d) ≡ true
-save-keeps m d ok =
-    keeps-or (saveRefusal m d) _ m ok
-    (λ (z : saveRefusal m d ≡ 0). let p = save-goes m d z in let g = desk-goes m d (p .desk-passes) in saved-formed m d ok (g .desk) (g .some) (omega (arith, p .unspent, sound m ok .hulls _ (g .draft .entered) .number)))
-
-pub drop-keeps : (m : List ℕ) (d : ℕ) → formed m ≡ true → formed (dropMemory m d) ≡ true
-drop-keeps m d ok = keeps-or (deskRefusal m d) _ m ok (λ (z : deskRefusal m d ≡ 0). dropped-formed m d ok (desk-goes m d z .desk))
+pub fresh-forms : (m : List ℕ) → length m ≡ registerWords → formed (freshStep m .memory) ≡ true
+fresh-forms m e = rw e fresh-formed

@@ -1,9 +1,9 @@
 -- The laws of the calls on the register.
-pub mod Refusals
-pub mod Own
-pub mod Keeps
-pub mod Effects
-pub mod Examples
-pub mod Orders
-pub mod Listed
-pub mod First
+pub mod Day  -- a day, computed
+pub mod Answers  -- every call at its ends, and which refusal comes first, computed
+pub mod Refusals  -- what calls share
+pub mod Own  -- what only one call asks
+pub mod Keeps  -- a well-formed memory stays so
+pub mod Effects  -- a refused call leaves all; what an accepted one makes
+pub mod First  -- what comes first
+pub mod Listed  -- refusals are of the list

@@ -1,45 +1,78 @@
--- 01, Refusal numbers, the order of the checks: the memory, the desk, the hull, the draft, and then what only this call asks. A refusal is its number, and 0 stands for
--- none. A refused call changes nothing.
--- Assumes nothing: these are definitions.
+-- 01, Refusal numbers, the order of the checks: the memory, the desk, the hull, the draft, and then what only this call
+-- asks. A refusal is its number, and 0 stands for none. A refused call changes nothing.
 use Prim.Native.Nat.{ℕ}
-use mathlib.Core.Bool.{cond}
-use mathlib.Core.List.{List}
-use lib.Dec.{eqb, ltb}
-use lib.ListN.{drop}
-use Rattle.text.specs.declared.LineRead.the-variants.{Taken, Fault}
+use mathlib.Core.Bool.{_&&_, cond}
+use mathlib.Core.List.{List, []}
+use lib.Dec.{eqb, leb, ltb}
+use lib.ListN.{length, getD, drop}
+use Rattle.form.specs.Outcome.{took, lost}
+use Rattle.answers.specs.Refusals.{badMemory, outsideLimits, full, noHull, noDesk, noDraft, editedSince, editsSpent}
+use Rattle.answers.specs.Refusals.{emptyLine}
 use Rattle.answers.specs.declared.Answer.{Answer}
-use Rattle.answers.specs.declared.Answer.the-variants.{Refused}
-use Rattle.sheet.specs.Reading.{readSheet}
-use Rattle.memory.specs.Layout.{desks, hullCount, held}
-use Rattle.memory.specs.Formed.{formed}
+use Rattle.answers.specs.declared.Answer.the-variants.{Refused, Done, Count, Plate}
+use Rattle.sheet.specs.Places.{fittingWord}
+use Rattle.sheet.specs.Lines.{fittings, fittingHigh}
+use Rattle.sheet.specs.SheetText.{readSheet}
+use Rattle.memory.specs.Layout.{mostHulls, desks, registerWords, hullCount, edit, held, draftHull, opening}
+use Rattle.memory.specs.Formed.{mostEdits, formed}
 
--- ---- the shared checks
+-- ---- what calls share
 
--- a call on a hull: 1, 5
+-- fresh start: the size alone, whatever the words are
+abbrev pub freshRefusal : List ℕ → ℕ
+freshRefusal m = cond (eqb (length m) registerWords) 0 badMemory
+
+-- a new hull, before its text is read
+unfoldable pub roomRefusal : List ℕ → ℕ
+roomRefusal m = cond (formed m) (cond (ltb (hullCount m) mostHulls) 0 full) badMemory
+
+-- a call on a hull
 unfoldable pub hullRefusal : List ℕ → ℕ → ℕ
-hullRefusal m h = cond (formed m) (cond (ltb h (hullCount m)) 0 5) 1
+hullRefusal m h = cond (formed m) (cond (ltb h (hullCount m)) 0 noHull) badMemory
 
--- a call on a desk's draft: 1, 6, 7
+-- open
+unfoldable pub openRefusal : List ℕ → ℕ → ℕ → ℕ
+openRefusal m d h = cond (formed m) (cond (ltb d desks) (cond (ltb h (hullCount m)) 0 noHull) noDesk) badMemory
+
+-- a call on a desk's draft
 unfoldable pub deskRefusal : List ℕ → ℕ → ℕ
-deskRefusal m d = cond (formed m) (cond (ltb d desks) (cond (eqb (held m d) 0) 7 0) 6) 1
+deskRefusal m d = cond (formed m) (cond (ltb d desks) (cond (eqb (held m d) 0) noDraft 0) noDesk) badMemory
 
--- ---- an answer and a memory by their refusal
+-- ---- what only this call asks
 
--- the first refusal of two
-abbrev pub orNext : ℕ → ℕ → ℕ
-orNext first next = cond (eqb first 0) next first
+-- put: the fitting's line and weight
+abbrev pub putOwn : ℕ → ℕ → ℕ
+putOwn line weight =
+    cond (leb 1 line && (leb line fittings && (leb 1 weight && leb weight fittingHigh))) 0 outsideLimits
+
+-- take off: the line, and then that it is not empty on the sheet s
+abbrev pub takeOwn : List ℕ → ℕ → ℕ
+takeOwn s line =
+    cond (leb 1 line && leb line fittings) (cond (eqb (getD s (fittingWord line) 0) 0) emptyLine 0) outsideLimits
+
+-- save: that the hull was not edited since the open, and then that an edit number is left
+abbrev pub saveOwn : List ℕ → ℕ → ℕ
+saveOwn m d =
+    let e = edit m (draftHull m d) in
+    cond (eqb e (opening m d)) (cond (eqb e mostEdits) editsSpent 0) editedSince
+
+-- ---- an answer by its refusal, and what it leaves
 
 abbrev pub orRefused : ℕ → Answer → Answer
 orRefused refusal a = cond (eqb refusal 0) a (Refused refusal)
 
-abbrev pub orKept : {A : Type 0} → ℕ → A → A → A
-orKept refusal after before = cond (eqb refusal 0) after before
+-- what a call that so answers leaves: refused, what was there before it
+abbrev pub leaves : {A : Type 0} → Answer → A → A → A
+leaves (Refused number) after before = before
+leaves Done after before = after
+leaves (Count n) after before = after
+leaves (Plate load figure) after before = after
 
 -- ---- a text that is read
 
--- the sheet of a text, without its HULL number, which is judged and then ignored
+-- the sheet of a text that can be read, without its HULL number, which is judged and then ignored
 abbrev pub sheetOf : List ℕ → List ℕ
-sheetOf t = drop 1 (readSheet t .numbers)
+sheetOf t = elim (readSheet t) [ took k s ↦ drop 1 s | lost number at ↦ [] ]
 
 abbrev pub onText : {A : Type 0} → List ℕ → A → (ℕ → A) → A
-onText t read refused = elim (readSheet t .ended) [ Taken k ↦ read | Fault number at ↦ refused number ]
+onText t read refused = elim (readSheet t) [ took k s ↦ read | lost number at ↦ refused number ]

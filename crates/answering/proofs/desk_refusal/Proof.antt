@@ -8,9 +8,6 @@ use borrow.Author.Needs.{needs}
 use Rattle.answering.proofs.desk_refusal.Statement.{statement}
 use Rattle.answering.proofs.desk_refusal.Tie as tie
 
-is-formed-requires : tie.Need-is-formed-requires
-is-formed-requires c κs = search needs
-
 returns : tie.Need-returns
 returns c =
     let start = c .before .before .before .before in
@@ -53,12 +50,4 @@ returns-4 c =
     desk-unformed (start .args .mem .now) (start .args .desk) (sym (c .before .is-formed .ensures) ∙ c .if1 .left)
 
 pub desk-refusal-spec : {M : Type 1} → statement M
-desk-refusal-spec =
-    tie.close
-    (tie.spec
-    is-formed-requires
-    returns
-    held-requires
-    returns-2
-    returns-3
-    returns-4)
+desk-refusal-spec = tie.close (tie.spec (λ c κs. search needs) returns held-requires returns-2 returns-3 returns-4)

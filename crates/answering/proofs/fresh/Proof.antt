@@ -1,4 +1,4 @@
--- `fresh` meets its contract. Assumes nothing.
+-- `fresh` meets its contract.
 use Rattle.memory.specs.Updates.{freshWords}
 use Prim.Native.Nat.{ℕ}
 use lib.ListN.{replicate}
@@ -11,12 +11,6 @@ use Rattle.answering.proofs.fresh.Tie as tie
 returns : tie.Need-returns
 returns c = record { answered = rw (ne-eqb _ _ (c .if1 .taken)) refl; kept = rw (ne-eqb _ _ (c .if1 .taken)) refl }
 
-clear-requires : tie.Need-clear-requires
-clear-requires c κs = search needs
-
-same-length : tie.Need-same-length
-same-length c = search needs
-
 returns-2 : tie.Need-returns-2
 unfolding freshWords
 returns-2 c =
@@ -24,4 +18,4 @@ returns-2 c =
     record { answered = rw (eq-eqb _ _ (at-if1 .if1 .left)) refl; kept = rw (eq-eqb _ _ (at-if1 .if1 .left)) (c .before .before .clear .ensures ∙ ap (λ (n : ℕ). replicate n 0) (at-if1 .if1 .left)) }
 
 pub fresh-spec : {M : Type 1} → statement M
-fresh-spec = tie.close (tie.spec returns clear-requires same-length returns-2)
+fresh-spec = tie.close (tie.spec returns (λ c κs. search needs) (λ c. search needs) returns-2)

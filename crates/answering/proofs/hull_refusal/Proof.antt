@@ -1,4 +1,4 @@
--- `hull_refusal` meets its contract. Assumes nothing.
+-- `hull_refusal` meets its contract.
 use Rattle.register.proofs.Refusals.{hull-unformed, hull-absent, hull-there}
 use Rattle.memory.proofs.Sound.{sound}
 use mathlib.Core.Path.{sym, _∙_}
@@ -6,9 +6,6 @@ use native.Mathlib.Omega.{arith}
 use borrow.Author.Needs.{needs}
 use Rattle.answering.proofs.hull_refusal.Statement.{statement}
 use Rattle.answering.proofs.hull_refusal.Tie as tie
-
-is-formed-requires : tie.Need-is-formed-requires
-is-formed-requires c κs = search needs
 
 shared-slice-read-if2 : tie.Need-shared-slice-read-if2
 shared-slice-read-if2 c =
@@ -33,5 +30,4 @@ returns-3 c =
     hull-unformed (start .args .mem .now) (start .args .hull) (sym (c .before .is-formed .ensures) ∙ c .if1 .left)
 
 pub hull-refusal-spec : {M : Type 1} → statement M
-hull-refusal-spec =
-    tie.close (tie.spec is-formed-requires shared-slice-read-if2 returns returns-2 returns-3)
+hull-refusal-spec = tie.close (tie.spec (λ c κs. search needs) shared-slice-read-if2 returns returns-2 returns-3)

@@ -1,23 +1,8 @@
--- `numbered` meets its contract. Assumes nothing.
+-- `numbered` meets its contract.
 use Rattle.answering.proofs.Sheets.{numbered-as}
 use borrow.Author.Needs.{needs}
 use Rattle.answering.proofs.numbered.Statement.{statement}
 use Rattle.answering.proofs.numbered.Tie as tie
-
-array-write-words : tie.Need-array-write-words
-array-write-words c = search needs
-
-sub-copy-numbers : tie.Need-sub-copy-numbers
-sub-copy-numbers c = search needs
-
-part-words-start : tie.Need-part-words-start
-part-words-start c = search needs
-
-part-words-end : tie.Need-part-words-end
-part-words-end c = search needs
-
-copy-numbers-requires : tie.Need-copy-numbers-requires
-copy-numbers-requires c κs = search needs
 
 returns : tie.Need-returns
 returns c =
@@ -27,10 +12,5 @@ returns c =
 pub numbered-spec : {M : Type 1} → statement M
 numbered-spec =
     tie.close
-    (tie.spec
-    array-write-words
-    sub-copy-numbers
-    part-words-start
-    part-words-end
-    copy-numbers-requires
+    (tie.spec (λ c. search needs) (λ c. search needs) (λ c. search needs) (λ c. search needs) (λ c κs. search needs)
     returns)

@@ -1,14 +1,11 @@
--- `open_refusal` meets its contract. Assumes nothing.
-use Rattle.register.proofs.Own.{open-unformed, open-high, open-absent, open-there}
+-- `open_refusal` meets its contract.
+use Rattle.register.proofs.Refusals.{open-unformed, open-high, open-absent, open-there}
 use Rattle.memory.proofs.Sound.{sound}
 use mathlib.Core.Path.{sym, _∙_}
 use native.Mathlib.Omega.{arith}
 use borrow.Author.Needs.{needs}
 use Rattle.answering.proofs.open_refusal.Statement.{statement}
 use Rattle.answering.proofs.open_refusal.Tie as tie
-
-is-formed-requires : tie.Need-is-formed-requires
-is-formed-requires c κs = search needs
 
 returns : tie.Need-returns
 returns c =
@@ -43,4 +40,4 @@ returns-4 c =
 pub open-refusal-spec : {M : Type 1} → statement M
 open-refusal-spec =
     tie.close
-    (tie.spec is-formed-requires returns shared-slice-read-if3 returns-2 returns-3 returns-4)
+    (tie.spec (λ c κs. search needs) returns shared-slice-read-if3 returns-2 returns-3 returns-4)

@@ -1,18 +1,12 @@
--- `plate_c` meets its contract. Assumes nothing.
+-- `plate_c` meets its contract.
 use Rattle.answering.proofs.Sheets.{hull-ok}
 use Rattle.answering.proofs.Settling.{answer-refused, answer-given}
 use borrow.Author.Needs.{needs}
 use Rattle.answering.proofs.plate_c.Statement.{statement}
 use Rattle.answering.proofs.plate_c.Tie as tie
 
-hull-refusal-requires : tie.Need-hull-refusal-requires
-hull-refusal-requires c κs = search needs
-
 returns : tie.Need-returns
 returns c = answer-refused (c .before .hull-refusal .ensures) _ (c .if1 .taken)
-
-hull-sheet-requires : tie.Need-hull-sheet-requires
-hull-sheet-requires c κs = search needs
 
 plate-c-requires : tie.Need-plate-c-requires
 plate-c-requires c κs = hull-ok _ _ (c .before .before .hull-refusal .ensures) (c .before .if1 .left) (c .hull-sheet .ensures)
@@ -21,6 +15,4 @@ returns-2 : tie.Need-returns-2
 returns-2 c = answer-given (c .before .before .before .hull-refusal .ensures) (c .before .before .if1 .left) (rw (c .before .hull-sheet .ensures) at (c .plate-c .ensures))
 
 pub plate-c-spec : {M : Type 1} → statement M
-plate-c-spec =
-    tie.close
-    (tie.spec hull-refusal-requires returns hull-sheet-requires plate-c-requires returns-2)
+plate-c-spec = tie.close (tie.spec (λ c κs. search needs) returns (λ c κs. search needs) plate-c-requires returns-2)

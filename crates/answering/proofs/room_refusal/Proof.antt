@@ -1,13 +1,10 @@
--- `room_refusal` meets its contract. Assumes nothing.
+-- `room_refusal` meets its contract.
 use Rattle.register.proofs.Refusals.{room-unformed, room-none, room-left}
 use Rattle.memory.proofs.Sound.{sound}
 use mathlib.Core.Path.{sym, _∙_}
 use borrow.Author.Needs.{needs}
 use Rattle.answering.proofs.room_refusal.Statement.{statement}
 use Rattle.answering.proofs.room_refusal.Tie as tie
-
-is-formed-requires : tie.Need-is-formed-requires
-is-formed-requires c κs = search needs
 
 hull-count-requires : tie.Need-hull-count-requires
 hull-count-requires c κs =
@@ -32,5 +29,4 @@ returns-3 c =
     room-unformed (start .args .mem .now) (sym (c .before .is-formed .ensures) ∙ c .if1 .left)
 
 pub room-refusal-spec : {M : Type 1} → statement M
-room-refusal-spec =
-    tie.close (tie.spec is-formed-requires hull-count-requires returns returns-2 returns-3)
+room-refusal-spec = tie.close (tie.spec (λ c κs. search needs) hull-count-requires returns returns-2 returns-3)

@@ -1,54 +1,42 @@
--- `save` meets its contract. Assumes nothing.
-use Rattle.register.proofs.Own.{save-goes}
-use Rattle.register.proofs.Refusals.{desk-goes}
+-- `save` meets its contract.
 use Rattle.answers.specs.declared.Answer.the-variants.{Count}
-use Rattle.answering.proofs.Settling.{refused, accepted}
-use Rattle.memory.proofs.Sound.{sound}
+use Rattle.answering.proofs.Sheets.{at-desk, draft-hull-in, to-save}
+use Rattle.answering.proofs.Settling.{refused, passed}
 use mathlib.Core.Path.{sym, ap, _∙_}
-use native.Mathlib.Omega.{arith}
 use borrow.Author.Needs.{needs}
 use Rattle.answering.proofs.save.Statement.{statement}
 use Rattle.answering.proofs.save.Tie as tie
 
-save-refusal-requires : tie.Need-save-refusal-requires
-save-refusal-requires c κs = search needs
-
-same-length : tie.Need-same-length
-same-length c = search needs
-
 returns : tie.Need-returns
-returns c = refused (c .before .save-refusal .ensures) _ _ (c .if1 .taken)
+returns c = refused (c .before .desk-refusal .ensures) _ _ (c .if1 .taken)
 
-save-draft-requires : tie.Need-save-draft-requires
-save-draft-requires c κs =
-    let start = c .before .before .before .before .before in
-    let p = save-goes (start .args .mem .now) (start .args .desk) (sym (c .before .before .save-refusal .ensures) ∙ c .before .if1 .left) in
-    let g = desk-goes (start .args .mem .now) (start .args .desk) (p .desk-passes) in
-    let s = sound (start .args .mem .now) (g .ok) in
-    record {
-      size = s .size;
-      desk = g .desk;
-      hull = omega (arith, s .few, g .draft .entered);
-      number = omega (arith, p .unspent, s .hulls _ (g .draft .entered) .number);
-    }
-
-same-length-2 : tie.Need-same-length-2
-same-length-2 c = search needs
+save-own-requires : tie.Need-save-own-requires
+save-own-requires c κs =
+    let z = sym (c .before .before .desk-refusal .ensures) ∙ c .before .if1 .left in
+    (at-desk z, draft-hull-in _ _ z)
 
 returns-2 : tie.Need-returns-2
 returns-2 c =
-    let at-save-refusal = c .before .before .before .before .before in
-    let start = c .before .before .before .before .before .before .before .before in
-    let at-if1 = c .before .before .before .before in
-    accepted (at-save-refusal .save-refusal .ensures) (start .args .mem .now) (at-if1 .if1 .left) (ap Count (c .before .before .save-draft .ensures .0)) (c .before .before .save-draft .ensures .1)
+    let at-if1 = c .before .before .before in
+    passed (at-if1 .before .desk-refusal .ensures) _ _ _ (at-if1 .if1 .left) (refused (c .before .save-own .ensures) _ _ (c .if2 .taken))
+
+save-draft-requires : tie.Need-save-draft-requires
+save-draft-requires c κs =
+    let at-if2 = c .before in
+    let at-if1 = at-if2 .before .before .before in
+    let z = sym (at-if1 .before .desk-refusal .ensures) ∙ at-if1 .if1 .left in
+    to-save _ _ z (sym (at-if2 .before .save-own .ensures) ∙ at-if2 .if2 .left)
+
+returns-3 : tie.Need-returns-3
+returns-3 c =
+    let at-if2 = c .before .before .before .before in
+    let at-if1 = at-if2 .before .before .before in
+    let made = c .before .before .save-draft .ensures in
+    passed (at-if1 .before .desk-refusal .ensures) _ _ _ (at-if1 .if1 .left)
+    (passed (at-if2 .before .save-own .ensures) _ _ _ (at-if2 .if2 .left) (record { answered = ap Count (made .0); kept = made .1 }))
 
 pub save-spec : {M : Type 1} → statement M
 save-spec =
     tie.close
-    (tie.spec
-    save-refusal-requires
-    same-length
-    returns
-    save-draft-requires
-    same-length-2
-    returns-2)
+    (tie.spec (λ c κs. search needs) (λ c. search needs) returns save-own-requires (λ c. search needs) returns-2
+    save-draft-requires (λ c. search needs) returns-3)

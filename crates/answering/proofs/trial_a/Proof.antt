@@ -1,18 +1,12 @@
--- `trial_a` meets its contract. Assumes nothing.
+-- `trial_a` meets its contract.
 use Rattle.answering.proofs.Sheets.{draft-ok}
 use Rattle.answering.proofs.Settling.{answer-refused, answer-given}
 use borrow.Author.Needs.{needs}
 use Rattle.answering.proofs.trial_a.Statement.{statement}
 use Rattle.answering.proofs.trial_a.Tie as tie
 
-desk-refusal-requires : tie.Need-desk-refusal-requires
-desk-refusal-requires c κs = search needs
-
 returns : tie.Need-returns
 returns c = answer-refused (c .before .desk-refusal .ensures) _ (c .if1 .taken)
-
-draft-sheet-requires : tie.Need-draft-sheet-requires
-draft-sheet-requires c κs = search needs
 
 plate-a-requires : tie.Need-plate-a-requires
 plate-a-requires c κs = draft-ok _ _ (c .before .before .desk-refusal .ensures) (c .before .if1 .left) (c .draft-sheet .ensures)
@@ -21,6 +15,4 @@ returns-2 : tie.Need-returns-2
 returns-2 c = answer-given (c .before .before .before .desk-refusal .ensures) (c .before .before .if1 .left) (rw (c .before .draft-sheet .ensures) at (c .plate-a .ensures))
 
 pub trial-a-spec : {M : Type 1} → statement M
-trial-a-spec =
-    tie.close
-    (tie.spec desk-refusal-requires returns draft-sheet-requires plate-a-requires returns-2)
+trial-a-spec = tie.close (tie.spec (λ c κs. search needs) returns (λ c κs. search needs) plate-a-requires returns-2)

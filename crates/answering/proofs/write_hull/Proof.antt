@@ -1,4 +1,4 @@
--- `write_hull` meets its contract. Assumes nothing.
+-- `write_hull` meets its contract.
 use Rattle.capacity.proofs.Within.{words-many}
 use Rattle.answering.proofs.Sheets.{hull-ok, written-given}
 use Rattle.answering.proofs.Settling.{refused}
@@ -6,24 +6,12 @@ use borrow.Author.Needs.{needs}
 use Rattle.answering.proofs.write_hull.Statement.{statement}
 use Rattle.answering.proofs.write_hull.Tie as tie
 
-hull-refusal-requires : tie.Need-hull-refusal-requires
-hull-refusal-requires c κs = search needs
-
 returns : tie.Need-returns
 returns c = refused (c .before .hull-refusal .ensures) _ _ (c .if1 .taken)
-
-hull-sheet-requires : tie.Need-hull-sheet-requires
-hull-sheet-requires c κs = search needs
 
 numbered-requires : tie.Need-numbered-requires
 numbered-requires c κs =
     words-many _ (hull-ok _ _ (c .before .before .hull-refusal .ensures) (c .before .if1 .left) (c .hull-sheet .ensures))
-
-write-sheet-requires : tie.Need-write-sheet-requires
-write-sheet-requires c κs = search needs
-
-same-length : tie.Need-same-length
-same-length c = search needs
 
 returns-2 : tie.Need-returns-2
 returns-2 c =
@@ -31,16 +19,11 @@ returns-2 c =
     let at-if1 = at-numbered .before .before in
     let start = at-if1 .before .before .before .before in
     let e = rw (at-numbered .before .hull-sheet .ensures) at (at-numbered .numbered .ensures) in
-    written-given (start .args .mem .now) (start .args .hull) (start .args .out .now) (at-if1 .before .hull-refusal .ensures) (at-if1 .if1 .left) e (c .before .before .write-sheet .ensures)
+    written-given (start .args .mem .now) (start .args .hull) (start .args .out .now) (at-if1 .before .hull-refusal .ensures)
+    (at-if1 .if1 .left) e (c .before .before .write-sheet .ensures)
 
 pub write-hull-spec : {M : Type 1} → statement M
 write-hull-spec =
     tie.close
-    (tie.spec
-    hull-refusal-requires
-    returns
-    hull-sheet-requires
-    numbered-requires
-    write-sheet-requires
-    same-length
-    returns-2)
+    (tie.spec (λ c κs. search needs) returns (λ c κs. search needs) numbered-requires (λ c κs. search needs)
+    (λ c. search needs) returns-2)

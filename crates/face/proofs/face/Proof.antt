@@ -1,21 +1,9 @@
--- `face` meets its contract. Assumes nothing.
+-- `face` meets its contract.
 use Rattle.answers.specs.Values.{faced}
 use mathlib.Core.Path.{sym, ap}
 use borrow.Author.Needs.{needs}
 use Rattle.face.proofs.face.Statement.{statement}
 use Rattle.face.proofs.face.Tie as tie
-
-enum-known-answer : tie.Need-enum-known-answer
-enum-known-answer c = search needs
-
-enum-told : tie.Need-enum-told
-enum-told c = search needs
-
-enum-known-answer-2 : tie.Need-enum-known-answer-2
-enum-known-answer-2 c = search needs
-
-enum-known-answer-3 : tie.Need-enum-known-answer-3
-enum-known-answer-3 c = search needs
 
 returns : tie.Need-returns
 returns c = sym (ap faced (c .before .answer .given .1))
@@ -32,12 +20,5 @@ returns-4 c = sym (ap faced (c .before .answer3 .given .1))
 pub face-spec : {M : Type 1} → statement M
 face-spec =
     tie.close
-    (tie.spec
-    enum-known-answer
-    enum-told
-    enum-known-answer-2
-    enum-known-answer-3
-    returns
-    returns-2
-    returns-3
-    returns-4)
+    (tie.spec (λ c. search needs) (λ c. search needs) (λ c. search needs) (λ c. search needs) returns returns-2
+    returns-3 returns-4)

@@ -1,17 +1,8 @@
--- `wb_new_hull` meets its contract. Assumes nothing.
+-- `wb_new_hull` meets its contract.
 use Rattle.face.proofs.Facing.{facing}
 use borrow.Author.Needs.{needs}
 use Rattle.face.proofs.wb_new_hull.Statement.{statement}
 use Rattle.face.proofs.wb_new_hull.Tie as tie
-
-new-hull-requires : tie.Need-new-hull-requires
-new-hull-requires c κs = search needs
-
-face-requires : tie.Need-face-requires
-face-requires c κs = search needs
-
-same-length : tie.Need-same-length
-same-length c = search needs
 
 returns : tie.Need-returns
 returns c =
@@ -19,4 +10,4 @@ returns c =
     facing (c .face .ensures) (at-new-hull .new-hull .ensures)
 
 pub wb-new-hull-spec : {M : Type 1} → statement M
-wb-new-hull-spec = tie.close (tie.spec new-hull-requires face-requires same-length returns)
+wb-new-hull-spec = tie.close (tie.spec (λ c κs. search needs) (λ c κs. search needs) (λ c. search needs) returns)

@@ -1,20 +1,8 @@
--- `wb_read_engines` meets its contract. Assumes nothing.
+-- `wb_read_engines` meets its contract.
 use Rattle.face.proofs.Facing.{facing}
 use borrow.Author.Needs.{needs}
 use Rattle.face.proofs.wb_read_engines.Statement.{statement}
 use Rattle.face.proofs.wb_read_engines.Tie as tie
-
-read-engines-requires : tie.Need-read-engines-requires
-read-engines-requires c κs = search needs
-
-face-requires : tie.Need-face-requires
-face-requires c κs = search needs
-
-same-length : tie.Need-same-length
-same-length c = search needs
-
-same-length-2 : tie.Need-same-length-2
-same-length-2 c = search needs
 
 returns : tie.Need-returns
 returns c =
@@ -23,4 +11,5 @@ returns c =
 
 pub wb-read-engines-spec : {M : Type 1} → statement M
 wb-read-engines-spec =
-    tie.close (tie.spec read-engines-requires face-requires same-length same-length-2 returns)
+    tie.close
+    (tie.spec (λ c κs. search needs) (λ c κs. search needs) (λ c. search needs) (λ c. search needs) returns)

@@ -1,17 +1,8 @@
--- `wb_save` meets its contract. Assumes nothing.
+-- `wb_save` meets its contract.
 use Rattle.face.proofs.Facing.{facing}
 use borrow.Author.Needs.{needs}
 use Rattle.face.proofs.wb_save.Statement.{statement}
 use Rattle.face.proofs.wb_save.Tie as tie
-
-save-requires : tie.Need-save-requires
-save-requires c κs = search needs
-
-face-requires : tie.Need-face-requires
-face-requires c κs = search needs
-
-same-length : tie.Need-same-length
-same-length c = search needs
 
 returns : tie.Need-returns
 returns c =
@@ -19,4 +10,4 @@ returns c =
     facing (c .face .ensures) (at-save .save .ensures)
 
 pub wb-save-spec : {M : Type 1} → statement M
-wb-save-spec = tie.close (tie.spec save-requires face-requires same-length returns)
+wb-save-spec = tie.close (tie.spec (λ c κs. search needs) (λ c κs. search needs) (λ c. search needs) returns)

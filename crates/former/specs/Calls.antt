@@ -1,17 +1,87 @@
--- 01, Calls on the register, those of a desk: it opens a hull, works on the draft, tries its plates, saves or drops it. Assumes nothing: these are definitions.
+-- What the promises of the calls on the register said: what each answers and what it leaves, with 01's refusals as
+-- numbers.
 use Prim.Native.Nat.{ℕ, _+_}
 use mathlib.Core.Bool.{_&&_, cond}
-use mathlib.Core.List.{List}
+use mathlib.Core.List.{List, _∷_}
 use lib.Dec.{eqb, leb, ltb}
-use lib.ListN.{getD}
+use lib.ListN.{length, getD, drop}
+use Rattle.text.specs.declared.LineRead.the-variants.{Taken, Fault}
 use Rattle.answers.specs.declared.Answer.{Answer}
 use Rattle.answers.specs.declared.Answer.the-variants.{Refused, Done, Count}
 use Rattle.sheet.specs.Lines.{fittings, fittingHigh}
 use Rattle.capacity.specs.Kinds.{PlateKind, plateOf}
-use Rattle.memory.specs.Layout.{desks, hullCount, edit, draftHull, opening, draftSheet, fittingAt}
+use Rattle.memory.specs.Layout.{mostHulls, desks, registerWords, hullCount, edit, hullSheet}
+use Rattle.memory.specs.Layout.{held, draftHull, opening, draftSheet, fittingAt}
 use Rattle.memory.specs.Formed.{mostEdits, formed}
-use Rattle.memory.specs.Updates.{opened, fitted, replaced, dropped, saved}
-use Rattle.register.specs.Refusals.{deskRefusal, orNext, orRefused, orKept, sheetOf, onText}
+use Rattle.memory.specs.Updates.{freshWords, entered, opened, fitted, replaced, dropped, saved}
+use Rattle.former.specs.Reading.{readSheet}
+use Rattle.former.specs.TextCalls.{writeAnswer, writeInto}
+
+-- ---- the shared checks
+
+-- a call on a hull: 1, 5
+unfoldable pub hullRefusal : List ℕ → ℕ → ℕ
+hullRefusal m h = cond (formed m) (cond (ltb h (hullCount m)) 0 5) 1
+
+-- a call on a desk's draft: 1, 6, 7
+unfoldable pub deskRefusal : List ℕ → ℕ → ℕ
+deskRefusal m d = cond (formed m) (cond (ltb d desks) (cond (eqb (held m d) 0) 7 0) 6) 1
+
+-- ---- an answer and a memory by their refusal
+
+-- the first refusal of two
+abbrev pub orNext : ℕ → ℕ → ℕ
+orNext first next = cond (eqb first 0) next first
+
+abbrev pub orRefused : ℕ → Answer → Answer
+orRefused refusal a = cond (eqb refusal 0) a (Refused refusal)
+
+abbrev pub orKept : {A : Type 0} → ℕ → A → A → A
+orKept refusal after before = cond (eqb refusal 0) after before
+
+-- ---- a text that is read
+
+-- the sheet of a text, without its HULL number, which is judged and then ignored
+abbrev pub sheetOf : List ℕ → List ℕ
+sheetOf t = drop 1 (readSheet t .numbers)
+
+abbrev pub onText : {A : Type 0} → List ℕ → A → (ℕ → A) → A
+onText t read refused = elim (readSheet t .ended) [ Taken k ↦ read | Fault number at ↦ refused number ]
+
+-- ---- fresh start: 1 for a wrong size, whatever the words are
+
+abbrev pub freshRefusal : List ℕ → ℕ
+freshRefusal m = cond (eqb (length m) registerWords) 0 1
+
+abbrev pub freshAnswer : List ℕ → Answer
+freshAnswer m = orRefused (freshRefusal m) Done
+
+abbrev pub freshMemory : List ℕ → List ℕ
+freshMemory m = orKept (freshRefusal m) freshWords m
+
+-- ---- new hull: 1, 4, then the text; it answers its number
+
+unfoldable pub roomRefusal : List ℕ → ℕ
+roomRefusal m = cond (formed m) (cond (ltb (hullCount m) mostHulls) 0 4) 1
+
+abbrev pub newAnswer : List ℕ → List ℕ → Answer
+newAnswer m t = orRefused (roomRefusal m) (onText t (Count (hullCount m)) Refused)
+
+abbrev pub newMemory : List ℕ → List ℕ → List ℕ
+newMemory m t = orKept (roomRefusal m) (onText t (entered m (sheetOf t)) (λ (number : ℕ). m)) m
+
+-- ---- plates of a hull: 1, 5, then the plate's own
+
+abbrev pub hullPlate : List ℕ → ℕ → PlateKind → Answer
+hullPlate m h k = orRefused (hullRefusal m h) (plateOf k (hullSheet m h))
+
+-- ---- write a hull's sheet under the register's number: 1, 5, then 16
+
+abbrev pub hullWritten : List ℕ → ℕ → ℕ → Answer
+hullWritten m h room = orRefused (hullRefusal m h) (writeAnswer (h ∷ hullSheet m h) room)
+
+abbrev pub hullWrittenInto : List ℕ → ℕ → List ℕ → List ℕ
+hullWrittenInto m h out = orKept (hullRefusal m h) (writeInto (h ∷ hullSheet m h) out) out
 
 -- ---- open: 1, 6, 5; it answers the edit number, and a draft that the desk held is discarded
 
@@ -68,7 +138,8 @@ trial m d k = orRefused (deskRefusal m d) (plateOf k (draftSheet m d))
 -- ---- save: 1, 6, 7, then 8 before 9; it answers the edit number
 
 abbrev pub saveOwn : List ℕ → ℕ → ℕ
-saveOwn m d = cond (eqb (edit m (draftHull m d)) (opening m d)) (cond (eqb (edit m (draftHull m d)) mostEdits) 9 0) 8
+saveOwn m d =
+    cond (eqb (edit m (draftHull m d)) (opening m d)) (cond (eqb (edit m (draftHull m d)) mostEdits) 9 0) 8
 
 unfoldable pub saveRefusal : List ℕ → ℕ → ℕ
 saveRefusal m d = orNext (deskRefusal m d) (saveOwn m d)

@@ -1,0 +1,141 @@
+-- A short day at the register, computed: each call's answer, and what it leaves to the next. And every call on no
+-- memory at all.
+use mathlib.Core.Path.{_≡_, refl}
+use mathlib.Core.List.{List, [], _∷_, _++_, map}
+use Prim.Native.Nat.{ℕ}
+use Prim.Native.String.{String}
+use lib.ListN.{replicate}
+use Rattle.text.specs.Quoted.{bytes}
+use Rattle.text.specs.Field.{fieldOf, agreed}
+use Rattle.text.specs.Number.{restOf, numberOf, digitsIn, digitsOf}
+use Rattle.text.specs.Limit.{allHold}
+use Rattle.text.specs.Line.{readEntry, readNumbers, readLine, numbersText}
+use Rattle.answers.specs.declared.Answer.{Answer}
+use Rattle.answers.specs.declared.Answer.the-variants.{Refused, Done, Count, Plate}
+use Rattle.form.specs.Parts.{kindOf, numbersOf}
+use Rattle.form.specs.Reading.{readRows, readParts, readForm}
+use Rattle.form.specs.Writing.{rowsText, partsText}
+use Rattle.sheet.specs.Sheet.{limitsOn, sheetLimits}
+use Rattle.sheet.specs.SheetText.{sheetForm, weightsFrom, fitRows, fitsOf, numbersOn, rowsOn, readSheet, sheetText}
+use Rattle.capacity.specs.Volume.{stationProduct, volumeN, netZ}
+use Rattle.capacity.specs.Weights.{addedUp, boatM}
+use Rattle.capacity.specs.PlateC.{exactX, markedC, rising, rowsRight, rowFor, lacksRow, engineWeight}
+use Rattle.capacity.specs.PlateC.{liveLoad, persons, lacksTests, plateC}
+use Rattle.capacity.specs.PlateA.{inboardX, loadX, markedA, formulaWatts, powerA, plateA}
+use Rattle.capacity.specs.PlateU.{ruleU, markedU, plateU}
+use Rattle.capacity.specs.Kinds.{PlateKind, kindA, kindC, kindU}
+use Rattle.memory.specs.Formed.{each, hullOk, draftOk, formed}
+use Rattle.memory.specs.Updates.{freshWords, entered, opened, fitted, replaced, dropped, saved}
+use Rattle.register.specs.Refusals.{roomRefusal, hullRefusal, openRefusal, deskRefusal}
+use Rattle.register.specs.Calls.{put, takeOff, replace, tryPlate, plate, write}
+use Rattle.register.specs.Calls.{Call, newHull, openHull, work, save, dropDraft, ask, step}
+
+-- a call, with the answer that it must give
+infix 5 _must_
+pub data Must : Type 0 where
+  _must_ : Call → Answer → Must
+
+abbrev pub wanted : Must → Answer
+wanted (c must a) = a
+
+-- what the calls answer, one after the other, from the memory m on
+given : List ℕ → List Must → List Answer
+given m [] = []
+given m ((c must a) ∷ cs) = step m c .answer ∷ given (step m c .memory) cs
+
+-- ---- the day
+
+stations : List ℕ
+stations =
+    bytes "STN\tQ\t1000\t500\t500\t500\t500\t500\t500\nSTN\tR\t1000\t500\t500\t500\t500\t500\t500\n"
+    ++ bytes "STN\tS\t1000\t500\t500\t500\t500\t500\t500\nSTN\tT\t1000\t500\t500\t500\t500\t500\t500\n"
+
+-- 01's hull of a bare boat that weighs so much
+numbered-text : String → String → List ℕ
+numbered-text hull bare =
+    bytes hull ++ (bytes "FORM\t4500\t4000\t1200\t500\t0\t1\n" ++ (stations
+    ++ (bytes "VOL\t0\t0\t0\nMASS\t" ++ (bytes bare ++ bytes "\t0\t0\nPWR\t1\t20000\nSEAT\t5\t3\nEND\n"))))
+
+-- as it is entered: its HULL number is judged and then ignored
+text : String → List ℕ
+text = numbered-text "HULL\t9\n"
+
+-- an engine row whose weight, taken for its power, would not reach the declared power
+rows : List ℕ
+rows = 20000 ∷ []
+
+grams : List ℕ
+grams = 15000 ∷ []
+
+abbrev byC : PlateKind
+byC = kindC rows grams
+
+abbrev tries : ℕ → PlateKind → Call
+tries d k = work d (tryPlate k)
+
+abbrev marks : ℕ → PlateKind → Call
+marks h k = ask h (plate k)
+
+abbrev writes : ℕ → ℕ → Call
+writes h room = ask h (write (replicate room 7))
+
+day : List Must
+day =
+    (newHull (text "200000") must Count 0) ∷ (newHull (text "203334") must Count 1)
+    ∷ (newHull (text "0") must Refused 3)
+    -- no such desk, hull or draft
+    ∷ (openHull 8 1 must Refused 6) ∷ (openHull 0 2 must Refused 5) ∷ (save 0 must Refused 7)
+    -- desk 0 works on hull 0, where desk 7 has opened it too
+    ∷ (openHull 7 0 must Count 0) ∷ (openHull 0 0 must Count 0) ∷ (work 0 (put 25 1) must Refused 3)
+    ∷ (work 0 (put 2 500001) must Refused 3) ∷ (work 0 (put 2 3334) must Done) ∷ (tries 0 kindA must Plate 326 20000)
+    ∷ (marks 0 kindA must Plate 327 20000) ∷ (tries 0 byC must Plate 325 3) ∷ (tries 0 kindU must Count 718)
+    ∷ (marks 0 kindU must Count 720) ∷ (work 0 (takeOff 1) must Refused 17) ∷ (save 0 must Count 1)
+    ∷ (marks 0 kindA must Plate 326 20000)
+    -- desk 7's draft is behind; opened anew it is the saved sheet, from which the fitting is taken off
+    ∷ (save 7 must Refused 8) ∷ (openHull 7 0 must Count 1) ∷ (work 7 (takeOff 2) must Done)
+    ∷ (work 7 (takeOff 2) must Refused 17) ∷ (save 7 must Count 2) ∷ (marks 0 byC must Plate 326 3)
+    ∷ (marks 1 byC must Plate 325 3) ∷ (marks 1 kindU must Count 718) ∷ (marks 2 kindA must Refused 5)
+    ∷ (marks 2 kindU must Refused 5)
+    -- replace, then drop: nothing of it is left
+    ∷ (openHull 3 1 must Count 0) ∷ (work 3 (replace (text "200000")) must Done) ∷ (tries 3 kindA must Plate 327 20000)
+    ∷ (dropDraft 3 must Done) ∷ (tries 3 kindA must Refused 7) ∷ (tries 3 kindU must Refused 7)
+    ∷ (tries 8 kindU must Refused 6) ∷ (work 3 (replace []) must Refused 7) ∷ (marks 1 kindA must Plate 326 20000)
+    -- written under the register's number
+    ∷ (writes 2 0 must Refused 5) ∷ (writes 1 225 must Refused 16) ∷ (writes 1 226 must Count 226)
+    ∷ []
+
+a-day : given freshWords day ≡ map wanted day
+unfolding given day text numbered-text stations rows grams freshWords entered opened fitted replaced dropped
+    saved each hullOk draftOk formed hullRefusal deskRefusal roomRefusal openRefusal readSheet sheetForm
+    numbersOn numbersOf fitsOf weightsFrom readForm readParts readRows kindOf readLine agreed readNumbers
+    readEntry fieldOf numberOf restOf allHold sheetLimits limitsOn sheetText rowsOn fitRows partsText rowsText
+    numbersText digitsOf digitsIn stationProduct volumeN netZ addedUp boatM exactX markedC rising rowsRight
+    rowFor lacksRow engineWeight liveLoad persons lacksTests plateC inboardX loadX markedA formulaWatts powerA plateA
+    ruleU markedU plateU
+a-day = refl
+
+-- the bytes of a hull's text: the register's number, and nothing beyond the text
+two : List ℕ
+two = step (step freshWords (newHull (text "200000")) .memory) (newHull (text "203334")) .memory
+
+a-text : step two (writes 1 230) .output ≡ numbered-text "HULL\t1\n" "203334" ++ replicate 4 7
+unfolding two text numbered-text stations freshWords entered each hullOk draftOk formed hullRefusal roomRefusal
+    readSheet sheetForm numbersOn numbersOf fitsOf weightsFrom readForm readParts readRows kindOf readLine
+    agreed readNumbers readEntry fieldOf numberOf restOf allHold sheetLimits limitsOn sheetText rowsOn fitRows
+    partsText rowsText numbersText digitsOf digitsIn
+a-text = refl
+
+-- ---- every call with everything wrong that can be
+
+-- no such desk or hull, a text that is none, rows that are wrong, no room
+abbrev pub wrongs : List Call
+wrongs =
+    newHull [] ∷ openHull 8 16 ∷ work 8 (put 0 0) ∷ work 8 (takeOff 0) ∷ work 8 (replace []) ∷ work 8 (tryPlate kindA)
+    ∷ work 8 (tryPlate (kindC [] [])) ∷ work 8 (tryPlate kindU) ∷ save 8 ∷ dropDraft 8
+    ∷ ask 16 (plate kindA) ∷ ask 16 (plate (kindC [] [])) ∷ ask 16 (plate kindU) ∷ ask 16 (write [])
+    ∷ []
+
+-- the memory comes first, of each call
+no-memory : map (λ (c : Call). step [] c .answer) wrongs ≡ replicate 14 (Refused 1)
+unfolding formed roomRefusal hullRefusal openRefusal deskRefusal
+no-memory = refl
