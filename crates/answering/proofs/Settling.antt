@@ -25,7 +25,10 @@ module _ {refusal f : ℕ} (e : f ≡ refusal) where
   pub refused : (a : Answer) (x : List ℕ) {m : List ℕ} → (f ≡ 0 → ⊥) → Left (orRefused refusal a) x m (Refused f) m
   refused a x n = record { answered = answer-refused a n; kept = rw (sym e, ne-eqb f 0 n) refl }
 
-  pub passed : (a : Answer) (x m : List ℕ) {r : Answer} {y : List ℕ} → f ≡ 0 → Left a x m r y → Left (orRefused refusal a) x m r y
+  pub passed : (a : Answer) (x m : List ℕ) {r : Answer} {y : List ℕ}
+      → f ≡ 0
+      → Left a x m r y
+      → Left (orRefused refusal a) x m r y
   passed a x m z p = rw (sym e, z) p
 
 -- nothing refuses it
@@ -35,8 +38,13 @@ done e = record { answered = refl; kept = e }
 -- ---- a text that is read
 
 module _ (t : List ℕ) (a : Answer) (x : List ℕ) where
-  pub text-refused : {m : List ℕ} {number at : ℕ} → readSheet t ≡ lost number at → Left (onText t a Refused) x m (Refused number) m
+  pub text-refused : {m : List ℕ} {number at : ℕ}
+      → readSheet t ≡ lost number at
+      → Left (onText t a Refused) x m (Refused number) m
   text-refused e = rw (e, onText) (record { answered = refl; kept = refl })
 
-  pub text-passed : (m : List ℕ) {k : ℕ} {s y : List ℕ} {r : Answer} → readSheet t ≡ took k s → Left a x m r y → Left (onText t a Refused) x m r y
+  pub text-passed : (m : List ℕ) {k : ℕ} {s y : List ℕ} {r : Answer}
+      → readSheet t ≡ took k s
+      → Left a x m r y
+      → Left (onText t a Refused) x m r y
   text-passed m e p = rw (e, onText) p

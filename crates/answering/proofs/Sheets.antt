@@ -113,5 +113,8 @@ module _ (t : List ℕ) {o : List ℕ} where
 
 -- ---- a sheet's words under a number
 
-pub numbered-as : (n : ℕ) (s ys : List ℕ) → length s ≡ sheetWords → ys ≡ putFirst s (replicate sheetWords 0) → n ∷ (ys ++ []) ≡ n ∷ s
+pub numbered-as : (n : ℕ) (s ys : List ℕ)
+    → length s ≡ sheetWords
+    → ys ≡ putFirst s (replicate sheetWords 0)
+    → n ∷ (ys ++ []) ≡ n ∷ s
 numbered-as n s ys l e = ap (λ (xs : List ℕ). n ∷ xs) (append-nil ys ∙ (e ∙ rw l (append-nil s)))

@@ -137,7 +137,9 @@ pub fn plate_a(mem: &[u32], hull: u32) -> Answer
 
 // Plate C of a hull.
 pub fn plate_c(mem: &[u32], hull: u32, powers: &[u32], weights: &[u32]) -> Answer
-    ensures { λ r. ⌜ r ≡ step (now (mem .entry)) (ask hull (plate (kindC (now (powers .entry)) (now (weights .entry))))) .answer ⌝ }
+    ensures { λ r. ⌜ r
+        ≡ step (now (mem .entry))
+        (ask hull (plate (kindC (now (powers .entry)) (now (weights .entry))))) .answer ⌝ }
 {
     let refusal = hull_refusal(mem, hull);
     if refusal != 0 {
@@ -310,7 +312,9 @@ pub fn trial_a(mem: &[u32], desk: u32) -> Answer
 
 // Plate C of a desk's draft, as a trial.
 pub fn trial_c(mem: &[u32], desk: u32, powers: &[u32], weights: &[u32]) -> Answer
-    ensures { λ r. ⌜ r ≡ step (now (mem .entry)) (work desk (tryPlate (kindC (now (powers .entry)) (now (weights .entry))))) .answer ⌝ }
+    ensures { λ r. ⌜ r
+        ≡ step (now (mem .entry))
+        (work desk (tryPlate (kindC (now (powers .entry)) (now (weights .entry))))) .answer ⌝ }
 {
     let refusal = desk_refusal(mem, desk);
     if refusal != 0 {

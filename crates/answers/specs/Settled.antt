@@ -1,4 +1,4 @@
--- 01, How tight the promises are: a promise settles a call's answer and each lent byte after it. Assumes nothing: these are definitions.
+-- 01, How tight the promises are: a promise settles a call's answer and each lent byte after it.
 use mathlib.Core.Path.{_≡_}
 
 -- the call answered r and left the lent buffers at `left`; the promise allows this answer and these buffers alone

@@ -1,5 +1,6 @@
--- 01, Where each language form belongs, on answers that are enums: this paper's number and values for each case, as the promises cite them. A refusal is its number and
--- no figures; an accepted call has refusal 0 and its figures, those that it does not use 0.
+-- 01, Where each language form belongs, on answers that are enums: this paper's number and values for each case, as the
+-- promises cite them. A refusal is its number and no figures; an accepted call has refusal 0 and its figures, those
+-- that it does not use 0.
 use mathlib.Core.Bool.{Bool, true, false, _&&_}
 use lib.Dec.{leb}
 use Rattle.answers.specs.declared.Answer.{Answer}

@@ -1,6 +1,8 @@
-// What a call answers: the refusals by name and number, the answer inside the house, and the answer as C reads it. Definitions in specs/, laws in proofs/.
+// What a call answers: the refusals by name and number, the answer inside the house, and the answer as C reads it.
+// Definitions in specs/, laws in proofs/.
 
-// The refusals: the one table for the code. specs/Refusals.antt is the definitions' and wb_refusal the header's; a test holds the three to each other.
+// The refusals: the one table for the code. specs/Refusals.antt is the definitions' and wb_refusal the header's; a test
+// holds the three to each other.
 pub const BAD_MEMORY: u32 = 1;
 
 pub const BROKEN_LINE: u32 = 2;
@@ -35,7 +37,8 @@ pub const NO_ROOM: u32 = 16;
 
 pub const EMPTY_LINE: u32 = 17;
 
-// What a call answers: a refusal by its number alone, or that it was done, or a count (of hulls, edits, bytes, rows or pounds), or a plate's load and its other figure.
+// What a call answers: a refusal by its number alone, or that it was done, or a count (of hulls, edits, bytes, rows or
+// pounds), or a plate's load and its other figure.
 pub enum Answer {
     Refused(u32),
     Done,

@@ -39,7 +39,9 @@ unfolding reply
 zero-accepted m c = zero-taken (reply m c .answer) (step-listed m c)
 
 -- where C reads any other refusal, nothing lent was changed
-pub refusal-leaves : (m : List ℕ) (c : Call) → (faced (step m c .answer) .refusal ≡ 0 → ⊥) → Untouched (step m c) m (lent c)
+pub refusal-leaves : (m : List ℕ) (c : Call)
+    → (faced (step m c .answer) .refusal ≡ 0 → ⊥)
+    → Untouched (step m c) m (lent c)
 refusal-leaves m c n = go (isRefusal (step m c .answer)) refl
   where
     go : (b : Bool) → isRefusal (step m c .answer) ≡ b → Untouched (step m c) m (lent c)
@@ -62,5 +64,8 @@ zero-engines t a b = zero-taken (enginesAnswer (readEngines t) a b) (engines-lis
 -- each answer, figure by figure
 answers-right :
     map faced (Refused 12 ∷ Done ∷ Count 718 ∷ Plate 326 20000 ∷ [])
-    ≡ record { refusal = 12; first = 0; second = 0; third = 0 } ∷ record { refusal = 0; first = 0; second = 0; third = 0 } ∷ record { refusal = 0; first = 718; second = 0; third = 0 } ∷ record { refusal = 0; first = 326; second = 20000; third = 0 } ∷ []
+    ≡ record { refusal = 12; first = 0; second = 0; third = 0 }
+    ∷ record { refusal = 0; first = 0; second = 0; third = 0 }
+    ∷ record { refusal = 0; first = 718; second = 0; third = 0 }
+    ∷ record { refusal = 0; first = 326; second = 20000; third = 0 } ∷ []
 answers-right = refl

@@ -36,5 +36,7 @@ one-wb-read-sheet t s = one (faced (readAnswer (readSheet t))) (readInto (readSh
 pub one-wb-write-sheet : (s out : List ℕ) → One (faced (writeAnswer s (length out))) (writeInto s out)
 one-wb-write-sheet s out = one (faced (writeAnswer s (length out))) (writeInto s out)
 
-pub one-wb-read-engines : (t ps ws : List ℕ) → One (faced (enginesAnswer (readEngines t) (length ps) (length ws))) (columnsInto (readEngines t) ps ws)
-one-wb-read-engines t ps ws = one (faced (enginesAnswer (readEngines t) (length ps) (length ws))) (columnsInto (readEngines t) ps ws)
+pub one-wb-read-engines : (t ps ws : List ℕ)
+    → One (faced (enginesAnswer (readEngines t) (length ps) (length ws))) (columnsInto (readEngines t) ps ws)
+one-wb-read-engines t ps ws =
+    one (faced (enginesAnswer (readEngines t) (length ps) (length ws))) (columnsInto (readEngines t) ps ws)

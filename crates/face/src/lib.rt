@@ -105,7 +105,10 @@ pub extern "C" fn wb_trial_a(mem: &[u32], desk: u32) -> WbAnswer
 // Plate C of a desk's draft; answers load and persons.
 #[no_mangle]
 pub extern "C" fn wb_trial_c(mem: &[u32], desk: u32, powers: &[u32], weights: &[u32]) -> WbAnswer
-    ensures { λ r. ⌜ r ≡ faced (step (now (mem .entry)) (work desk (tryPlate (kindC (now (powers .entry)) (now (weights .entry))))) .answer) ⌝ }
+    ensures { λ r. ⌜ r
+        ≡ faced
+        (step (now (mem .entry))
+        (work desk (tryPlate (kindC (now (powers .entry)) (now (weights .entry))))) .answer) ⌝ }
 {
     face(answering::trial_c(mem, desk, powers, weights))
 }
@@ -145,7 +148,10 @@ pub extern "C" fn wb_plate_a(mem: &[u32], hull: u32) -> WbAnswer
 // Plate C of a hull; answers load and persons.
 #[no_mangle]
 pub extern "C" fn wb_plate_c(mem: &[u32], hull: u32, powers: &[u32], weights: &[u32]) -> WbAnswer
-    ensures { λ r. ⌜ r ≡ faced (step (now (mem .entry)) (ask hull (plate (kindC (now (powers .entry)) (now (weights .entry))))) .answer) ⌝ }
+    ensures { λ r. ⌜ r
+        ≡ faced
+        (step (now (mem .entry))
+        (ask hull (plate (kindC (now (powers .entry)) (now (weights .entry))))) .answer) ⌝ }
 {
     face(answering::plate_c(mem, hull, powers, weights))
 }
@@ -169,7 +175,8 @@ pub extern "C" fn wb_write_hull(mem: &[u32], hull: u32, out: &mut [u8]) -> WbAns
 // Reads a sheet from a text, its HULL number too.
 #[no_mangle]
 pub extern "C" fn wb_read_sheet(text: &[u8], sheet: &mut [u32; TEXT_WORDS]) -> WbAnswer
-    ensures { λ r. ⌜ Settled (faced (readAnswer (readSheet (now (text .entry))))) (readInto (readSheet (now (text .entry))) (now (sheet .entry))) r (now (sheet .exit)) ⌝ }
+    ensures { λ r. ⌜ Settled (faced (readAnswer (readSheet (now (text .entry)))))
+        (readInto (readSheet (now (text .entry))) (now (sheet .entry))) r (now (sheet .exit)) ⌝ }
 {
     face(reading::read_sheet(text, sheet))
 }
@@ -177,7 +184,8 @@ pub extern "C" fn wb_read_sheet(text: &[u8], sheet: &mut [u32; TEXT_WORDS]) -> W
 // Writes a sheet's text; answers the count of bytes.
 #[no_mangle]
 pub extern "C" fn wb_write_sheet(sheet: &[u32; TEXT_WORDS], out: &mut [u8]) -> WbAnswer
-    ensures { λ r. ⌜ Settled (faced (writeAnswer (now (sheet .entry)) (length (now (out .entry))))) (writeInto (now (sheet .entry)) (now (out .entry))) r (now (out .exit)) ⌝ }
+    ensures { λ r. ⌜ Settled (faced (writeAnswer (now (sheet .entry)) (length (now (out .entry)))))
+        (writeInto (now (sheet .entry)) (now (out .entry))) r (now (out .exit)) ⌝ }
 {
     face(writing::write_sheet(sheet, out))
 }
@@ -185,7 +193,12 @@ pub extern "C" fn wb_write_sheet(sheet: &[u32; TEXT_WORDS], out: &mut [u8]) -> W
 // Reads engine rows from a text; answers the count of rows.
 #[no_mangle]
 pub extern "C" fn wb_read_engines(text: &[u8], powers: &mut [u32], weights: &mut [u32]) -> WbAnswer
-    ensures { λ r. ⌜ Settled (faced (enginesAnswer (readEngines (now (text .entry))) (length (now (powers .entry))) (length (now (weights .entry))))) (columnsInto (readEngines (now (text .entry))) (now (powers .entry)) (now (weights .entry))) r (now (powers .exit), now (weights .exit)) ⌝ }
+    ensures { λ r. ⌜ Settled
+        (faced
+        (enginesAnswer (readEngines (now (text .entry))) (length (now (powers .entry)))
+        (length (now (weights .entry)))))
+        (columnsInto (readEngines (now (text .entry))) (now (powers .entry)) (now (weights .entry))) r
+        (now (powers .exit), now (weights .exit)) ⌝ }
 {
     face(reading::read_engines(text, powers, weights))
 }

@@ -42,11 +42,17 @@ pub data Known (d : ℕ) : Event → Role → Type 0 where
   some-work : {w : Work} {r : Reply} → Known d (work d w ⇒ r) itsCall
   vain-save : {r : Reply} → accepted r ≡ false → Known d (save d ⇒ r) itsCall
   an-end : {e : Event} → Known d e itsEnd
-  another : (e : Event) → ((es : List Event) → stays d (e ∷ es) ≡ stays d es) → ((es : List Event) → callsBy d (e ∷ es) ≡ callsBy d es) → Known d e elsewhere
+  another : (e : Event)
+      → ((es : List Event) → stays d (e ∷ es) ≡ stays d es)
+      → ((es : List Event) → callsBy d (e ∷ es) ≡ callsBy d es)
+      → Known d e elsewhere
 
 -- an event of desk g: t says whether g is d, and a whether the call was accepted
 module _ (d g : ℕ) (r : Reply) where
-  known-open : (h : ℕ) (t a : Bool) → eqb d g ≡ t → accepted r ≡ a → Known d (openHull g h ⇒ r) (cond (t && a) itsOpen elsewhere)
+  known-open : (h : ℕ) (t a : Bool)
+      → eqb d g ≡ t
+      → accepted r ≡ a
+      → Known d (openHull g h ⇒ r) (cond (t && a) itsOpen elsewhere)
   unfolding callsBy stays
   known-open h true true p q = rw (← eqb-true d g p) (an-open q)
   known-open h true false p q = another (openHull g h ⇒ r) (λ es. rw (p, q)) (λ es. refl)
@@ -57,7 +63,10 @@ module _ (d g : ℕ) (r : Reply) where
   known-work w true p = rw (← eqb-true d g p) some-work
   known-work w false p = another (work g w ⇒ r) (λ es. refl) (λ es. rw p)
 
-  known-save : (t a : Bool) → eqb d g ≡ t → accepted r ≡ a → Known d (save g ⇒ r) (cond t (cond a itsEnd itsCall) elsewhere)
+  known-save : (t a : Bool)
+      → eqb d g ≡ t
+      → accepted r ≡ a
+      → Known d (save g ⇒ r) (cond t (cond a itsEnd itsCall) elsewhere)
   unfolding callsBy stays
   known-save true true p q = an-end
   known-save true false p q = rw (← eqb-true d g p) (vain-save q)
@@ -90,7 +99,8 @@ pub record Whole (d : ℕ) (past : List Event) (o : Opening) (b : List Event) : 
   pub held-since : stays d newer ≡ true
   pub is : b ≡ callsBy d newer ++ ((openHull d (o .hull) ⇒ its-reply) ∷ [])
 
-module _ {d : ℕ} {past : List Event} {o : Opening} {b : List Event} (e : Event) (w : Whole d past o b) (s : (es : List Event) → stays d (e ∷ es) ≡ stays d es) where
+module _ {d : ℕ} {past : List Event} {o : Opening} {b : List Event} (e : Event) (w : Whole d past o b)
+    (s : (es : List Event) → stays d (e ∷ es) ≡ stays d es) where
   passed : ((es : List Event) → callsBy d (e ∷ es) ≡ callsBy d es) → Whole d (e ∷ past) o b
   passed c =
       record {
@@ -113,14 +123,18 @@ module _ {d : ℕ} {past : List Event} {o : Opening} {b : List Event} (e : Event
         is = rw (c (w .newer)) (ap (λ (es : List Event). e ∷ es) (w .is));
       }
 
-whole-step : {d : ℕ} {e : Event} {s : Role} (past : List Event) (o : Opening) → Known d e s → role d e ≡ s → opening d (e ∷ past) ≡ some o
+whole-step : {d : ℕ} {e : Event} {s : Role} (past : List Event) (o : Opening)
+    → Known d e s
+    → role d e ≡ s
+    → opening d (e ∷ past) ≡ some o
     → (opening d past ≡ some o → Whole d past o (block d past)) → Whole d (e ∷ past) o (block d (e ∷ past))
 unfolding block opening callsBy stays
 whole-step past o (an-open {h} {r} a) p q f =
     let u : _≡_ {A = Opening} (record { hull = h; before = past }) o = some-inj (rw (p, opening) at q) in
     rw (p, block, ← u) (record { newer = []; its-reply = r; splits = refl; made-it = a; held-since = refl; is = refl })
 whole-step past o some-work p q f = rw (p, block) (joined _ (f (rw (p, opening) at q)) (λ es. refl) (λ es. rw self))
-whole-step past o (vain-save a) p q f = rw (p, block) (joined _ (f (rw (p, opening) at q)) (λ es. rw (self, a)) (λ es. rw self))
+whole-step past o (vain-save a) p q f =
+    rw (p, block) (joined _ (f (rw (p, opening) at q)) (λ es. rw (self, a)) (λ es. rw self))
 whole-step past o an-end p q f = absurd (none≢some (rw (p, opening) at q))
 whole-step past o (another e s c) p q f = rw (p, block) (passed _ (f (rw (p, opening) at q)) s c)
 

@@ -27,6 +27,7 @@ use Rattle.capacity.specs.Kinds.{kindA, kindC, kindU}
 use Rattle.memory.specs.Formed.{each, hullOk, draftOk, formed}
 use Rattle.memory.specs.Updates.{freshWords, entered, opened, fitted, replaced, dropped, saved}
 use Rattle.register.specs.Refusals.{hullRefusal, deskRefusal, roomRefusal, openRefusal}
+use Rattle.sheet.proofs.BaseHull.{form, mass, power, seats, sheetWith}
 use Rattle.register.specs.Calls.{put, takeOff, tryPlate, plate, write, newHull, openHull, work, save, dropDraft, ask}
 use Rattle.history.specs.Replies.{says, reply, next}
 use Rattle.history.specs.Runs.{Event, _⇒_, call}
@@ -34,12 +35,9 @@ use Rattle.history.specs.History.{role, block, spot, serial}
 use Rattle.history.specs.Told.{opening, isSaveOf, savesOf, quietSince}
 use Rattle.history.specs.InOrder.{transcript, order}
 
-stations : List ℕ
-stations = bytes "STN\tQ\t1000\t500\t500\t500\t500\t500\t500\nSTN\tR\t1000\t500\t500\t500\t500\t500\t500\nSTN\tS\t1000\t500\t500\t500\t500\t500\t500\nSTN\tT\t1000\t500\t500\t500\t500\t500\t500\n"
-
 -- 01's hull, under a number, with fitting lines
 text : String → String → List ℕ
-text hull fits = bytes hull ++ (bytes "FORM\t4500\t4000\t1200\t500\t0\t1\n" ++ (stations ++ (bytes "VOL\t0\t0\t0\nMASS\t200000\t0\t0\nPWR\t1\t20000\nSEAT\t5\t3\n" ++ (bytes fits ++ bytes "END\n"))))
+text number fits = sheetWith number form mass power seats (bytes fits ++ bytes "END\n")
 
 abbrev entering : Event
 entering = newHull (text "HULL\t9\n" "") ⇒ says (Count 0)
@@ -49,7 +47,9 @@ faulty = newHull (bytes "HULL\t16\n") ⇒ says (Refused 3)
 
 -- the hull's text, with the fitting that desk 1 saved, into an output of three bytes more
 abbrev writing : Event
-writing = ask 0 (write (replicate 240 7)) ⇒ record { answer = Count 237; output = text "HULL\t0\n" "FIT\t2\t3334\n" ++ replicate 3 7 }
+writing =
+    ask 0 (write (replicate 240 7)) ⇒
+    record { answer = Count 237; output = text "HULL\t0\n" "FIT\t2\t3334\n" ++ replicate 3 7 }
 
 -- by an engine row whose weight, taken for its power, would not reach the declared power
 abbrev trialC : Event
@@ -60,10 +60,13 @@ day =
     entering
     ∷ (openHull 0 0 ⇒ says (Count 0)) ∷ (openHull 1 0 ⇒ says (Count 0))
     ∷ (work 1 (put 2 3334) ⇒ says Done) ∷ (work 0 (put 1 500) ⇒ says Done)
-    ∷ (ask 0 (plate kindA) ⇒ says (Plate 327 20000)) ∷ (ask 0 (plate kindU) ⇒ says (Count 720)) ∷ (work 1 (tryPlate kindA) ⇒ says (Plate 326 20000)) ∷ (work 1 (tryPlate kindU) ⇒ says (Count 718))
-    ∷ (save 1 ⇒ says (Count 1)) ∷ (ask 0 (plate kindA) ⇒ says (Plate 326 20000)) ∷ (ask 0 (plate kindU) ⇒ says (Count 718))
+    ∷ (ask 0 (plate kindA) ⇒ says (Plate 327 20000)) ∷ (ask 0 (plate kindU) ⇒ says (Count 720))
+    ∷ (work 1 (tryPlate kindA) ⇒ says (Plate 326 20000)) ∷ (work 1 (tryPlate kindU) ⇒ says (Count 718))
+    ∷ (save 1 ⇒ says (Count 1)) ∷ (ask 0 (plate kindA) ⇒ says (Plate 326 20000))
+    ∷ (ask 0 (plate kindU) ⇒ says (Count 718))
     -- desk 0 is behind, and opens anew; meanwhile desk 3 opens too
-    ∷ (save 0 ⇒ says (Refused 8)) ∷ (openHull 0 0 ⇒ says (Count 1)) ∷ (openHull 3 0 ⇒ says (Count 1)) ∷ (work 0 (takeOff 1) ⇒ says (Refused 17)) ∷ trialC
+    ∷ (save 0 ⇒ says (Refused 8)) ∷ (openHull 0 0 ⇒ says (Count 1)) ∷ (openHull 3 0 ⇒ says (Count 1))
+    ∷ (work 0 (takeOff 1) ⇒ says (Refused 17)) ∷ trialC
     ∷ writing ∷ (work 0 (takeOff 2) ⇒ says Done) ∷ (save 0 ⇒ says (Count 2))
     -- desk 3 is behind, and gives up
     ∷ (save 3 ⇒ says (Refused 8)) ∷ (dropDraft 3 ⇒ says Done) ∷ (save 3 ⇒ says (Refused 7))
@@ -75,16 +78,19 @@ serial-day =
     entering
     ∷ (ask 0 (plate kindA) ⇒ says (Plate 327 20000)) ∷ (ask 0 (plate kindU) ⇒ says (Count 720))
     -- desk 1's block, at its save's place, its trials among its calls
-    ∷ (openHull 1 0 ⇒ says (Count 0)) ∷ (work 1 (put 2 3334) ⇒ says Done) ∷ (work 1 (tryPlate kindA) ⇒ says (Plate 326 20000)) ∷ (work 1 (tryPlate kindU) ⇒ says (Count 718)) ∷ (save 1 ⇒ says (Count 1))
+    ∷ (openHull 1 0 ⇒ says (Count 0)) ∷ (work 1 (put 2 3334) ⇒ says Done)
+    ∷ (work 1 (tryPlate kindA) ⇒ says (Plate 326 20000)) ∷ (work 1 (tryPlate kindU) ⇒ says (Count 718))
+    ∷ (save 1 ⇒ says (Count 1))
     ∷ (ask 0 (plate kindA) ⇒ says (Plate 326 20000)) ∷ (ask 0 (plate kindU) ⇒ says (Count 718)) ∷ writing
     -- desk 0's second draft; its first is left out
-    ∷ (openHull 0 0 ⇒ says (Count 1)) ∷ (work 0 (takeOff 1) ⇒ says (Refused 17)) ∷ trialC ∷ (work 0 (takeOff 2) ⇒ says Done) ∷ (save 0 ⇒ says (Count 2))
+    ∷ (openHull 0 0 ⇒ says (Count 1)) ∷ (work 0 (takeOff 1) ⇒ says (Refused 17)) ∷ trialC
+    ∷ (work 0 (takeOff 2) ⇒ says Done) ∷ (save 0 ⇒ says (Count 2))
     ∷ faulty ∷ (ask 1 (plate kindA) ⇒ says (Refused 5)) ∷ (ask 0 (plate kindA) ⇒ says (Plate 327 20000))
     ∷ []
 
 -- the day is as it says
 a-day : transcript freshWords (map call day) ≡ day
-unfolding transcript reply next day text stations freshWords entered opened fitted replaced dropped saved each
+unfolding transcript reply next day text freshWords entered opened fitted replaced dropped saved each
     hullOk draftOk formed hullRefusal deskRefusal roomRefusal openRefusal readSheet sheetForm numbersOn
     numbersOf fitsOf weightsFrom readForm readParts readRows kindOf readLine agreed readNumbers readEntry
     fieldOf numberOf restOf allHold sheetLimits limitsOn sheetText rowsOn fitRows partsText rowsText numbersText
@@ -100,7 +106,7 @@ a-day-in-order = refl
 
 -- and that list, run from fresh, has the same replies
 a-day-again : transcript freshWords (map call serial-day) ≡ serial-day
-unfolding transcript reply next serial-day text stations freshWords entered opened fitted replaced dropped saved
+unfolding transcript reply next serial-day text freshWords entered opened fitted replaced dropped saved
     each hullOk draftOk formed hullRefusal deskRefusal roomRefusal openRefusal readSheet sheetForm numbersOn
     numbersOf fitsOf weightsFrom readForm readParts readRows kindOf readLine agreed readNumbers readEntry
     fieldOf numberOf restOf allHold sheetLimits limitsOn sheetText rowsOn fitRows partsText rowsText numbersText

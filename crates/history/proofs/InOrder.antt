@@ -18,7 +18,8 @@ use Rattle.history.proofs.Theorems.{save-iff, save-does, edits-count, s
 -- ---- the two ways to write a run
 
 module _ (m : List ℕ) where
-  history-turned : (cs past : List Call) → history m (reverseAux cs past) ≡ reverseAux (transcript (after m past) cs) (history m past)
+  history-turned : (cs past : List Call)
+      → history m (reverseAux cs past) ≡ reverseAux (transcript (after m past) cs) (history m past)
   unfolding history after transcript
   history-turned [] past = refl
   history-turned (c ∷ cs) past = history-turned cs (c ∷ past)
@@ -37,12 +38,14 @@ module _ (m : List ℕ) where
   newest-last cs = after-turned cs []
 
   oldest-first : (cs : List Call) → transcript (freshStep m .memory) (reverse cs) ≡ reverse (history m cs)
-  oldest-first cs = sym (reverse-reverse _) ∙ ap reverse (sym (newest-first (reverse cs)) ∙ ap (history m) (reverse-reverse cs))
+  oldest-first cs =
+      sym (reverse-reverse _) ∙ ap reverse (sym (newest-first (reverse cs)) ∙ ap (history m) (reverse-reverse cs))
 
   oldest-last : (cs : List Call) → lastly (freshStep m .memory) (reverse cs) ≡ after m cs
   oldest-last cs = sym (newest-last (reverse cs)) ∙ ap (after m) (reverse-reverse cs)
 
-  order-turned : (cs : List Call) → order (transcript (freshStep m .memory) cs) ≡ reverse (serial (history m (reverse cs)))
+  order-turned : (cs : List Call)
+      → order (transcript (freshStep m .memory) cs) ≡ reverse (serial (history m (reverse cs)))
   unfolding order
   order-turned cs = rw (newest-first cs)
 
@@ -55,30 +58,48 @@ calls-turned (e ∷ es) fs = calls-turned es (e ∷ fs)
 module _ (m : List ℕ) (z : length m ≡ registerWords) where
   -- From a fresh register: the calls of a run in serial order have the replies that they had in the run, and leave the
   -- same hulls with the same edit numbers.
-  pub serial-in-order : (cs : List Call) → GivesInOrder m (transcript (freshStep m .memory) cs) (lastly (freshStep m .memory) cs)
+  pub serial-in-order : (cs : List Call)
+      → GivesInOrder m (transcript (freshStep m .memory) cs) (lastly (freshStep m .memory) cs)
   serial-in-order cs =
       let es : List Event = serial (history m (reverse cs)) in
       let g : Gives m es (after m (reverse cs)) = serial-gives m z (reverse cs) in
-      let q : map call (order (transcript (freshStep m .memory) cs)) ≡ reverse (map call es) = ap (map call) (order-turned m cs) ∙ calls-turned es [] in
+      let q : map call (order (transcript (freshStep m .memory) cs)) ≡ reverse (map call es) =
+      ap (map call) (order-turned m cs) ∙ calls-turned es [] in
       record {
-        replies = ap (transcript (freshStep m .memory)) q ∙ oldest-first m (map call es) ∙ ap reverse (g .replies) ∙ sym (order-turned m cs);
+        replies = ap (transcript (freshStep m .memory)) q
+            ∙ oldest-first m (map call es)
+            ∙ ap reverse (g .replies)
+            ∙ sym (order-turned m cs);
         hulls = rw (q, oldest-last m (map call es), ← newest-last m cs) (g .hulls);
       }
 
   -- From a fresh register: a save after a run is accepted exactly when it is due.
-  pub save-iff-in-order : (cs : List Call) (d : ℕ) → (accepted (reply (lastly (freshStep m .memory) cs) (save d)) ≡ true) ↔ Due d (reverse (transcript (freshStep m .memory) cs))
+  pub save-iff-in-order : (cs : List Call) (d : ℕ)
+      → (accepted (reply (lastly (freshStep m .memory) cs) (save d)) ≡ true)
+      ↔ Due d (reverse (transcript (freshStep m .memory) cs))
   save-iff-in-order cs d = rw (← newest-last m cs, ← newest-first m cs) (save-iff m z (reverse cs) d)
 
   -- And then does what demand 3 says.
   pub save-does-in-order : (cs : List Call) (d : ℕ) (u : Due d (reverse (transcript (freshStep m .memory) cs)))
-      → SaveDoes d (u .draft) (reverse (transcript (freshStep m .memory) cs)) (lastly (freshStep m .memory) (reverse (map call (u .draft .before)))) (lastly (freshStep m .memory) cs)
+      → SaveDoes d (u .draft) (reverse (transcript (freshStep m .memory) cs))
+      (lastly (freshStep m .memory) (reverse (map call (u .draft .before)))) (lastly (freshStep m .memory) cs)
       (reply (lastly (freshStep m .memory) cs) (save d) .answer) (next (lastly (freshStep m .memory) cs) (save d))
   unfolding after
-  save-does-in-order cs d = rw (← newest-last m cs, ← newest-first m cs) (λ u. rw (oldest-last m (map call (u .draft .before))) (save-does m z (reverse cs) d u))
+  save-does-in-order cs d =
+      rw (← newest-last m cs, ← newest-first m cs)
+      (λ u. rw (oldest-last m (map call (u .draft .before))) (save-does m z (reverse cs) d u))
 
   -- Edit numbers count accepted saves.
-  pub edits-count-in-order : (cs : List Call) (h : ℕ) → h < hullCount (lastly (freshStep m .memory) cs) → edit (lastly (freshStep m .memory) cs) h ≡ savesOf h (reverse (transcript (freshStep m .memory) cs))
+  pub edits-count-in-order : (cs : List Call) (h : ℕ)
+      → h < hullCount (lastly (freshStep m .memory) cs)
+      → edit (lastly (freshStep m .memory) cs) h ≡ savesOf h (reverse (transcript (freshStep m .memory) cs))
   edits-count-in-order cs h = rw (← newest-last m cs, ← newest-first m cs) (edits-count m z (reverse cs) h)
 
 pub demand-3-in-order : (m : List ℕ) → length m ≡ registerWords → DemandInOrder m
-demand-3-in-order m z = record { accepts = save-iff-in-order m z; saves = save-does-in-order m z; counts = edits-count-in-order m z; serves = serial-in-order m z }
+demand-3-in-order m z =
+    record {
+      accepts = save-iff-in-order m z;
+      saves = save-does-in-order m z;
+      counts = edits-count-in-order m z;
+      serves = serial-in-order m z;
+    }

@@ -66,10 +66,16 @@ abbrev pub atDesk : State → ℕ → Option Draft → State
 atDesk s d o = record { register = s .register; draft = but (s .draft) d o }
 
 abbrev pub enter : Register → List ℕ → Register
-enter r t = record { entered = suc (r .entered); hull = but (r .hull) (r .entered) (record { sheet = sheetOf t; edits = 0 }) }
+enter r t =
+    record { entered = suc (r .entered); hull = but (r .hull) (r .entered) (record { sheet = sheetOf t; edits = 0 }) }
 
 abbrev pub store : Register → Draft → Register
-store r x = record { entered = r .entered; hull = but (r .hull) (x .hull) (record { sheet = x .sheet; edits = suc (r .hull (x .hull) .edits) }) }
+store r x =
+    record {
+      entered = r .entered;
+      hull = but (r .hull) (x .hull)
+          (record { sheet = x .sheet; edits = suc (r .hull (x .hull) .edits) });
+    }
 
 abbrev pub opens : Register → ℕ → Draft
 opens r h = record { hull = h; opening = r .hull h .edits; sheet = r .hull h .sheet }
@@ -92,7 +98,11 @@ saveOf s d (some x) =
     cond (eqb (s .register .hull (x .hull) .edits) (x .opening))
     (cond (eqb (s .register .hull (x .hull) .edits) mostEdits)
     (refuse s (save d) editsSpent)
-    (record { state = record { register = store (s .register) x; draft = but (s .draft) d none }; reply = says (Count (suc (s .register .hull (x .hull) .edits))) }))
+    (record {
+      state = record { register = store (s .register) x; draft = but (s .draft) d none };
+      reply = says
+          (Count (suc (s .register .hull (x .hull) .edits)));
+    }))
     (refuse s (save d) editedSince)
 
 abbrev dropOf : State → ℕ → Option Draft → Outcome
@@ -102,11 +112,18 @@ dropOf s d (some x) = record { state = atDesk s d none; reply = says Done }
 unfoldable pub step : State → Call → Outcome
 step s (newHull t) =
     cond (ltb (s .register .entered) mostHulls)
-    (onText t (record { state = record { register = enter (s .register) t; draft = s .draft }; reply = says (Count (s .register .entered)) }) (refuse s (newHull t)))
+    (onText t
+    (record {
+      state = record { register = enter (s .register) t; draft = s .draft };
+      reply = says
+          (Count (s .register .entered));
+    }) (refuse s (newHull t)))
     (refuse s (newHull t) full)
 step s (openHull d h) =
     cond (ltb d desks)
-    (cond (ltb h (s .register .entered)) (record { state = atDesk s d (some (opens (s .register) h)); reply = says (Count (s .register .hull h .edits)) }) (refuse s (openHull d h) noHull))
+    (cond (ltb h (s .register .entered))
+    (record { state = atDesk s d (some (opens (s .register) h)); reply = says (Count (s .register .hull h .edits)) })
+    (refuse s (openHull d h) noHull))
     (refuse s (openHull d h) noDesk)
 step s (work d w) = cond (ltb d desks) (workOn s d w (s .draft d)) (refuse s (work d w) noDesk)
 step s (save d) = cond (ltb d desks) (saveOf s d (s .draft d)) (refuse s (save d) noDesk)
@@ -119,7 +136,11 @@ step s (ask h q) =
 -- ---- a run from fresh, newest first. The slots of hulls not entered are as fresh start leaves them.
 
 unfoldable pub fresh : State
-fresh = record { register = record { entered = 0; hull = λ (h : ℕ). record { sheet = hullSheet freshWords h; edits = 0 } }; draft = λ (d : ℕ). none }
+fresh =
+    record {
+      register = record { entered = 0; hull = λ (h : ℕ). record { sheet = hullSheet freshWords h; edits = 0 } };
+      draft = λ (d : ℕ). none;
+    }
 
 unfoldable pub stateOf : List Call → State
 stateOf [] = fresh

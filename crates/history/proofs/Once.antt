@@ -44,7 +44,8 @@ module _ (f k : ℕ → ℕ) (g : ℕ) (other : (d : ℕ) → eqb d g ≡ false 
   sum-before : (n : ℕ) → n ≤ g → sumBelow k n ≡ sumBelow f n
   unfolding sumBelow
   sum-before zero l = refl
-  sum-before (suc n) l = let a = sum-before n (omega arith) in let b = other n (ne-eqb n g (λ e. omega arith)) in omega arith
+  sum-before (suc n) l =
+      let a = sum-before n (omega arith) in let b = other n (ne-eqb n g (λ e. omega arith)) in omega arith
 
   sum-beyond : (n : ℕ) → g < n → sumBelow k n + f g ≡ sumBelow f n + k g
   unfolding sumBelow
@@ -56,7 +57,8 @@ module _ (f k : ℕ → ℕ) (g : ℕ) (other : (d : ℕ) → eqb d g ≡ false 
       ]
 
   sum-grows : (c n : ℕ) → k g ≤ c + f g → sumBelow k n ≤ c + sumBelow f n
-  sum-grows c n l = elim (below g n) [ inl p ↦ let a = sum-beyond n p in omega arith | inr p ↦ let a = sum-before n p in omega arith ]
+  sum-grows c n l =
+      elim (below g n) [ inl p ↦ let a = sum-beyond n p in omega arith | inr p ↦ let a = sum-before n p in omega arith ]
 
 module _ (w : Event → ℕ) where
   -- what the desks' blocks weigh
@@ -75,16 +77,23 @@ module _ (w : Event → ℕ) where
       go elsewhere p = rw (p, block) (omega arith)
 
   -- and where it is desk g's, to no block but that one
-  blocks-grow : (e : Event) (g : ℕ) (past : List Event) (n : ℕ) → ((d : ℕ) → eqb d g ≡ false → role d e ≡ elsewhere) → sumBelow (held (e ∷ past)) n ≤ w e + sumBelow (held past) n
+  blocks-grow : (e : Event) (g : ℕ) (past : List Event) (n : ℕ)
+      → ((d : ℕ) → eqb d g ≡ false → role d e ≡ elsewhere)
+      → sumBelow (held (e ∷ past)) n ≤ w e + sumBelow (held past) n
   unfolding held block
-  blocks-grow e g past n o = sum-grows (held past) (held (e ∷ past)) g (λ d p. rw (o d p, block)) (w e) n (weigh g e past)
+  blocks-grow e g past n o =
+      sum-grows (held past) (held (e ∷ past)) g (λ d p. rw (o d p, block)) (w e) n (weigh g e past)
 
   -- the serial list, and the blocks of the desks below n
   Within : List Event → ℕ → Type 0
   Within past n = weight w (serial past) + sumBelow (held past) n ≤ weight w past
 
   -- a save, by whether it was accepted
-  saved-within : (g : ℕ) (r : Reply) (past : List Event) (n : ℕ) → ((j : ℕ) → Within past j) → (a : Bool) → accepted r ≡ a → Within ((save g ⇒ r) ∷ past) n
+  saved-within : (g : ℕ) (r : Reply) (past : List Event) (n : ℕ)
+      → ((j : ℕ) → Within past j)
+      → (a : Bool)
+      → accepted r ≡ a
+      → Within ((save g ⇒ r) ∷ past) n
   unfolding Within held weight serial block role spot
   saved-within g r past n h true e =
       let k : ℕ → ℕ = held ((save g ⇒ r) ∷ past) in
@@ -93,7 +102,8 @@ module _ (w : Event → ℕ) where
       let b = sum-more k n (suc g) in
       let c = weight-append w (block g past) (serial past) in
       let i = h (n + suc g) in
-      let q : weight w (serial ((save g ⇒ r) ∷ past)) ≡ w (save g ⇒ r) + weight w (block g past ++ serial past) = rw (e, serial) in
+      let q : weight w (serial ((save g ⇒ r) ∷ past)) ≡ w (save g ⇒ r) + weight w (block g past ++ serial past) =
+      rw (e, serial) in
       omega arith
   saved-within g r past n h false e =
       let a = blocks-grow (save g ⇒ r) g past n (λ d o. rw o) in
@@ -105,10 +115,13 @@ module _ (w : Event → ℕ) where
   unfolding Within held weight serial block role spot
   within [] n = omega (arith, sum-none n)
   within ((newHull t ⇒ r) ∷ past) n = let h = within past n in omega arith
-  within ((openHull g k ⇒ r) ∷ past) n = let h = within past n in let a = blocks-grow (openHull g k ⇒ r) g past n (λ d o. rw o) in omega arith
-  within ((work g x ⇒ r) ∷ past) n = let h = within past n in let a = blocks-grow (work g x ⇒ r) g past n (λ d o. rw o) in omega arith
+  within ((openHull g k ⇒ r) ∷ past) n =
+      let h = within past n in let a = blocks-grow (openHull g k ⇒ r) g past n (λ d o. rw o) in omega arith
+  within ((work g x ⇒ r) ∷ past) n =
+      let h = within past n in let a = blocks-grow (work g x ⇒ r) g past n (λ d o. rw o) in omega arith
   within ((save g ⇒ r) ∷ past) n = saved-within g r past n (within past) (accepted r) refl
-  within ((dropDraft g ⇒ r) ∷ past) n = let h = within past n in let a = blocks-grow (dropDraft g ⇒ r) g past n (λ d o. rw o) in omega arith
+  within ((dropDraft g ⇒ r) ∷ past) n =
+      let h = within past n in let a = blocks-grow (dropDraft g ⇒ r) g past n (λ d o. rw o) in omega arith
   within ((ask h q ⇒ r) ∷ past) n = let h = within past n in omega arith
 
   -- Each call of a history is taken at most once.

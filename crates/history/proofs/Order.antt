@@ -54,14 +54,21 @@ placed-append ((openHull d h ⇒ r) ∷ a) b = placed-append a b
 placed-append ((work d w ⇒ r) ∷ a) b = placed-append a b
 placed-append ((save d ⇒ r) ∷ a) b = go (accepted r) (placed-append a b)
   where
-    go : (t : Bool) → placed (a ++ b) ≡ placed a ++ placed b → cond t ((save d ⇒ r) ∷ placed (a ++ b)) (placed (a ++ b)) ≡ cond t ((save d ⇒ r) ∷ placed a) (placed a) ++ placed b
+    go : (t : Bool)
+        → placed (a ++ b) ≡ placed a ++ placed b
+        → cond t ((save d ⇒ r) ∷ placed (a ++ b)) (placed (a ++ b))
+        ≡ cond t ((save d ⇒ r) ∷ placed a) (placed a) ++ placed b
     go true h = ap (λ (es : List Event). (save d ⇒ r) ∷ es) h
     go false h = h
 placed-append ((dropDraft d ⇒ r) ∷ a) b = placed-append a b
 placed-append ((ask h q ⇒ r) ∷ a) b = ap (λ (es : List Event). (ask h q ⇒ r) ∷ es) (placed-append a b)
 
 -- the calls of a block have no place of their own
-unplaced : {d : ℕ} {e : Event} {s : Role} (past : List Event) → Known d e s → role d e ≡ s → placed (block d past) ≡ [] → placed (block d (e ∷ past)) ≡ []
+unplaced : {d : ℕ} {e : Event} {s : Role} (past : List Event)
+    → Known d e s
+    → role d e ≡ s
+    → placed (block d past) ≡ []
+    → placed (block d (e ∷ past)) ≡ []
 unfolding placed block
 unplaced past (an-open a) p n = rw (p, block)
 unplaced past some-work p n = rw (p, block) n
@@ -83,7 +90,10 @@ places-kept ((openHull d h ⇒ r) ∷ past) = places-kept past
 places-kept ((work d w ⇒ r) ∷ past) = places-kept past
 places-kept ((save d ⇒ r) ∷ past) = go (accepted r) refl (places-kept past)
   where
-    go : (t : Bool) → accepted r ≡ t → placed (serial past) ≡ placed past → placed (serial ((save d ⇒ r) ∷ past)) ≡ placed ((save d ⇒ r) ∷ past)
+    go : (t : Bool)
+        → accepted r ≡ t
+        → placed (serial past) ≡ placed past
+        → placed (serial ((save d ⇒ r) ∷ past)) ≡ placed ((save d ⇒ r) ∷ past)
     go true e h = rw (e, serial) (rw (e, placed-append (block d past) (serial past), block-none d past, h))
     go false e h = rw (e, serial) h
 places-kept ((dropDraft d ⇒ r) ∷ past) = places-kept past

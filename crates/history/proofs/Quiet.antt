@@ -25,10 +25,14 @@ counted false s = s
 abbrev SinceOpen : ℕ → ℕ → List Event → Opening → Type 0
 SinceOpen d h past o = Since (quietSince d h past) (savesOf h past) (savesOf h (o .before))
 
-since-step : {d : ℕ} {e : Event} {s : Role} (h : ℕ) (past : List Event) (o : Opening) → Known d e s → role d e ≡ s → opening d (e ∷ past) ≡ some o
+since-step : {d : ℕ} {e : Event} {s : Role} (h : ℕ) (past : List Event) (o : Opening)
+    → Known d e s
+    → role d e ≡ s
+    → opening d (e ∷ past) ≡ some o
     → (opening d past ≡ some o → SinceOpen d h past o) → SinceOpen d h (e ∷ past) o
 unfolding opening quietSince savesOf isSaveOf
-since-step h past o (an-open a) p q f = still (rw (p, quietSince)) (ap (λ (x : Opening). savesOf h (x .before)) (some-inj (rw (p, opening) at q)))
+since-step h past o (an-open a) p q f =
+    still (rw (p, quietSince)) (ap (λ (x : Opening). savesOf h (x .before)) (some-inj (rw (p, opening) at q)))
 since-step h past o some-work p q f = rw (p, quietSince) (f (rw (p, opening) at q))
 since-step h past o (vain-save a) p q f = rw (p, quietSince, a) (f (rw (p, opening) at q))
 since-step h past o an-end p q f = absurd (none≢some (rw (p, opening) at q))

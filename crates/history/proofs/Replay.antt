@@ -1,6 +1,5 @@
 -- A desk's draft and its block: wherever the draft's hull is as it was at the open, the calls of the block give that
 -- draft again, each with the reply that it had.
---
 use Prim.Native.Nat.{ℕ, _≤_, _<_}
 use native.Mathlib.Omega.{arith}
 use native.Mathlib.Nat.{le-refl}
@@ -34,7 +33,9 @@ pub state-by : (cs : List Call) {c : Call} {t : State} {r : Reply} → Way (stat
 unfolding stateOf
 state-by cs p = ap (λ (o : Outcome). o .state) (way-taken (stateOf cs) p)
 
-pub events-by : (cs : List Call) {c : Call} {t : State} {r : Reply} → Way (stateOf cs) c t r → eventsOf (c ∷ cs) ≡ (c ⇒ r) ∷ eventsOf cs
+pub events-by : (cs : List Call) {c : Call} {t : State} {r : Reply}
+    → Way (stateOf cs) c t r
+    → eventsOf (c ∷ cs) ≡ (c ⇒ r) ∷ eventsOf cs
 unfolding eventsOf
 events-by cs {c} p = ap (λ (o : Outcome). (c ⇒ o .reply) ∷ eventsOf cs) (way-taken (stateOf cs) p)
 
@@ -54,28 +55,77 @@ pub record Ready (R : Register) (d : ℕ) (x : Draft) (b : List Event) : Type 0 
   pub grown : x .opening ≤ R .hull (x .hull) .edits
   pub clean : R .hull (x .hull) .edits ≡ x .opening → (R .hull (x .hull) .edits ≡ mostEdits → ⊥) → saveless b ≡ true
   pub replays : R .hull (x .hull) .edits ≡ x .opening → (R .hull (x .hull) .edits ≡ mostEdits → ⊥)
-      → (cs : List Call) → x .hull < stateOf cs .register .entered → stateOf cs .register .hull (x .hull) ≡ R .hull (x .hull) → Replays d x b cs
+      → (cs : List Call)
+      → x .hull < stateOf cs .register .entered
+      → stateOf cs .register .hull (x .hull) ≡ R .hull (x .hull)
+      → Replays d x b cs
 
-kept : {R : Register} {d : ℕ} {x : Draft} {b : List Event} (Q : Register) → Ready R d x b → R .entered ≤ Q .entered → Q .hull (x .hull) ≡ R .hull (x .hull) → Ready Q d x b
-kept Q r l e = record { desk = r .desk; hull = omega (arith, r .hull); grown = rw e (r .grown); clean = rw e (r .clean); replays = rw e (r .replays) }
+kept : {R : Register} {d : ℕ} {x : Draft} {b : List Event} (Q : Register)
+    → Ready R d x b
+    → R .entered ≤ Q .entered
+    → Q .hull (x .hull) ≡ R .hull (x .hull)
+    → Ready Q d x b
+kept Q r l e =
+    record {
+      desk = r .desk;
+      hull = omega (arith, r .hull);
+      grown = rw e (r .grown);
+      clean = rw e (r .clean);
+      replays =
+          rw e (r .replays);
+    }
 
 -- a draft that can no longer be saved
-lost : {R : Register} {d : ℕ} {x : Draft} {b : List Event} (Q : Register) (c : List Event) → Ready R d x b → R .entered ≤ Q .entered
-    → (Q .hull (x .hull) .edits ≡ x .opening → (Q .hull (x .hull) .edits ≡ mostEdits → ⊥) → ⊥) → x .opening ≤ Q .hull (x .hull) .edits → Ready Q d x c
-lost Q c r l never g = record { desk = r .desk; hull = omega (arith, r .hull); grown = g; clean = λ p q. absurd (never p q); replays = λ p q cs h e. absurd (never p q) }
+lost : {R : Register} {d : ℕ} {x : Draft} {b : List Event} (Q : Register) (c : List Event)
+    → Ready R d x b
+    → R .entered ≤ Q .entered
+    → (Q .hull (x .hull) .edits ≡ x .opening → (Q .hull (x .hull) .edits ≡ mostEdits → ⊥) → ⊥)
+    → x .opening ≤ Q .hull (x .hull) .edits
+    → Ready Q d x c
+lost Q c r l never g =
+    record {
+      desk = r .desk;
+      hull = omega (arith, r .hull);
+      grown = g;
+      clean = λ p q. absurd (never p q);
+      replays = λ p
+          q cs h e. absurd (never p q);
+    }
 
 -- a draft just opened
-opened-replays : (R : Register) (d h : ℕ) (cs : List Call) → d < desks → h < stateOf cs .register .entered → stateOf cs .register .hull h ≡ R .hull h
+opened-replays : (R : Register) (d h : ℕ) (cs : List Call)
+    → d < desks
+    → h < stateOf cs .register .entered
+    → stateOf cs .register .hull h ≡ R .hull h
     → Replays d (opens R h) ((openHull d h ⇒ says (Count (R .hull h .edits))) ∷ []) cs
 opened-replays R d h cs p l e =
-    record { replies = rw (events-by cs (open-done p l), e); register = rw (state-by cs (open-done p l)); draft = rw (state-by cs (open-done p l), self, e) }
+    record {
+      replies = rw (events-by cs (open-done p l), e);
+      register = rw (state-by cs (open-done p l));
+      draft =
+          rw (state-by cs (open-done p l), self, e);
+    }
 
-opened-ready : (R : Register) (d h : ℕ) → d < desks → h < R .entered → Ready R d (opens R h) ((openHull d h ⇒ says (Count (R .hull h .edits))) ∷ [])
+opened-ready : (R : Register) (d h : ℕ)
+    → d < desks
+    → h < R .entered
+    → Ready R d (opens R h) ((openHull d h ⇒ says (Count (R .hull h .edits))) ∷ [])
 unfolding saveless
-opened-ready R d h p q = record { desk = p; hull = q; grown = le-refl _; clean = λ _ _. refl; replays = λ _ _ cs l e. opened-replays R d h cs p l e }
+opened-ready R d h p q =
+    record {
+      desk = p;
+      hull = q;
+      grown = le-refl _;
+      clean = λ _ _. refl;
+      replays = λ _ _ cs l e. opened-replays R d h
+          cs p l e;
+    }
 
 -- a draft that was worked on
-worked-replays : {d : ℕ} {x : Draft} {b : List Event} {cs : List Call} (w : Work) → d < desks → Replays d x b cs → Replays d (edited w x) ((work d w ⇒ workSays w (x .sheet)) ∷ b) cs
+worked-replays : {d : ℕ} {x : Draft} {b : List Event} {cs : List Call} (w : Work)
+    → d < desks
+    → Replays d x b cs
+    → Replays d (edited w x) ((work d w ⇒ workSays w (x .sheet)) ∷ b) cs
 worked-replays {x} {b} {cs} w p r =
     record {
       replies = rw (events-by (map call b ++ cs) (work-done {w = w} x p (r .draft)), r .replies);
@@ -83,15 +133,27 @@ worked-replays {x} {b} {cs} w p r =
       draft = rw (state-by (map call b ++ cs) (work-done {w = w} x p (r .draft)), self);
     }
 
-worked-ready : {R : Register} {d : ℕ} {x : Draft} {b : List Event} (w : Work) → Ready R d x b → Ready R d (edited w x) ((work d w ⇒ workSays w (x .sheet)) ∷ b)
+worked-ready : {R : Register} {d : ℕ} {x : Draft} {b : List Event} (w : Work)
+    → Ready R d x b
+    → Ready R d (edited w x) ((work d w ⇒ workSays w (x .sheet)) ∷ b)
 unfolding saveless
-worked-ready w r = record { desk = r .desk; hull = r .hull; grown = r .grown; clean = r .clean; replays = λ p q cs l e. worked-replays w (r .desk) (r .replays p q cs l e) }
+worked-ready w r =
+    record {
+      desk = r .desk;
+      hull = r .hull;
+      grown = r .grown;
+      clean = r .clean;
+      replays = λ p q cs l e. worked-replays
+          w (r .desk) (r .replays p q cs l e);
+    }
 
 -- another desk's save: of the draft's own hull, which it leaves behind, or of another
 store-ready : {R : Register} {d : ℕ} {x : Draft} {b : List Event} (y : Draft) → Ready R d x b → Ready (store R y) d x b
 store-ready {R} {x} {b} y r =
     elim (same-or-not (x .hull) (y .hull)) [
-      | inl h ↦ let g : x .opening < store R y .hull (x .hull) .edits = rw (eq-eqb _ _ h, ← h) (omega (arith, r .grown)) in lost _ b r (le-refl _) (λ p q. omega arith) (omega arith)
+      | inl h ↦
+          let g : x .opening < store R y .hull (x .hull) .edits = rw (eq-eqb _ _ h, ← h) (omega (arith, r .grown)) in
+          lost _ b r (le-refl _) (λ p q. omega arith) (omega arith)
       | inr h ↦ kept _ r (le-refl _) (rw (ne-eqb _ _ h))
     ]
 
@@ -100,36 +162,62 @@ store-ready {R} {x} {b} y r =
 abbrev pub Drafts : State → List Event → Type 0
 Drafts s past = (d : ℕ) (x : Draft) → s .draft d ≡ some x → Ready (s .register) d x (block d past)
 
-ready-step : (s : State) (past : List Event) {c : Call} {t : State} {r : Reply} → Way s c t r → Drafts s past → Drafts t ((c ⇒ r) ∷ past)
+ready-step : (s : State) (past : List Event) {c : Call} {t : State} {r : Reply}
+    → Way s c t r
+    → Drafts s past
+    → Drafts t ((c ⇒ r) ∷ past)
 unfolding block role
-ready-step s past (new-enters k r p e) f = λ d x e. let z = f d x e in kept _ z (omega arith) (rw (ne-eqb (x .hull) (s .register .entered) (omega (arith, z .hull))))
+ready-step s past (new-enters k r p e) f =
+    λ d x e. let z = f d x e in kept _ z (omega arith)
+    (rw (ne-eqb (x .hull) (s .register .entered) (omega (arith, z .hull))))
 ready-step s past (new-unread n at p e) f = f
 ready-step s past (new-full p) f = f
 ready-step s past (open-done {d = g} {h} p q) f =
-    at-or g _ (λ x e. let u : opens (s .register) h ≡ x = some-inj (rw self at e) in rw (self, block, ← u) (opened-ready (s .register) g h p q)) (λ d n x e. rw (n, block) (f d x (rw n at e)))
+    at-or g _
+    (λ x e. let u : opens (s .register) h
+    ≡ x = some-inj (rw self at e) in rw (self, block, ← u) (opened-ready (s .register) g h p q))
+    (λ d n x e. rw (n, block) (f d x (rw n at e)))
 ready-step s past (open-unknown {d = g} p q) f = λ d x e. rw (and-false (eqb d g), block) (f d x e)
 ready-step s past (open-high {d = g} p) f = λ d x e. rw (and-false (eqb d g), block) (f d x e)
 ready-step s past (work-done {d = g} {w} y p q) f =
-    at-or g _ (λ x e. let u : edited w y ≡ x = some-inj (rw self at e) in rw (self, block, ← u) (worked-ready w (f g y q))) (λ d n x e. rw (n, block) (f d x (rw n at e)))
-ready-step s past (work-idle {d = g} p q) f = at-or g _ (λ x e. absurd (none≢some (sym q ∙ e))) (λ d n x e. rw (n, block) (f d x e))
-ready-step s past (work-high {d = g} p) f = at-or g _ (λ x e. let z = f g x e in absurd (omega (arith, z .desk))) (λ d n x e. rw (n, block) (f d x e))
-ready-step s past (save-done {d = g} y p q u l) f = at-or g _ (λ x e. absurd (none≢some (rw self at e))) (λ d n x e. rw (n, block) (store-ready y (f d x (rw n at e))))
+    at-or g _
+    (λ x e. let u : edited w y ≡ x = some-inj (rw self at e) in rw (self, block, ← u) (worked-ready w (f g y q)))
+    (λ d n x e. rw (n, block) (f d x (rw n at e)))
+ready-step s past (work-idle {d = g} p q) f =
+    at-or g _ (λ x e. absurd (none≢some (sym q ∙ e))) (λ d n x e. rw (n, block) (f d x e))
+ready-step s past (work-high {d = g} p) f =
+    at-or g _ (λ x e. let z = f g x e in absurd (omega (arith, z .desk))) (λ d n x e. rw (n, block) (f d x e))
+ready-step s past (save-done {d = g} y p q u l) f =
+    at-or g _ (λ x e. absurd (none≢some (rw self at e))) (λ d n x e. rw (n, block) (store-ready y (f d x (rw n at e))))
 ready-step s past (save-spent {d = g} y p q u l) f =
-    at-or g _ (λ x e. let v : y ≡ x = some-inj (sym q ∙ e) in let z = f g x e in rw (self, block) (lost _ _ z (le-refl _) (λ a b. b (rw v at l)) (z .grown))) (λ d n x e. rw (n, block) (f d x e))
+    at-or g _
+    (λ x e. let v : y
+    ≡ x = some-inj (sym q ∙ e) in let z = f g x e in rw (self, block)
+    (lost _ _ z (le-refl _) (λ a b. b (rw v at l)) (z .grown))) (λ d n x e. rw (n, block) (f d x e))
 ready-step s past (save-stale {d = g} y p q u) f =
-    at-or g _ (λ x e. let v : y ≡ x = some-inj (sym q ∙ e) in let z = f g x e in rw (self, block) (lost _ _ z (le-refl _) (λ a b. (rw v at u) a) (z .grown))) (λ d n x e. rw (n, block) (f d x e))
-ready-step s past (save-idle {d = g} p q) f = at-or g _ (λ x e. absurd (none≢some (sym q ∙ e))) (λ d n x e. rw (n, block) (f d x e))
-ready-step s past (save-high {d = g} p) f = at-or g _ (λ x e. let z = f g x e in absurd (omega (arith, z .desk))) (λ d n x e. rw (n, block) (f d x e))
-ready-step s past (drop-done {d = g} y p q) f = at-or g _ (λ x e. absurd (none≢some (rw self at e))) (λ d n x e. rw (n, block) (f d x (rw n at e)))
-ready-step s past (drop-idle {d = g} p q) f = at-or g _ (λ x e. absurd (none≢some (sym q ∙ e))) (λ d n x e. rw (n, block) (f d x e))
-ready-step s past (drop-high {d = g} p) f = at-or g _ (λ x e. let z = f g x e in absurd (omega (arith, z .desk))) (λ d n x e. rw (n, block) (f d x e))
+    at-or g _
+    (λ x e. let v : y
+    ≡ x = some-inj (sym q ∙ e) in let z = f g x e in rw (self, block)
+    (lost _ _ z (le-refl _) (λ a b. (rw v at u) a) (z .grown))) (λ d n x e. rw (n, block) (f d x e))
+ready-step s past (save-idle {d = g} p q) f =
+    at-or g _ (λ x e. absurd (none≢some (sym q ∙ e))) (λ d n x e. rw (n, block) (f d x e))
+ready-step s past (save-high {d = g} p) f =
+    at-or g _ (λ x e. let z = f g x e in absurd (omega (arith, z .desk))) (λ d n x e. rw (n, block) (f d x e))
+ready-step s past (drop-done {d = g} y p q) f =
+    at-or g _ (λ x e. absurd (none≢some (rw self at e))) (λ d n x e. rw (n, block) (f d x (rw n at e)))
+ready-step s past (drop-idle {d = g} p q) f =
+    at-or g _ (λ x e. absurd (none≢some (sym q ∙ e))) (λ d n x e. rw (n, block) (f d x e))
+ready-step s past (drop-high {d = g} p) f =
+    at-or g _ (λ x e. let z = f g x e in absurd (omega (arith, z .desk))) (λ d n x e. rw (n, block) (f d x e))
 ready-step s past (ask-done p) f = f
 ready-step s past (ask-unknown p) f = f
 
 pub drafts : (cs : List Call) → Drafts (stateOf cs) (eventsOf cs)
 unfolding stateOf eventsOf fresh
 drafts [] = λ d x e. absurd (none≢some e)
-drafts (c ∷ cs) = by-ways (stateOf cs) c (λ t r. Drafts t ((c ⇒ r) ∷ eventsOf cs)) (λ t r p. ready-step (stateOf cs) (eventsOf cs) p (drafts cs))
+drafts (c ∷ cs) =
+    by-ways (stateOf cs) c (λ t r. Drafts t ((c ⇒ r) ∷ eventsOf cs))
+    (λ t r p. ready-step (stateOf cs) (eventsOf cs) p (drafts cs))
 
 -- a desk above 7 holds none
 pub high-none : (s : State) (past : List Event) (g : ℕ) → desks ≤ g → Drafts s past → s .draft g ≡ none

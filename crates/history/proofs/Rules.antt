@@ -24,19 +24,46 @@ abbrev pub editsOf : State → Draft → ℕ
 editsOf s x = s .register .hull (x .hull) .edits
 
 pub data Way (s : State) : Call → State → Reply → Type 0 where
-  new-enters : {t : List ℕ} (k : ℕ) (r : List ℕ) → s .register .entered < mostHulls → readSheet t ≡ took k r → Way s (newHull t) (record { register = enter (s .register) t; draft = s .draft }) (says (Count (s .register .entered)))
-  new-unread : {t : List ℕ} (n at : ℕ) → s .register .entered < mostHulls → readSheet t ≡ lost n at → Way s (newHull t) s (says (Refused n))
+  new-enters : {t : List ℕ} (k : ℕ) (r : List ℕ)
+      → s .register .entered < mostHulls
+      → readSheet t ≡ took k r
+      → Way s (newHull t) (record { register = enter (s .register) t; draft = s .draft })
+      (says (Count (s .register .entered)))
+  new-unread : {t : List ℕ} (n at : ℕ)
+      → s .register .entered < mostHulls
+      → readSheet t ≡ lost n at
+      → Way s (newHull t) s (says (Refused n))
   new-full : {t : List ℕ} → mostHulls ≤ s .register .entered → Way s (newHull t) s (says (Refused full))
-  open-done : {d h : ℕ} → d < desks → h < s .register .entered → Way s (openHull d h) (atDesk s d (some (opens (s .register) h))) (says (Count (s .register .hull h .edits)))
+  open-done : {d h : ℕ}
+      → d < desks
+      → h < s .register .entered
+      → Way s (openHull d h) (atDesk s d (some (opens (s .register) h))) (says (Count (s .register .hull h .edits)))
   open-unknown : {d h : ℕ} → d < desks → s .register .entered ≤ h → Way s (openHull d h) s (says (Refused noHull))
   open-high : {d h : ℕ} → desks ≤ d → Way s (openHull d h) s (says (Refused noDesk))
-  work-done : {d : ℕ} {w : Work} (x : Draft) → d < desks → s .draft d ≡ some x → Way s (work d w) (atDesk s d (some (edited w x))) (workSays w (x .sheet))
+  work-done : {d : ℕ} {w : Work} (x : Draft)
+      → d < desks
+      → s .draft d ≡ some x
+      → Way s (work d w) (atDesk s d (some (edited w x))) (workSays w (x .sheet))
   work-idle : {d : ℕ} {w : Work} → d < desks → s .draft d ≡ none → Way s (work d w) s (says (Refused noDraft))
   work-high : {d : ℕ} {w : Work} → desks ≤ d → Way s (work d w) s (says (Refused noDesk))
-  save-done : {d : ℕ} (x : Draft) → d < desks → s .draft d ≡ some x → editsOf s x ≡ x .opening → (editsOf s x ≡ mostEdits → ⊥)
-      → Way s (save d) (record { register = store (s .register) x; draft = but (s .draft) d none }) (says (Count (suc (editsOf s x))))
-  save-spent : {d : ℕ} (x : Draft) → d < desks → s .draft d ≡ some x → editsOf s x ≡ x .opening → editsOf s x ≡ mostEdits → Way s (save d) s (says (Refused editsSpent))
-  save-stale : {d : ℕ} (x : Draft) → d < desks → s .draft d ≡ some x → (editsOf s x ≡ x .opening → ⊥) → Way s (save d) s (says (Refused editedSince))
+  save-done : {d : ℕ} (x : Draft)
+      → d < desks
+      → s .draft d ≡ some x
+      → editsOf s x ≡ x .opening
+      → (editsOf s x ≡ mostEdits → ⊥)
+      → Way s (save d) (record { register = store (s .register) x; draft = but (s .draft) d none })
+      (says (Count (suc (editsOf s x))))
+  save-spent : {d : ℕ} (x : Draft)
+      → d < desks
+      → s .draft d ≡ some x
+      → editsOf s x ≡ x .opening
+      → editsOf s x ≡ mostEdits
+      → Way s (save d) s (says (Refused editsSpent))
+  save-stale : {d : ℕ} (x : Draft)
+      → d < desks
+      → s .draft d ≡ some x
+      → (editsOf s x ≡ x .opening → ⊥)
+      → Way s (save d) s (says (Refused editedSince))
   save-idle : {d : ℕ} → d < desks → s .draft d ≡ none → Way s (save d) s (says (Refused noDraft))
   save-high : {d : ℕ} → desks ≤ d → Way s (save d) s (says (Refused noDesk))
   drop-done : {d : ℕ} (x : Draft) → d < desks → s .draft d ≡ some x → Way s (dropDraft d) (atDesk s d none) (says Done)
@@ -46,7 +73,9 @@ pub data Way (s : State) : Call → State → Reply → Type 0 where
   ask-unknown : {h : ℕ} {q : Ask} → s .register .entered ≤ h → Way s (ask h q) s (refusal (ask h q) noHull)
 
 -- each rule is what the step computes
-pub way-taken : (s : State) {c : Call} {t : State} {r : Reply} → Way s c t r → step s c ≡ record { state = t; reply = r }
+pub way-taken : (s : State) {c : Call} {t : State} {r : Reply}
+    → Way s c t r
+    → step s c ≡ record { state = t; reply = r }
 unfolding step
 way-taken s (new-enters k r p e) = rw (lt-ltb _ _ p, e, onText)
 way-taken s (new-unread n at p e) = rw (lt-ltb _ _ p, e, onText)
@@ -78,7 +107,11 @@ record Fits (s : State) (c : Call) : Type 0 where
 fitted : {s : State} {c : Call} {t : State} {r : Reply} → Way s c t r → Fits s c
 fitted p = record { state = _; reply = _; rule = p }
 
-find-new : (s : State) (t : List ℕ) → s .register .entered < mostHulls → (r : Found (List ℕ)) → readSheet t ≡ r → Fits s (newHull t)
+find-new : (s : State) (t : List ℕ)
+    → s .register .entered < mostHulls
+    → (r : Found (List ℕ))
+    → readSheet t ≡ r
+    → Fits s (newHull t)
 find-new s t p (took k r) e = fitted (new-enters k r p e)
 find-new s t p (lost n at) e = fitted (new-unread n at p e)
 
@@ -86,7 +119,9 @@ find-save : (s : State) (d : ℕ) → d < desks → (o : Option Draft) → s .dr
 find-save s d p none e = fitted (save-idle p e)
 find-save s d p (some x) e =
     elim (same-or-not (editsOf s x) (x .opening)) [
-      | inl q ↦ elim (same-or-not (editsOf s x) mostEdits) [ inl z ↦ fitted (save-spent x p e q z) | inr z ↦ fitted (save-done x p e q z) ]
+      | inl q ↦
+          elim (same-or-not (editsOf s x) mostEdits)
+          [ inl z ↦ fitted (save-spent x p e q z) | inr z ↦ fitted (save-done x p e q z) ]
       | inr q ↦ fitted (save-stale x p e q)
     ]
 
@@ -99,13 +134,27 @@ find-drop s d p none e = fitted (drop-idle p e)
 find-drop s d p (some x) e = fitted (drop-done x p e)
 
 some-way : (s : State) (c : Call) → Fits s c
-some-way s (newHull t) = elim (below (s .register .entered) mostHulls) [ inl p ↦ find-new s t p (readSheet t) refl | inr p ↦ fitted (new-full p) ]
-some-way s (openHull d h) = elim (below d desks) [ inl p ↦ elim (below h (s .register .entered)) [ inl q ↦ fitted (open-done p q) | inr q ↦ fitted (open-unknown p q) ] | inr p ↦ fitted (open-high p) ]
-some-way s (work d w) = elim (below d desks) [ inl p ↦ find-work s d w p (s .draft d) refl | inr p ↦ fitted (work-high p) ]
+some-way s (newHull t) =
+    elim (below (s .register .entered) mostHulls) [
+      | inl p ↦ find-new s t p (readSheet t) refl
+      | inr p ↦ fitted (new-full p)
+    ]
+some-way s (openHull d h) =
+    elim (below d desks) [
+      | inl p ↦
+          elim (below h (s .register .entered)) [ inl q ↦ fitted (open-done p q) | inr q ↦ fitted (open-unknown p q) ]
+      | inr p ↦ fitted (open-high p)
+    ]
+some-way s (work d w) =
+    elim (below d desks) [ inl p ↦ find-work s d w p (s .draft d) refl | inr p ↦ fitted (work-high p) ]
 some-way s (save d) = elim (below d desks) [ inl p ↦ find-save s d p (s .draft d) refl | inr p ↦ fitted (save-high p) ]
-some-way s (dropDraft d) = elim (below d desks) [ inl p ↦ find-drop s d p (s .draft d) refl | inr p ↦ fitted (drop-high p) ]
-some-way s (ask h q) = elim (below h (s .register .entered)) [ inl p ↦ fitted (ask-done p) | inr p ↦ fitted (ask-unknown p) ]
+some-way s (dropDraft d) =
+    elim (below d desks) [ inl p ↦ find-drop s d p (s .draft d) refl | inr p ↦ fitted (drop-high p) ]
+some-way s (ask h q) =
+    elim (below h (s .register .entered)) [ inl p ↦ fitted (ask-done p) | inr p ↦ fitted (ask-unknown p) ]
 
 -- what every rule has, every step has
-pub by-ways : (s : State) (c : Call) (P : State → Reply → Type 0) → ((t : State) (r : Reply) → Way s c t r → P t r) → P (step s c .state) (step s c .reply)
+pub by-ways : (s : State) (c : Call) (P : State → Reply → Type 0)
+    → ((t : State) (r : Reply) → Way s c t r → P t r)
+    → P (step s c .state) (step s c .reply)
 by-ways s c P f = let o = some-way s c in rw (way-taken s (o .rule)) (f (o .state) (o .reply) (o .rule))

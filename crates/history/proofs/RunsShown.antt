@@ -28,23 +28,31 @@ use Rattle.history.proofs.CallsShown.{save-spends, save-late, save-goes
 
 -- ---- every rule
 
-tied-step : (m : List ℕ) (s : State) {c : Call} {t : State} {r : Reply} → Way s c t r → Shows m s → Tied (next m c) (reply m c) t r
+tied-step : (m : List ℕ) (s : State) {c : Call} {t : State} {r : Reply}
+    → Way s c t r
+    → Shows m s
+    → Tied (next m c) (reply m c) t r
 tied-step m s (new-enters {t} k r p e) S =
-    done S (newHull t) (Count (s .register .entered)) (rw (room S p, e, onText, S .counts) refl) refl (enters-shown S t k r p e)
+    done S (newHull t) (Count (s .register .entered)) (rw (room S p, e, onText, S .counts) refl) refl
+    (enters-shown S t k r p e)
 tied-step m s (new-unread {t} n at p e) S = kept S (newHull t) n (rw (room S p, e, onText) refl)
 tied-step m s (new-full {t} p) S = kept S (newHull t) full (rw (← room-none m (S .ok) refl (rw (S .counts) p)) refl)
 tied-step m s (open-done {d} {h} p q) S =
     let z = sym (open-there m d h (S .ok) p (rw (S .counts) q)) in
-    done S (openHull d h) (Count (s .register .hull h .edits)) (rw (z, S .numbers h (shown-few S q)) refl) refl (opens-shown S d h q z)
-tied-step m s (open-unknown {d} {h} p q) S = kept S (openHull d h) noHull (rw (← open-absent m d h (S .ok) p (rw (S .counts) q)) refl)
+    done S (openHull d h) (Count (s .register .hull h .edits)) (rw (z, S .numbers h (shown-few S q)) refl) refl
+    (opens-shown S d h q z)
+tied-step m s (open-unknown {d} {h} p q) S =
+    kept S (openHull d h) noHull (rw (← open-absent m d h (S .ok) p (rw (S .counts) q)) refl)
 tied-step m s (open-high {d} {h} p) S = kept S (openHull d h) noDesk (rw (← Refusals.open-high m d h (S .ok) p) refl)
 tied-step m s (work-done {d} {w} x p q) S = works w x S q (shown-holds S p q) (holds-desk S p q)
 tied-step m s (work-idle {d} {w} p q) S = kept S (work d w) noDraft (rw (idle-desk S p q) refl)
 tied-step m s (work-high {d} {w} p) S = kept S (work d w) noDesk (rw (high-desk S p) refl)
 tied-step m s (save-done {d} x p q e n) S =
-    done S (save d) (Count (suc (editsOf s x))) (rw (holds-desk S p q, save-goes S x p q e n, its-number S x p q, add-one) refl)
+    done S (save d) (Count (suc (editsOf s x)))
+    (rw (holds-desk S p q, save-goes S x p q e n, its-number S x p q, add-one) refl)
     refl (saves-shown S x p q)
-tied-step m s (save-spent {d} x p q e n) S = kept S (save d) editsSpent (rw (holds-desk S p q, save-spends S x p q e n) refl)
+tied-step m s (save-spent {d} x p q e n) S =
+    kept S (save d) editsSpent (rw (holds-desk S p q, save-spends S x p q e n) refl)
 tied-step m s (save-stale {d} x p q e) S = kept S (save d) editedSince (rw (holds-desk S p q, save-late S x p q e) refl)
 tied-step m s (save-idle {d} p q) S = kept S (save d) noDraft (rw (idle-desk S p q) refl)
 tied-step m s (save-high {d} p) S = kept S (save d) noDesk (rw (high-desk S p) refl)
@@ -54,7 +62,8 @@ tied-step m s (drop-done {d} x p q) S =
 tied-step m s (drop-idle {d} p q) S = kept S (dropDraft d) noDraft (rw (idle-desk S p q) refl)
 tied-step m s (drop-high {d} p) S = kept S (dropDraft d) noDesk (rw (high-desk S p) refl)
 tied-step m s (ask-done {h} {q} p) S = asks S h q p (sym (hull-there m h (S .ok) (rw (S .counts) p)))
-tied-step m s (ask-unknown {h} {q} p) S = kept S (ask h q) noHull (rw (← hull-absent m h (S .ok) (rw (S .counts) p)) refl)
+tied-step m s (ask-unknown {h} {q} p) S =
+    kept S (ask h q) noHull (rw (← hull-absent m h (S .ok) (rw (S .counts) p)) refl)
 
 tied : (m : List ℕ) (s : State) (c : Call) → Shows m s → Tied (next m c) (reply m c) (step s c .state) (step s c .reply)
 tied m s c S = by-ways s c (λ t r. Tied (next m c) (reply m c) t r) (λ t r p. tied-step m s p S)

@@ -4,6 +4,8 @@ use mathlib.Core.Bool.{Bool, true, false, _&&_}
 use mathlib.Core.List.{List, [], _∷_, _++_, map}
 use Prim.Native.Nat.{ℕ}
 use lib.Dec.{eqb}
+use Rattle.sheet.proofs.BaseHull as base
+use Rattle.sheet.proofs.BaseHull.{sheetWith}
 use Rattle.text.specs.Quoted.{bytes}
 use Rattle.text.specs.Field.{fieldOf, agreed}
 use Rattle.text.specs.Number.{restOf, numberOf}
@@ -29,7 +31,7 @@ use Rattle.register.specs.Refusals.{deskRefusal, roomRefusal, openRefusal}
 use Rattle.register.specs.Calls.{Call, newHull, openHull, save}
 use Rattle.history.specs.Replies.{reply, next}
 
--- ---- what a case is of: a sheet, or a run of calls from a fresh register, each with the number that it answers or is refused with
+-- ---- what a case is of: a sheet, or a run of calls from fresh, each with the number that it answers or is refused with
 
 data Turn : Type 0 where
   answers refused : Call → ℕ → Turn
@@ -60,20 +62,22 @@ all-right (c ∷ cs) = right c && all-right cs
 -- ---- the cases
 
 text : List ℕ
-text =
-    bytes "HULL\t0\nFORM\t4500\t4000\t1200\t500\t0\t1\nSTN\tQ\t1000\t500\t500\t500\t500\t500\t500\nSTN\tR\t1000\t500\t500\t500\t500\t500\t500\nSTN\tS\t1000\t500\t500\t500\t500\t500\t500\nSTN\tT\t1000\t500\t500\t500\t500\t500\t500\n"
-    ++ bytes "VOL\t0\t0\t0\nMASS\t200000\t0\t0\nPWR\t1\t20000\nSEAT\t5\t-\nEND\n"
+text = sheetWith base.hull base.form base.mass base.power "SEAT\t5\t-\n" (bytes "END\n")
 
 -- hull 0 entered, and brought to edit number 4
 four-saves : List Turn
 four-saves =
-    answers (newHull text) 0 ∷ answers (openHull 7 0) 0 ∷ answers (save 7) 1 ∷ answers (openHull 7 0) 1 ∷ answers (save 7) 2
+    answers (newHull text) 0 ∷ answers (openHull 7 0) 0 ∷ answers (save 7) 1 ∷ answers (openHull 7 0) 1
+    ∷ answers (save 7) 2
     ∷ answers (openHull 7 0) 2 ∷ answers (save 7) 3 ∷ answers (openHull 7 0) 3 ∷ answers (save 7) 4
     ∷ []
 
 -- 9: two desks open at edit number 4
 ninth : List Turn
-ninth = four-saves ++ (answers (openHull 0 0) 4 ∷ answers (openHull 1 0) 4 ∷ answers (save 1) 5 ∷ refused (save 0) 8 ∷ answers (openHull 0 0) 5 ∷ answers (save 0) 6 ∷ [])
+ninth =
+    four-saves
+    ++ (answers (openHull 0 0) 4 ∷ answers (openHull 1 0) 4 ∷ answers (save 1) 5 ∷ refused (save 0) 8
+    ∷ answers (openHull 0 0) 5 ∷ answers (save 0) 6 ∷ [])
 
 -- Every starred case is as 01 says.
 starred-all : all-right (map of-sheet cases ++ (of-run ninth ∷ [])) ≡ true

@@ -26,20 +26,34 @@ use Rattle.history.proofs.HistoryTells.{draftOf, draftFrom, Tells, From
 abbrev Few : State → Type 0
 Few s = (h : ℕ) → h < s .register .entered → s .register .hull h .edits ≤ mostEdits
 
-due : (s : State) (past : List Event) (d : ℕ) {t : State} {r : Reply} → Way s (save d) t r → Tells s past → ((x : Draft) → s .draft d ≡ some x → editsOf s x ≤ mostEdits) → accepted r ≡ true → Due d past
+due : (s : State) (past : List Event) (d : ℕ) {t : State} {r : Reply}
+    → Way s (save d) t r
+    → Tells s past
+    → ((x : Draft) → s .draft d ≡ some x → editsOf s x ≤ mostEdits)
+    → accepted r ≡ true
+    → Due d past
 due s past d (save-done y p q u n) f few a =
     let z : From (block d past) (opening d past) y = drawn (block d past) (opening d past) y (sym (f .drafts d) ∙ q) in
     let o : Opening = z .from in
     let h : o .hull ≡ y .hull = ap (λ (x : Draft). x .hull) (z .draft) in
     let k : savesOf (o .hull) (o .before) ≡ y .opening = ap (λ (x : Draft). x .opening) (z .draft) in
     let e : editsOf s y ≡ savesOf (o .hull) past = rw h (f .edits (y .hull)) in
-    record { draft = o; holds = z .is; quiet = still-quiet d (o .hull) past o (z .is) (sym e ∙ u ∙ sym k); room = omega (arith, few y q, n, e) }
+    record {
+      draft = o;
+      holds = z .is;
+      quiet = still-quiet d (o .hull) past o (z .is) (sym e ∙ u ∙ sym k);
+      room =
+          omega (arith, few y q, n, e);
+    }
 due s past d (save-spent y p q u n) f few a = absurd (false≢true a)
 due s past d (save-stale y p q u) f few a = absurd (false≢true a)
 due s past d (save-idle p q) f few a = absurd (false≢true a)
 due s past d (save-high p) f few a = absurd (false≢true a)
 
-pub save-only : (cs : List Call) (d : ℕ) → Few (stateOf cs) → accepted (step (stateOf cs) (save d) .reply) ≡ true → Due d (eventsOf cs)
+pub save-only : (cs : List Call) (d : ℕ)
+    → Few (stateOf cs)
+    → accepted (step (stateOf cs) (save d) .reply) ≡ true
+    → Due d (eventsOf cs)
 save-only cs d few =
     by-ways (stateOf cs) (save d) (λ t r. accepted r ≡ true → Due d (eventsOf cs))
     (λ t r p. due (stateOf cs) (eventsOf cs) d p (history-tells cs) (λ x q. few (x .hull) (drafts cs d x q .hull)))
@@ -47,27 +61,47 @@ save-only cs d few =
 -- ---- where it is due, the rule that it takes
 
 pub record Saved (s : State) (past : List Event) (d : ℕ) (o : Opening) : Type 0 where
-  pub rule : Way s (save d) (record { register = store (s .register) (draftOf (block d past) o); draft = but (s .draft) d none }) (says (Count (suc (editsOf s (draftOf (block d past) o)))))
+  pub rule :
+      Way s (save d)
+      (record { register = store (s .register) (draftOf (block d past) o); draft = but (s .draft) d none })
+      (says (Count (suc (editsOf s (draftOf (block d past) o)))))
   pub count : editsOf s (draftOf (block d past) o) ≡ savesOf (o .hull) past
   pub known : o .hull < s .register .entered
 
-pub save-taken : (cs : List Call) (d : ℕ) (o : Opening) → opening d (eventsOf cs) ≡ some o → quietSince d (o .hull) (eventsOf cs) ≡ true → savesOf (o .hull) (eventsOf cs) < mostEdits → Saved (stateOf cs) (eventsOf cs) d o
+pub save-taken : (cs : List Call) (d : ℕ) (o : Opening)
+    → opening d (eventsOf cs) ≡ some o
+    → quietSince d (o .hull) (eventsOf cs) ≡ true
+    → savesOf (o .hull) (eventsOf cs) < mostEdits
+    → Saved (stateOf cs) (eventsOf cs) d o
 save-taken cs d o e q l =
     let past : List Event = eventsOf cs in
     let f : Tells (stateOf cs) past = history-tells cs in
     let y : Draft = draftOf (block d past) o in
     let x : stateOf cs .draft d ≡ some y = f .drafts d ∙ ap (draftFrom (block d past)) e in
     let n : editsOf (stateOf cs) y ≡ savesOf (o .hull) past = f .edits (o .hull) in
-    record { rule = save-done y (drafts cs d y x .desk) x (n ∙ quiet-still d (o .hull) past o e q) (λ k. omega (arith, n, k)); count = n; known = drafts cs d y x .hull }
+    record {
+      rule = save-done y (drafts cs d y x .desk) x (n ∙ quiet-still d (o .hull) past o e q)
+          (λ k. omega (arith, n, k));
+      count = n;
+      known = drafts cs d y x .hull;
+    }
 
 -- ---- no refused save among the calls taken
 
-clean : (s : State) (past : List Event) (d : ℕ) {t : State} {r : Reply} → Way s (save d) t r → Drafts s past → accepted r ≡ true → saveless (block d past) ≡ true
+clean : (s : State) (past : List Event) (d : ℕ) {t : State} {r : Reply}
+    → Way s (save d) t r
+    → Drafts s past
+    → accepted r ≡ true
+    → saveless (block d past) ≡ true
 clean s past d (save-done x p q u n) f a = f d x q .clean u n
 clean s past d (save-spent x p q u n) f a = absurd (false≢true a)
 clean s past d (save-stale x p q u) f a = absurd (false≢true a)
 clean s past d (save-idle p q) f a = absurd (false≢true a)
 clean s past d (save-high p) f a = absurd (false≢true a)
 
-pub taken-clean : (cs : List Call) (d : ℕ) → accepted (step (stateOf cs) (save d) .reply) ≡ true → saveless (block d (eventsOf cs)) ≡ true
-taken-clean cs d = by-ways (stateOf cs) (save d) (λ t r. accepted r ≡ true → saveless (block d (eventsOf cs)) ≡ true) (λ t r p. clean (stateOf cs) (eventsOf cs) d p (drafts cs))
+pub taken-clean : (cs : List Call) (d : ℕ)
+    → accepted (step (stateOf cs) (save d) .reply) ≡ true
+    → saveless (block d (eventsOf cs)) ≡ true
+taken-clean cs d =
+    by-ways (stateOf cs) (save d) (λ t r. accepted r ≡ true → saveless (block d (eventsOf cs)) ≡ true)
+    (λ t r p. clean (stateOf cs) (eventsOf cs) d p (drafts cs))

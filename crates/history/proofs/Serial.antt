@@ -26,30 +26,56 @@ pub record RunsTo (R : Register) (es : List Event) : Type 0 where
 -- ---- one call more
 
 module _ {R : Register} {es : List Event} (g : RunsTo R es) where
-  enters-runs : (t : List ℕ) (k : ℕ) (r : List ℕ) → R .entered < mostHulls → readSheet t ≡ took k r → RunsTo (enter R t) ((newHull t ⇒ says (Count (R .entered))) ∷ es)
+  enters-runs : (t : List ℕ) (k : ℕ) (r : List ℕ)
+      → R .entered < mostHulls
+      → readSheet t ≡ took k r
+      → RunsTo (enter R t) ((newHull t ⇒ says (Count (R .entered))) ∷ es)
   enters-runs t k r p e =
       let q : stateOf (map call es) .register .entered < mostHulls = rw (g .register) p in
-      record { replies = rw (events-by (map call es) (new-enters {t = t} k r q e), g .register, g .replies); register = rw (state-by (map call es) (new-enters {t = t} k r q e), g .register) }
+      record {
+        replies = rw (events-by (map call es) (new-enters {t = t} k r q e), g .register, g .replies);
+        register =
+            rw (state-by (map call es) (new-enters {t = t} k r q e), g .register);
+      }
 
-  unread-runs : (t : List ℕ) (n at : ℕ) → R .entered < mostHulls → readSheet t ≡ lost n at → RunsTo R ((newHull t ⇒ says (Refused n)) ∷ es)
+  unread-runs : (t : List ℕ) (n at : ℕ)
+      → R .entered < mostHulls
+      → readSheet t ≡ lost n at
+      → RunsTo R ((newHull t ⇒ says (Refused n)) ∷ es)
   unread-runs t n at p e =
       let q : stateOf (map call es) .register .entered < mostHulls = rw (g .register) p in
-      record { replies = rw (events-by (map call es) (new-unread {t = t} n at q e), g .replies); register = rw (state-by (map call es) (new-unread {t = t} n at q e)) (g .register) }
+      record {
+        replies = rw (events-by (map call es) (new-unread {t = t} n at q e), g .replies);
+        register =
+            rw (state-by (map call es) (new-unread {t = t} n at q e)) (g .register);
+      }
 
   full-runs : (t : List ℕ) → mostHulls ≤ R .entered → RunsTo R ((newHull t ⇒ says (Refused full)) ∷ es)
   full-runs t p =
       let q : mostHulls ≤ stateOf (map call es) .register .entered = rw (g .register) p in
-      record { replies = rw (events-by (map call es) (new-full {t = t} q), g .replies); register = rw (state-by (map call es) (new-full {t = t} q)) (g .register) }
+      record {
+        replies = rw (events-by (map call es) (new-full {t = t} q), g .replies);
+        register =
+            rw (state-by (map call es) (new-full {t = t} q)) (g .register);
+      }
 
   asks-runs : (h : ℕ) (q : Ask) → h < R .entered → RunsTo R ((ask h q ⇒ askSays h q (R .hull h .sheet)) ∷ es)
   asks-runs h q p =
       let l : h < stateOf (map call es) .register .entered = rw (g .register) p in
-      record { replies = rw (events-by (map call es) (ask-done {q = q} l), g .register, g .replies); register = rw (state-by (map call es) (ask-done {q = q} l)) (g .register) }
+      record {
+        replies = rw (events-by (map call es) (ask-done {q = q} l), g .register, g .replies);
+        register =
+            rw (state-by (map call es) (ask-done {q = q} l)) (g .register);
+      }
 
   unasked-runs : (h : ℕ) (q : Ask) → R .entered ≤ h → RunsTo R ((ask h q ⇒ refusal (ask h q) noHull) ∷ es)
   unasked-runs h q p =
       let l : stateOf (map call es) .register .entered ≤ h = rw (g .register) p in
-      record { replies = rw (events-by (map call es) (ask-unknown {q = q} l), g .replies); register = rw (state-by (map call es) (ask-unknown {q = q} l)) (g .register) }
+      record {
+        replies = rw (events-by (map call es) (ask-unknown {q = q} l), g .replies);
+        register =
+            rw (state-by (map call es) (ask-unknown {q = q} l)) (g .register);
+      }
 
 -- ---- one block more, and its save
 
@@ -57,13 +83,18 @@ calls-append : (b es : List Event) → map call (b ++ es) ≡ map call b ++ map 
 calls-append [] es = refl
 calls-append (e ∷ b) es = ap (λ (l : List Call). call e ∷ l) (calls-append b es)
 
-saves-runs : {R : Register} {es : List Event} {d : ℕ} {x : Draft} {b : List Event} → Ready R d x b → R .hull (x .hull) .edits ≡ x .opening → (R .hull (x .hull) .edits ≡ mostEdits → ⊥) → RunsTo R es
+saves-runs : {R : Register} {es : List Event} {d : ℕ} {x : Draft} {b : List Event}
+    → Ready R d x b
+    → R .hull (x .hull) .edits ≡ x .opening
+    → (R .hull (x .hull) .edits ≡ mostEdits → ⊥)
+    → RunsTo R es
     → RunsTo (store R x) ((save d ⇒ says (Count (suc (R .hull (x .hull) .edits)))) ∷ (b ++ es))
 saves-runs {R} {es} {d} {x} {b} r u l g =
     let cs : List Call = map call es in
     let z : Replays d x b cs = r .replays u l cs (rw (g .register) (r .hull)) (rw (g .register)) in
     let same : stateOf (map call b ++ cs) .register ≡ R = z .register ∙ g .register in
-    let rule : Way (stateOf (map call b ++ cs)) (save d) _ _ = save-done x (r .desk) (z .draft) (rw same u) (rw same l) in
+    let rule : Way (stateOf (map call b ++ cs)) (save d) _ _ =
+    save-done x (r .desk) (z .draft) (rw same u) (rw same l) in
     record {
       replies = rw (calls-append b es, events-by (map call b ++ cs) rule, same, z .replies, g .replies);
       register = rw (calls-append b es, state-by (map call b ++ cs) rule, same);
@@ -71,7 +102,11 @@ saves-runs {R} {es} {d} {x} {b} r u l g =
 
 -- ---- every rule. What is asked of a hull changes no register, so the list would run so without it too.
 
-serial-step : (s : State) (past : List Event) {c : Call} {t : State} {r : Reply} → Way s c t r → Drafts s past → RunsTo (s .register) (serial past) → RunsTo (t .register) (serial ((c ⇒ r) ∷ past))
+serial-step : (s : State) (past : List Event) {c : Call} {t : State} {r : Reply}
+    → Way s c t r
+    → Drafts s past
+    → RunsTo (s .register) (serial past)
+    → RunsTo (t .register) (serial ((c ⇒ r) ∷ past))
 unfolding serial spot
 serial-step s past (new-enters {t} k r p e) f g = enters-runs g t k r p e
 serial-step s past (new-unread {t} n at p e) f g = unread-runs g t n at p e
@@ -98,4 +133,5 @@ pub serial-runs : (cs : List Call) → RunsTo (stateOf cs .register) (serial (ev
 unfolding stateOf eventsOf serial
 serial-runs [] = record { replies = refl; register = refl }
 serial-runs (c ∷ cs) =
-    by-ways (stateOf cs) c (λ t r. RunsTo (t .register) (serial ((c ⇒ r) ∷ eventsOf cs))) (λ t r p. serial-step (stateOf cs) (eventsOf cs) p (drafts cs) (serial-runs cs))
+    by-ways (stateOf cs) c (λ t r. RunsTo (t .register) (serial ((c ⇒ r) ∷ eventsOf cs)))
+    (λ t r p. serial-step (stateOf cs) (eventsOf cs) p (drafts cs) (serial-runs cs))

@@ -1,6 +1,5 @@
 -- A memory shows a state of the model: the same count, hulls and drafts. Fresh start shows the model's start; a change
 -- of one desk's slot shows that desk changed.
---
 use Prim.Native.Nat.{ℕ, _<_}
 use native.Mathlib.Omega.{arith}
 use mathlib.Core.Path.{_≡_, refl, sym, ap, _∙_}
@@ -63,7 +62,13 @@ holds-it m d x e = go (eqb (held m d) 0) refl e
     go true z u = absurd (none≢some u)
     go false z u =
         let v = some-inj u in
-        record { some = eqb-false (held m d) 0 z; hull = ap (λ (y : Draft). y .hull) v; number = ap (λ (y : Draft). y .opening) v; sheet = ap (λ (y : Draft). y .sheet) v }
+        record {
+          some = eqb-false (held m d) 0 z;
+          hull = ap (λ (y : Draft). y .hull) v;
+          number =
+              ap (λ (y : Draft). y .opening) v;
+          sheet = ap (λ (y : Draft). y .sheet) v;
+        }
 
 pub holds-none : (m : List ℕ) (d : ℕ) → draftIn m d ≡ none → held m d ≡ 0
 holds-none m d e = go (eqb (held m d) 0) refl e
@@ -77,19 +82,35 @@ same-draft-in c = rw (c .holds, c .hull, c .opened, c .sheet)
 
 -- ---- one desk changed, and none
 
-pub desk-shows : {m o : List ℕ} {s : State} {d : ℕ} {x : Option Draft} → Shows m s → formed o ≡ true → ButDesk o m d → draftIn o d ≡ x → Shows o (atDesk s d x)
+pub desk-shows : {m o : List ℕ} {s : State} {d : ℕ} {x : Option Draft}
+    → Shows m s
+    → formed o ≡ true
+    → ButDesk o m d
+    → draftIn o d ≡ x
+    → Shows o (atDesk s d x)
 desk-shows {m} {o} {s} {d} {x} S f c e =
     record {
       ok = f;
       counts = c .counts ∙ S .counts;
       numbers = λ h l. c .hulls h l .number ∙ S .numbers h l;
       sheets = λ h l. c .hulls h l .sheet ∙ S .sheets h l;
-      drafts = at-or d _ (λ l. rw self e) (λ j n l. rw n (same-draft-in (c .others j l (eqb-false j d n)) ∙ S .drafts j l));
+      drafts = at-or d _ (λ l. rw self e)
+          (λ j n l. rw n (same-draft-in (c .others j l (eqb-false j d n)) ∙ S .drafts j l));
     }
 
-pub same-shows : {m : List ℕ} {s : State} {d : ℕ} {x : Option Draft} → Shows m s → s .draft d ≡ x → Shows m (atDesk s d x)
+pub same-shows : {m : List ℕ} {s : State} {d : ℕ} {x : Option Draft}
+    → Shows m s
+    → s .draft d ≡ x
+    → Shows m (atDesk s d x)
 same-shows {m} {s} {d} {x} S e =
-    record { ok = S .ok; counts = S .counts; numbers = S .numbers; sheets = S .sheets; drafts = at-or d _ (λ l. rw self (S .drafts d l ∙ e)) (λ j n l. rw n (S .drafts j l)) }
+    record {
+      ok = S .ok;
+      counts = S .counts;
+      numbers = S .numbers;
+      sheets = S .sheets;
+      drafts = at-or d _
+          (λ l. rw self (S .drafts d l ∙ e)) (λ j n l. rw n (S .drafts j l));
+    }
 
 -- ---- limits
 
@@ -104,4 +125,5 @@ module _ {m : List ℕ} {s : State} (S : Shows m s) where
   shown-holds {d} {x} l e = holds-it m d x (S .drafts d l ∙ e)
 
   pub shown-hull : {d : ℕ} {x : Draft} → d < desks → s .draft d ≡ some x → x .hull < s .register .entered
-  shown-hull {d} {x} l e = let H = shown-holds l e in omega (arith, held-draft m d (S .ok) l (H .some) .entered, H .hull, S .counts)
+  shown-hull {d} {x} l e =
+      let H = shown-holds l e in omega (arith, held-draft m d (S .ok) l (H .some) .entered, H .hull, S .counts)

@@ -33,7 +33,9 @@ module _ (m : List ℕ) (z : length m ≡ registerWords) where
   run-formed cs = run-shows m z cs .ok
 
   -- Edit numbers count accepted saves.
-  pub edits-count : (cs : List Call) (h : ℕ) → h < hullCount (after m cs) → edit (after m cs) h ≡ savesOf h (history m cs)
+  pub edits-count : (cs : List Call) (h : ℕ)
+      → h < hullCount (after m cs)
+      → edit (after m cs) h ≡ savesOf h (history m cs)
   edits-count cs h l =
       let S = run-shows m z cs in
       rw (run-history m z cs) (S .numbers h (there-few S l) ∙ history-tells cs .edits h)
@@ -48,19 +50,25 @@ module _ (m : List ℕ) (z : length m ≡ registerWords) where
 
   -- A save by desk d that is due, of the draft opened as o says, does what demand 3 says.
   save-due-does : (cs : List Call) (d : ℕ) (o : Opening) → Saved (stateOf cs) (eventsOf cs) d o
-      → SaveDoes d o (history m cs) (after m (map call (o .before))) (after m cs) (reply (after m cs) (save d) .answer) (after m (save d ∷ cs))
+      → SaveDoes d o (history m cs) (after m (map call (o .before))) (after m cs) (reply (after m cs) (save d) .answer)
+      (after m (save d ∷ cs))
   save-due-does cs d o y =
       let S = run-shows m z cs in
       let T = run-shows m z (save d ∷ cs) in
       let k = shown-few S (y .known) in
       let next = state-by cs (y .rule) in
       record {
-        answer = ap (λ (r : Reply). r .answer) (run-replies m z cs (save d) ∙ ap (λ (x : Outcome). x .reply) (way-taken (stateOf cs) (y .rule))) ∙ rw (run-history m z cs, y .count) refl;
+        answer = ap (λ (r : Reply). r .answer)
+            (run-replies m z cs (save d) ∙ ap (λ (x : Outcome). x .reply) (way-taken (stateOf cs) (y .rule)))
+            ∙ rw (run-history m z cs, y .count) refl;
         number = rw (run-history m z cs) (T .numbers (o .hull) k ∙ rw (next, self, y .count) refl);
-        sheet = rw (run-history m z cs, run-shows m z (map call (o .before)) .sheets (o .hull) k) (T .sheets (o .hull) k ∙ rw (next, self) refl);
+        sheet = rw (run-history m z cs, run-shows m z (map call (o .before)) .sheets (o .hull) k)
+            (T .sheets (o .hull) k ∙ rw (next, self) refl);
         hulls = T .counts ∙ ap (λ (s : State). s .register .entered) next ∙ sym (S .counts);
-        others = λ h l n. let j = there-few S l in
-            (T .numbers h j ∙ rw (next, ne-eqb h (o .hull) n) (sym (S .numbers h j)), T .sheets h j ∙ rw (next, ne-eqb h (o .hull) n) (sym (S .sheets h j)));
+        others = λ h l n. let j = there-few S l in (
+          T .numbers h j ∙ rw (next, ne-eqb h (o .hull) n) (sym (S .numbers h j)),
+          T .sheets h j ∙ rw (next, ne-eqb h (o .hull) n) (sym (S .sheets h j)),
+        );
       }
 
   due-taken : (cs : List Call) (d : ℕ) (u : Due d (history m cs)) → Saved (stateOf cs) (eventsOf cs) d (u .draft)
@@ -81,15 +89,19 @@ module _ (m : List ℕ) (z : length m ≡ registerWords) where
   -- The accepted save answers the count of accepted saves, which the hull then has as its edit number, and the hull
   -- holds its sheet at the opening with the draft's accepted work done on it; every other hull is as it was.
   pub save-does : (cs : List Call) (d : ℕ) (u : Due d (history m cs))
-      → SaveDoes d (u .draft) (history m cs) (after m (map call (u .draft .before))) (after m cs) (reply (after m cs) (save d) .answer) (after m (save d ∷ cs))
+      → SaveDoes d (u .draft) (history m cs) (after m (map call (u .draft .before))) (after m cs)
+      (reply (after m cs) (save d) .answer) (after m (save d ∷ cs))
   save-does cs d u = save-due-does cs d (u .draft) (due-taken cs d u)
 
   -- The block of an accepted save is the open that made its draft, and every call on that draft since.
-  pub taken-whole : (cs : List Call) (d : ℕ) (u : Due d (history m cs)) → Whole d (history m cs) (u .draft) (block d (history m cs))
+  pub taken-whole : (cs : List Call) (d : ℕ) (u : Due d (history m cs))
+      → Whole d (history m cs) (u .draft) (block d (history m cs))
   taken-whole cs d u = block-whole d (history m cs) (u .draft) (u .holds)
 
   -- Where a save is accepted, no call of its block is a save.
-  pub taken-saveless : (cs : List Call) (d : ℕ) → accepted (reply (after m cs) (save d)) ≡ true → saveless (block d (history m cs)) ≡ true
+  pub taken-saveless : (cs : List Call) (d : ℕ)
+      → accepted (reply (after m cs) (save d)) ≡ true
+      → saveless (block d (history m cs)) ≡ true
   taken-saveless cs d a = rw (run-history m z cs) (taken-clean cs d (rw (run-replies m z cs (save d)) at a))
 
   -- ---- (b) the list of demand 3
@@ -106,12 +118,17 @@ module _ (m : List ℕ) (z : length m ≡ registerWords) where
         replies = run-history m z ks ∙ g .replies;
         hulls = record {
           counts = T .counts ∙ ap (λ (r : Register). r .entered) (g .register) ∙ sym (S .counts);
-          numbers = λ h l. let j = there-few S l in T .numbers h j ∙ ap (λ (r : Register). r .hull h .edits) (g .register) ∙ sym (S .numbers h j);
-          sheets = λ h l. let j = there-few S l in T .sheets h j ∙ ap (λ (r : Register). r .hull h .sheet) (g .register) ∙ sym (S .sheets h j);
+          numbers = λ h l. let j = there-few S l in T .numbers h j
+              ∙ ap (λ (r : Register). r .hull h .edits) (g .register)
+              ∙ sym (S .numbers h j);
+          sheets = λ h l. let j = there-few S l in T .sheets h j
+              ∙ ap (λ (r : Register). r .hull h .sheet) (g .register)
+              ∙ sym (S .sheets h j);
         };
       })
 
 -- ---- the demand whole
 
 pub demand-3 : (m : List ℕ) → length m ≡ registerWords → Demand m
-demand-3 m z = record { accepts = save-iff m z; saves = save-does m z; counts = edits-count m z; serves = serial-gives m z }
+demand-3 m z =
+    record { accepts = save-iff m z; saves = save-does m z; counts = edits-count m z; serves = serial-gives m z }

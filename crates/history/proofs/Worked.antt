@@ -96,7 +96,9 @@ works {m} {s} {d} w x S q H z = go (isRefusal a) refl
     after : Bool → Draft
     after t = record { hull = x .hull; opening = x .opening; sheet = cond (not t) (worked w (x .sheet)) (x .sheet) }
 
-    go : (t : Bool) → isRefusal a ≡ t → Tied (next m (work d w)) (reply m (work d w)) (atDesk s d (some (after t))) (says a)
+    go : (t : Bool)
+        → isRefusal a ≡ t
+        → Tied (next m (work d w)) (reply m (work d w)) (atDesk s d (some (after t))) (says a)
     go true f =
         record {
           shows = rw (refused-leaves m (work d w) (rw e f) .memory-kept) (same-shows S q);

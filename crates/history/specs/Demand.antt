@@ -25,7 +25,8 @@ pub record Due (d : ℕ) (past : List Event) : Type 0 where
 
 -- (a) what an accepted save by desk d, of the draft opened as o says, does: by the history and the memory before it,
 -- the memory at the opening, its answer, and the memory after it
-pub record SaveDoes (d : ℕ) (o : Opening) (past : List Event) (opened before : List ℕ) (said : Answer) (saved : List ℕ) : Type 0 where
+pub record SaveDoes (d : ℕ) (o : Opening) (past : List Event) (opened before : List ℕ) (said : Answer)
+    (saved : List ℕ) : Type 0 where
   -- it answers the edit number that the hull now has, and that counts the accepted saves
   pub answer : said ≡ Count (suc (savesOf (o .hull) past))
   pub number : edit saved (o .hull) ≡ suc (savesOf (o .hull) past)
@@ -33,7 +34,10 @@ pub record SaveDoes (d : ℕ) (o : Opening) (past : List Event) (opened before :
   pub sheet : hullSheet saved (o .hull) ≡ redo (block d past) (hullSheet opened (o .hull))
   -- every other hull is as it was, and no hull comes or goes
   pub hulls : hullCount saved ≡ hullCount before
-  pub others : (h : ℕ) → h < hullCount before → (h ≡ o .hull → ⊥) → (edit saved h ≡ edit before h) × (hullSheet saved h ≡ hullSheet before h)
+  pub others : (h : ℕ)
+      → h < hullCount before
+      → (h ≡ o .hull → ⊥)
+      → (edit saved h ≡ edit before h) × (hullSheet saved h ≡ hullSheet before h)
 
 -- two memories hold the same hulls with the same edit numbers
 pub record SameHulls (o m : List ℕ) : Type 0 where
@@ -51,7 +55,8 @@ pub record Demand (m : List ℕ) : Type 0 where
   -- (a) accepted is what is due and nothing else, and it does so; and edit numbers count accepted saves at any time
   pub accepts : (cs : List Call) (d : ℕ) → (accepted (reply (after m cs) (save d)) ≡ true) ↔ Due d (history m cs)
   pub saves : (cs : List Call) (d : ℕ) (u : Due d (history m cs))
-      → SaveDoes d (u .draft) (history m cs) (after m (map call (u .draft .before))) (after m cs) (reply (after m cs) (save d) .answer) (after m (save d ∷ cs))
+      → SaveDoes d (u .draft) (history m cs) (after m (map call (u .draft .before))) (after m cs)
+      (reply (after m cs) (save d) .answer) (after m (save d ∷ cs))
   pub counts : (cs : List Call) (h : ℕ) → h < hullCount (after m cs) → edit (after m cs) h ≡ savesOf h (history m cs)
   -- (b) the list with each accepted save's block at the save's place gives the same
   pub serves : (cs : List Call) → Gives m (serial (history m cs)) (after m cs)

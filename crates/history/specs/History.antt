@@ -30,7 +30,8 @@ role d (ask h q ⇒ r) = elsewhere
 -- ever taken.)
 unfoldable pub block : ℕ → List Event → List Event
 block d [] = []
-block d (e ∷ past) = elim (role d e) [ itsOpen ↦ e ∷ [] | itsCall ↦ e ∷ block d past | itsEnd ↦ [] | elsewhere ↦ block d past ]
+block d (e ∷ past) =
+    elim (role d e) [ itsOpen ↦ e ∷ [] | itsCall ↦ e ∷ block d past | itsEnd ↦ [] | elsewhere ↦ block d past ]
 
 -- where an event stands in the serial list: at its own place, alone; at its own place, after the block of a desk's
 -- draft; or at none, unless it is in a block
@@ -50,4 +51,5 @@ spot (ask h q ⇒ r) = alone
 -- the list of demand 3
 unfoldable pub serial : List Event → List Event
 serial [] = []
-serial (e ∷ past) = elim (spot e) [ alone ↦ e ∷ serial past | withBlock d ↦ e ∷ (block d past ++ serial past) | nowhere ↦ serial past ]
+serial (e ∷ past) =
+    elim (spot e) [ alone ↦ e ∷ serial past | withBlock d ↦ e ∷ (block d past ++ serial past) | nowhere ↦ serial past ]

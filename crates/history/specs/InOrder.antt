@@ -33,9 +33,14 @@ pub record GivesInOrder (m : List ℕ) (es : List Event) (r : List ℕ) : Type 0
 
 -- the demand, of a memory that was m before its fresh start, and of any calls after it
 pub record DemandInOrder (m : List ℕ) : Type 0 where
-  pub accepts : (cs : List Call) (d : ℕ) → (accepted (reply (lastly (freshStep m .memory) cs) (save d)) ≡ true) ↔ Due d (reverse (transcript (freshStep m .memory) cs))
+  pub accepts : (cs : List Call) (d : ℕ)
+      → (accepted (reply (lastly (freshStep m .memory) cs) (save d)) ≡ true)
+      ↔ Due d (reverse (transcript (freshStep m .memory) cs))
   pub saves : (cs : List Call) (d : ℕ) (u : Due d (reverse (transcript (freshStep m .memory) cs)))
-      → SaveDoes d (u .draft) (reverse (transcript (freshStep m .memory) cs)) (lastly (freshStep m .memory) (reverse (map call (u .draft .before)))) (lastly (freshStep m .memory) cs)
+      → SaveDoes d (u .draft) (reverse (transcript (freshStep m .memory) cs))
+      (lastly (freshStep m .memory) (reverse (map call (u .draft .before)))) (lastly (freshStep m .memory) cs)
       (reply (lastly (freshStep m .memory) cs) (save d) .answer) (next (lastly (freshStep m .memory) cs) (save d))
-  pub counts : (cs : List Call) (h : ℕ) → h < hullCount (lastly (freshStep m .memory) cs) → edit (lastly (freshStep m .memory) cs) h ≡ savesOf h (reverse (transcript (freshStep m .memory) cs))
+  pub counts : (cs : List Call) (h : ℕ)
+      → h < hullCount (lastly (freshStep m .memory) cs)
+      → edit (lastly (freshStep m .memory) cs) h ≡ savesOf h (reverse (transcript (freshStep m .memory) cs))
   pub serves : (cs : List Call) → GivesInOrder m (transcript (freshStep m .memory) cs) (lastly (freshStep m .memory) cs)

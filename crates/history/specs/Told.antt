@@ -31,7 +31,13 @@ pub record Opening : Type 0 where
 
 unfoldable pub opening : ℕ → List Event → Option Opening
 opening d [] = none
-opening d (e ∷ past) = elim (role d e) [ itsOpen ↦ some (record { hull = hullOf e; before = past }) | itsCall ↦ opening d past | itsEnd ↦ none | elsewhere ↦ opening d past ]
+opening d (e ∷ past) =
+    elim (role d e) [
+      | itsOpen ↦ some (record { hull = hullOf e; before = past })
+      | itsCall ↦ opening d past
+      | itsEnd ↦ none
+      | elsewhere ↦ opening d past
+    ]
 
 -- whether a draft that was opened so, or none, is of hull h
 abbrev isOf : ℕ → Option Opening → Bool

@@ -127,7 +127,8 @@ fn lay_printed(input: &[u8], out: &mut [u8]) -> usize
 }
 
 // Prints the plates of a sheet and engine lines into out, from its start, and answers how many bytes that is; 60 bytes
-// are always room enough. It refuses with 16 an out that is shorter than what is printed, and then leaves it as it stood.
+// are always room enough. It refuses with 16 an out that is shorter than what is printed, and then leaves it as it
+// stood.
 pub fn print_plates(input: &[u8], out: &mut [u8]) -> Answer
     ensures { λ r. ⌜ Settled (printAnswer (now (input .entry)) (length (now (out .entry))))
         (printInto (now (input .entry)) (now (out .entry))) r (now (out .exit)) ⌝ }

@@ -68,7 +68,8 @@ inputs-right :
 unfolding inputs withForm withBoat printed rowsPrinted platesText sheetBytes numbersText digitsOf digitsIn
     readSheet sheetForm numbersOn numbersOf fitsOf weightsFrom readEngines engineForm
     readForm readParts readRows kindOf readLine agreed readNumbers readEntry fieldOf numberOf restOf
-    stationProduct volumeN netZ addedUp boatM exactX markedC rising rowsRight rowFor lacksRow engineWeight liveLoad persons
+    stationProduct volumeN netZ addedUp boatM exactX markedC rising rowsRight rowFor lacksRow engineWeight liveLoad
+    persons
     lacksTests plateC inboardX loadX markedA formulaWatts powerA plateA
 inputs-right = refl
 

@@ -26,6 +26,7 @@ use Rattle.capacity.specs.PlateU.{ruleU, markedU, plateU}
 use Rattle.capacity.specs.Kinds.{PlateKind, kindA, kindC, kindU}
 use Rattle.memory.specs.Formed.{each, hullOk, draftOk, formed}
 use Rattle.memory.specs.Updates.{freshWords, entered, opened, fitted, replaced, dropped, saved}
+use Rattle.sheet.proofs.BaseHull.{form, mass, power, seats, sheetWith}
 use Rattle.register.specs.Refusals.{roomRefusal, hullRefusal, openRefusal, deskRefusal}
 use Rattle.register.specs.Calls.{put, takeOff, replace, tryPlate, plate, write}
 use Rattle.register.specs.Calls.{Call, newHull, openHull, work, save, dropDraft, ask, step}
@@ -45,16 +46,12 @@ given m ((c must a) ∷ cs) = step m c .answer ∷ given (step m c .memory) cs
 
 -- ---- the day
 
-stations : List ℕ
-stations =
-    bytes "STN\tQ\t1000\t500\t500\t500\t500\t500\t500\nSTN\tR\t1000\t500\t500\t500\t500\t500\t500\n"
-    ++ bytes "STN\tS\t1000\t500\t500\t500\t500\t500\t500\nSTN\tT\t1000\t500\t500\t500\t500\t500\t500\n"
-
--- 01's hull of a bare boat that weighs so much
+-- 01's hull with another HULL line and MASS line
 numbered-text : String → String → List ℕ
-numbered-text hull bare =
-    bytes hull ++ (bytes "FORM\t4500\t4000\t1200\t500\t0\t1\n" ++ (stations
-    ++ (bytes "VOL\t0\t0\t0\nMASS\t" ++ (bytes bare ++ bytes "\t0\t0\nPWR\t1\t20000\nSEAT\t5\t3\nEND\n"))))
+numbered-text hull mass = sheetWith hull form mass power seats (bytes "END\n")
+
+abbrev heavier : String
+heavier = "MASS\t203334\t0\t0\n"
 
 -- as it is entered: its HULL number is judged and then ignored
 text : String → List ℕ
@@ -81,8 +78,8 @@ writes h room = ask h (write (replicate room 7))
 
 day : List Must
 day =
-    (newHull (text "200000") must Count 0) ∷ (newHull (text "203334") must Count 1)
-    ∷ (newHull (text "0") must Refused 3)
+    (newHull (text mass) must Count 0) ∷ (newHull (text heavier) must Count 1)
+    ∷ (newHull (text "MASS\t0\t0\t0\n") must Refused 3)
     -- no such desk, hull or draft
     ∷ (openHull 8 1 must Refused 6) ∷ (openHull 0 2 must Refused 5) ∷ (save 0 must Refused 7)
     -- desk 0 works on hull 0, where desk 7 has opened it too
@@ -97,7 +94,7 @@ day =
     ∷ (marks 1 byC must Plate 325 3) ∷ (marks 1 kindU must Count 718) ∷ (marks 2 kindA must Refused 5)
     ∷ (marks 2 kindU must Refused 5)
     -- replace, then drop: nothing of it is left
-    ∷ (openHull 3 1 must Count 0) ∷ (work 3 (replace (text "200000")) must Done) ∷ (tries 3 kindA must Plate 327 20000)
+    ∷ (openHull 3 1 must Count 0) ∷ (work 3 (replace (text mass)) must Done) ∷ (tries 3 kindA must Plate 327 20000)
     ∷ (dropDraft 3 must Done) ∷ (tries 3 kindA must Refused 7) ∷ (tries 3 kindU must Refused 7)
     ∷ (tries 8 kindU must Refused 6) ∷ (work 3 (replace []) must Refused 7) ∷ (marks 1 kindA must Plate 326 20000)
     -- written under the register's number
@@ -105,7 +102,7 @@ day =
     ∷ []
 
 a-day : given freshWords day ≡ map wanted day
-unfolding given day text numbered-text stations rows grams freshWords entered opened fitted replaced dropped
+unfolding given day text numbered-text rows grams freshWords entered opened fitted replaced dropped
     saved each hullOk draftOk formed hullRefusal deskRefusal roomRefusal openRefusal readSheet sheetForm
     numbersOn numbersOf fitsOf weightsFrom readForm readParts readRows kindOf readLine agreed readNumbers
     readEntry fieldOf numberOf restOf allHold sheetLimits limitsOn sheetText rowsOn fitRows partsText rowsText
@@ -116,10 +113,10 @@ a-day = refl
 
 -- the bytes of a hull's text: the register's number, and nothing beyond the text
 two : List ℕ
-two = step (step freshWords (newHull (text "200000")) .memory) (newHull (text "203334")) .memory
+two = step (step freshWords (newHull (text mass)) .memory) (newHull (text heavier)) .memory
 
-a-text : step two (writes 1 230) .output ≡ numbered-text "HULL\t1\n" "203334" ++ replicate 4 7
-unfolding two text numbered-text stations freshWords entered each hullOk draftOk formed hullRefusal roomRefusal
+a-text : step two (writes 1 230) .output ≡ numbered-text "HULL\t1\n" heavier ++ replicate 4 7
+unfolding two text numbered-text freshWords entered each hullOk draftOk formed hullRefusal roomRefusal
     readSheet sheetForm numbersOn numbersOf fitsOf weightsFrom readForm readParts readRows kindOf readLine
     agreed readNumbers readEntry fieldOf numberOf restOf allHold sheetLimits limitsOn sheetText rowsOn fitRows
     partsText rowsText numbersText digitsOf digitsIn

@@ -1,5 +1,4 @@
 -- A sheet's words without its HULL number: they are within the limits where the sheet is, and the other way round.
---
 use mathlib.Core.Path.{_≡_, refl, sym, _∙_}
 use mathlib.Core.Bool.{true, true≢false}
 use mathlib.Core.List.{List, [], _∷_}

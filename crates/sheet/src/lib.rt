@@ -1,11 +1,11 @@
-// What a sheet and engine rows are, and their one text: definitions in specs/, laws in proofs/, and the types and numbers that the code names. The code is the
-// crates measuring, reading and writing.
+// What a sheet and engine rows are, and their one text: definitions in specs/, laws in proofs/, and the types and
+// numbers that the code names. The code is the crates measuring, reading and writing.
 use text::CAPPED;
 use text::Limit;
 use text::OR_NONE;
 use text::PLAIN;
 
-// ---- where each number stands among the words of a sheet, in the order of its text: each place follows from the one before
+// ---- where each number stands among the words of a sheet: each place follows from the one before
 
 // FORM
 pub const LENGTH: usize = 0;
@@ -60,7 +60,8 @@ pub const FITTED: usize = TESTED + 1;
 
 pub const FITTINGS: usize = 24;
 
-// The words that the register holds of a hull; in a text the HULL number stands before them, and every word one place further on.
+// The words that the register holds of a hull; in a text the HULL number stands before them, and every word one place
+// further on.
 pub const SHEET_WORDS: usize = FITTED + FITTINGS;
 
 pub const HULL_NUMBER: usize = 0;

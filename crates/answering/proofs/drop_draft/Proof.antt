@@ -16,7 +16,8 @@ returns-2 : tie.Need-returns-2
 returns-2 c =
     let at-desk-refusal = c .before .before .before .before .before in
     let at-if1 = c .before .before .before .before in
-    passed (at-desk-refusal .desk-refusal .ensures) _ _ _ (at-if1 .if1 .left) (done (c .before .before .drop-draft .ensures))
+    passed (at-desk-refusal .desk-refusal .ensures) _ _ _ (at-if1 .if1 .left)
+    (done (c .before .before .drop-draft .ensures))
 
 pub drop-draft-spec : {M : Type 1} → statement M
 drop-draft-spec =

@@ -15,7 +15,8 @@ returns c = refused (c .before .room-refusal .ensures) _ _ (c .if1 .taken)
 
 enter-hull-requires : tie.Need-enter-hull-requires
 enter-hull-requires c κs =
-    let start = c .before .before .before .before .before .before .before .before .before .before .before .before .before in
+    let start =
+    c .before .before .before .before .before .before .before .before .before .before .before .before .before in
     let at-room-refusal = c .before .before .before .before .before .before .before .before .before in
     let at-if1 = c .before .before .before .before .before .before .before .before in
     let at-enum-told = c .before .before .before in
@@ -24,7 +25,8 @@ enter-hull-requires c κs =
     record {
       size = sound (start .args .mem .now) (g .ok) .size;
       room = g .room;
-      sheet = read-long (start .args .text .now) (rw (at-enum-told .enum-told .given .1) at (at-read-words .read-words .ensures));
+      sheet = read-long (start .args .text .now)
+          (rw (at-enum-told .enum-told .given .1) at (at-read-words .read-words .ensures));
     }
 
 returns-2 : tie.Need-returns-2
@@ -44,7 +46,11 @@ returns-3 c =
     let made = c .before .before .enter-hull .ensures in
     passed (at-if1 .before .room-refusal .ensures) _ _ _ (at-if1 .if1 .left)
     (text-passed _ _ _ _ (text-took (start .args .text .now) read)
-    (record { answered = ap Count (made .0); kept = made .1 ∙ ap (entered (start .args .mem .now)) (read-lent (start .args .text .now) read) }))
+    (record {
+      answered = ap Count (made .0);
+      kept = made .1
+          ∙ ap (entered (start .args .mem .now)) (read-lent (start .args .text .now) read);
+    }))
 
 pub new-hull-spec : {M : Type 1} → statement M
 new-hull-spec =

@@ -13,14 +13,16 @@ returns c = refused (c .before .desk-refusal .ensures) _ _ (c .if1 .taken)
 returns-2 : tie.Need-returns-2
 returns-2 c =
     let at-if1 = c .before .before in
-    passed (at-if1 .before .desk-refusal .ensures) _ _ _ (at-if1 .if1 .left) (refused (c .before .put-own .ensures) _ _ (c .if2 .taken))
+    passed (at-if1 .before .desk-refusal .ensures) _ _ _ (at-if1 .if1 .left)
+    (refused (c .before .put-own .ensures) _ _ (c .if2 .taken))
 
 set-fitting-requires : tie.Need-set-fitting-requires
 set-fitting-requires c κs =
     let at-if2 = c .before in
     let at-if1 = at-if2 .before .before in
     let start = at-if1 .before .before .before .before in
-    let p = put-fits (start .args .line) (start .args .weight) (sym (at-if2 .before .put-own .ensures) ∙ at-if2 .if2 .left) in
+    let p =
+    put-fits (start .args .line) (start .args .weight) (sym (at-if2 .before .put-own .ensures) ∙ at-if2 .if2 .left) in
     at-line _ _ (sym (at-if1 .before .desk-refusal .ensures) ∙ at-if1 .if1 .left) (start .args .line) (p .high)
 
 returns-3 : tie.Need-returns-3
@@ -28,7 +30,8 @@ returns-3 c =
     let at-if2 = c .before .before .before .before in
     let at-if1 = at-if2 .before .before in
     passed (at-if1 .before .desk-refusal .ensures) _ _ _ (at-if1 .if1 .left)
-    (passed (at-if2 .before .put-own .ensures) _ _ _ (at-if2 .if2 .left) (done (c .before .before .set-fitting .ensures)))
+    (passed (at-if2 .before .put-own .ensures) _ _ _ (at-if2 .if2 .left)
+    (done (c .before .before .set-fitting .ensures)))
 
 pub put-fitting-spec : {M : Type 1} → statement M
 put-fitting-spec =

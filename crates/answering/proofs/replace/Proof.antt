@@ -14,16 +14,20 @@ returns c = refused (c .before .desk-refusal .ensures) _ _ (c .if1 .taken)
 
 replace-sheet-requires : tie.Need-replace-sheet-requires
 replace-sheet-requires c κs =
-    let start = c .before .before .before .before .before .before .before .before .before .before .before .before .before in
+    let start =
+    c .before .before .before .before .before .before .before .before .before .before .before .before .before in
     let at-desk-refusal = c .before .before .before .before .before .before .before .before .before in
     let at-if1 = c .before .before .before .before .before .before .before .before in
     let at-enum-told = c .before .before .before in
     let at-read-words = c .before .before .before .before .before .before in
-    let g = desk-goes (start .args .mem .now) (start .args .desk) (sym (at-desk-refusal .desk-refusal .ensures) ∙ at-if1 .if1 .left) in
+    let g =
+    desk-goes (start .args .mem .now) (start .args .desk)
+    (sym (at-desk-refusal .desk-refusal .ensures) ∙ at-if1 .if1 .left) in
     record {
       size = sound (start .args .mem .now) (g .ok) .size;
       desk = g .desk;
-      sheet = read-long (start .args .text .now) (rw (at-enum-told .enum-told .given .1) at (at-read-words .read-words .ensures));
+      sheet = read-long (start .args .text .now)
+          (rw (at-enum-told .enum-told .given .1) at (at-read-words .read-words .ensures));
     }
 
 returns-2 : tie.Need-returns-2
@@ -43,7 +47,9 @@ returns-3 c =
     let text = start .args .text .now in
     passed (at-if1 .before .desk-refusal .ensures) _ _ _ (at-if1 .if1 .left)
     (text-passed _ _ _ _ (text-took text read)
-    (done (c .before .before .replace-sheet .ensures ∙ ap (replaced (start .args .mem .now) (start .args .desk)) (read-lent text read))))
+    (done
+    (c .before .before .replace-sheet .ensures
+    ∙ ap (replaced (start .args .mem .now) (start .args .desk)) (read-lent text read))))
 
 pub replace-spec : {M : Type 1} → statement M
 replace-spec =

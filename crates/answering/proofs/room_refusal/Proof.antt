@@ -15,13 +15,15 @@ returns : tie.Need-returns
 returns c =
     let start = c .before .before .before .before .before in
     let at-is-formed = c .before .before .before in
-    room-left (start .args .mem .now) (sym (at-is-formed .is-formed .ensures) ∙ c .before .before .if1 .taken) (c .before .hull-count .ensures) (c .if2 .taken)
+    room-left (start .args .mem .now) (sym (at-is-formed .is-formed .ensures) ∙ c .before .before .if1 .taken)
+    (c .before .hull-count .ensures) (c .if2 .taken)
 
 returns-2 : tie.Need-returns-2
 returns-2 c =
     let start = c .before .before .before .before .before in
     let at-is-formed = c .before .before .before in
-    room-none (start .args .mem .now) (sym (at-is-formed .is-formed .ensures) ∙ c .before .before .if1 .taken) (c .before .hull-count .ensures) (c .if2 .left)
+    room-none (start .args .mem .now) (sym (at-is-formed .is-formed .ensures) ∙ c .before .before .if1 .taken)
+    (c .before .hull-count .ensures) (c .if2 .left)
 
 returns-3 : tie.Need-returns-3
 returns-3 c =

@@ -18,7 +18,8 @@ save-own-requires c κs =
 returns-2 : tie.Need-returns-2
 returns-2 c =
     let at-if1 = c .before .before .before in
-    passed (at-if1 .before .desk-refusal .ensures) _ _ _ (at-if1 .if1 .left) (refused (c .before .save-own .ensures) _ _ (c .if2 .taken))
+    passed (at-if1 .before .desk-refusal .ensures) _ _ _ (at-if1 .if1 .left)
+    (refused (c .before .save-own .ensures) _ _ (c .if2 .taken))
 
 save-draft-requires : tie.Need-save-draft-requires
 save-draft-requires c κs =
@@ -33,7 +34,8 @@ returns-3 c =
     let at-if1 = at-if2 .before .before .before in
     let made = c .before .before .save-draft .ensures in
     passed (at-if1 .before .desk-refusal .ensures) _ _ _ (at-if1 .if1 .left)
-    (passed (at-if2 .before .save-own .ensures) _ _ _ (at-if2 .if2 .left) (record { answered = ap Count (made .0); kept = made .1 }))
+    (passed (at-if2 .before .save-own .ensures) _ _ _ (at-if2 .if2 .left)
+    (record { answered = ap Count (made .0); kept = made .1 }))
 
 pub save-spec : {M : Type 1} → statement M
 save-spec =

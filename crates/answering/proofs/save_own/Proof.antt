@@ -7,7 +7,12 @@ use Rattle.answering.proofs.save_own.Tie as tie
 returns : tie.Need-returns
 returns c =
     let at-edit = c .before .before in
-    simp (← at-edit .before .draft-hull .ensures, ← at-edit .edit .ensures, ← c .before .opening .ensures, ne-eqb _ _ (c .if1 .taken))
+    simp (
+      ← at-edit .before .draft-hull .ensures,
+      ← at-edit .edit .ensures,
+      ← c .before .opening .ensures,
+      ne-eqb _ _ (c .if1 .taken),
+    )
 
 returns-2 : tie.Need-returns-2
 returns-2 c =

@@ -17,14 +17,17 @@ take-own-requires c κs = at-desk (sym (c .before .before .desk-refusal .ensures
 returns-2 : tie.Need-returns-2
 returns-2 c =
     let at-if1 = c .before .before .before in
-    passed (at-if1 .before .desk-refusal .ensures) _ _ _ (at-if1 .if1 .left) (refused (c .before .take-own .ensures) _ _ (c .if2 .taken))
+    passed (at-if1 .before .desk-refusal .ensures) _ _ _ (at-if1 .if1 .left)
+    (refused (c .before .take-own .ensures) _ _ (c .if2 .taken))
 
 set-fitting-requires : tie.Need-set-fitting-requires
 set-fitting-requires c κs =
     let at-if2 = c .before in
     let at-if1 = at-if2 .before .before .before in
     let start = at-if1 .before .before .before .before in
-    let p = take-fits (draftSheet (start .args .mem .now) (start .args .desk)) (start .args .line) (sym (at-if2 .before .take-own .ensures) ∙ at-if2 .if2 .left) in
+    let p =
+    take-fits (draftSheet (start .args .mem .now) (start .args .desk)) (start .args .line)
+    (sym (at-if2 .before .take-own .ensures) ∙ at-if2 .if2 .left) in
     at-line _ _ (sym (at-if1 .before .desk-refusal .ensures) ∙ at-if1 .if1 .left) (start .args .line) (p .high)
 
 returns-3 : tie.Need-returns-3
@@ -32,7 +35,8 @@ returns-3 c =
     let at-if2 = c .before .before .before .before in
     let at-if1 = at-if2 .before .before .before in
     passed (at-if1 .before .desk-refusal .ensures) _ _ _ (at-if1 .if1 .left)
-    (passed (at-if2 .before .take-own .ensures) _ _ _ (at-if2 .if2 .left) (done (c .before .before .set-fitting .ensures)))
+    (passed (at-if2 .before .take-own .ensures) _ _ _ (at-if2 .if2 .left)
+    (done (c .before .before .set-fitting .ensures)))
 
 pub take-off-spec : {M : Type 1} → statement M
 take-off-spec =

@@ -20,15 +20,19 @@ returns-3 : tie.Need-returns-3
 returns-3 c =
     let at-if2 = c .before .before in
     let start = at-if2 .before .before .before in
-    let word = c .before .fitting .ensures ∙ sym (line-word (start .args .mem .now) (start .args .desk) _ (at-if2 .if2 .left)) in
-    take-empty (draftSheet (start .args .mem .now) (start .args .desk)) _ (at-if2 .before .if1 .left) (at-if2 .if2 .left) word (c .if3 .taken)
+    let word =
+    c .before .fitting .ensures ∙ sym (line-word (start .args .mem .now) (start .args .desk) _ (at-if2 .if2 .left)) in
+    take-empty (draftSheet (start .args .mem .now) (start .args .desk)) _ (at-if2 .before .if1 .left)
+    (at-if2 .if2 .left) word (c .if3 .taken)
 
 returns-4 : tie.Need-returns-4
 returns-4 c =
     let at-if2 = c .before .before in
     let start = at-if2 .before .before .before in
-    let word = c .before .fitting .ensures ∙ sym (line-word (start .args .mem .now) (start .args .desk) _ (at-if2 .if2 .left)) in
-    take-there (draftSheet (start .args .mem .now) (start .args .desk)) _ (at-if2 .before .if1 .left) (at-if2 .if2 .left) word (c .if3 .left)
+    let word =
+    c .before .fitting .ensures ∙ sym (line-word (start .args .mem .now) (start .args .desk) _ (at-if2 .if2 .left)) in
+    take-there (draftSheet (start .args .mem .now) (start .args .desk)) _ (at-if2 .before .if1 .left)
+    (at-if2 .if2 .left) word (c .if3 .left)
 
 pub take-own-spec : {M : Type 1} → statement M
 take-own-spec = tie.close (tie.spec returns returns-2 (λ c κs. search needs) returns-3 returns-4)

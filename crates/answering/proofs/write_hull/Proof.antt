@@ -11,7 +11,8 @@ returns c = refused (c .before .hull-refusal .ensures) _ _ (c .if1 .taken)
 
 numbered-requires : tie.Need-numbered-requires
 numbered-requires c κs =
-    words-many _ (hull-ok _ _ (c .before .before .hull-refusal .ensures) (c .before .if1 .left) (c .hull-sheet .ensures))
+    words-many _
+    (hull-ok _ _ (c .before .before .hull-refusal .ensures) (c .before .if1 .left) (c .hull-sheet .ensures))
 
 returns-2 : tie.Need-returns-2
 returns-2 c =
@@ -19,7 +20,8 @@ returns-2 c =
     let at-if1 = at-numbered .before .before in
     let start = at-if1 .before .before .before .before in
     let e = rw (at-numbered .before .hull-sheet .ensures) at (at-numbered .numbered .ensures) in
-    written-given (start .args .mem .now) (start .args .hull) (start .args .out .now) (at-if1 .before .hull-refusal .ensures)
+    written-given (start .args .mem .now) (start .args .hull) (start .args .out .now)
+    (at-if1 .before .hull-refusal .ensures)
     (at-if1 .if1 .left) e (c .before .before .write-sheet .ensures)
 
 pub write-hull-spec : {M : Type 1} → statement M

@@ -7,17 +7,8 @@ use borrow.Author.Needs.{needs}
 use Rattle.figuring.proofs.plate_a.Statement.{statement}
 use Rattle.figuring.proofs.plate_a.Tie as tie
 
-returns : tie.Need-returns
-returns c = search a-unloaded
-
-returns-2 : tie.Need-returns-2
-returns-2 c = search a-unpowered
-
-returns-3 : tie.Need-returns-3
-returns-3 c = search a-marks
-
 pub plate-a-spec : {M : Type 1} → statement M
 plate-a-spec =
     tie.close
-    (tie.spec (λ c κs. search needs) (λ c κs. search needs) (omega (arith, marked-most))
-    (λ c κs. search needs) (omega (arith, power-most)) returns returns-2 returns-3)
+    (tie.spec (λ c κs. search needs) (λ c κs. search needs) (omega (arith, marked-most)) (λ c κs. search needs)
+    (omega (arith, power-most)) (λ c. search a-unloaded) (λ c. search a-unpowered) (λ c. search a-marks))

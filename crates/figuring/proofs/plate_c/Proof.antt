@@ -16,28 +16,10 @@ cast-t16 c =
     let start = at-load .before .before .before .before .before .before in
     omega (arith, persons-most _ (subℕ (1000 * at-load .marked-c .result) (at-wide .wide .result)) (start .pre))
 
-returns : tie.Need-returns
-returns c = search c-unloaded
-
-returns-2 : tie.Need-returns-2
-returns-2 c = search c-unreached
-
-returns-3 : tie.Need-returns-3
-returns-3 c = search c-untested
-
-returns-4 : tie.Need-returns-4
-returns-4 c = search c-empty
-
-returns-5 : tie.Need-returns-5
-returns-5 c = search c-marks
-
-returns-6 : tie.Need-returns-6
-returns-6 c = search c-rows
-
 pub plate-c-spec : {M : Type 1} → statement M
 plate-c-spec =
     tie.close
-    (tie.spec (search needs) (λ c κs. search needs) returns (λ c κs. search needs) returns-2
-    (λ c κs. search needs) (search needs) (omega (arith, c-most)) (λ c κs. search needs) returns-3
-    (omega (arith, c-most)) (λ c κs. search needs) returns-4 (omega (arith, c-most)) cast-t16
-    returns-5 returns-6)
+    (tie.spec (search needs) (λ c κs. search needs) (λ c. search c-unloaded) (λ c κs. search needs)
+    (λ c. search c-unreached) (λ c κs. search needs) (search needs) (omega (arith, c-most)) (λ c κs. search needs)
+    (λ c. search c-untested) (omega (arith, c-most)) (λ c κs. search needs) (λ c. search c-empty)
+    (omega (arith, c-most)) cast-t16 (λ c. search c-marks) (λ c. search c-rows))

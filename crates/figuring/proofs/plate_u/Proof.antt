@@ -6,13 +6,7 @@ use borrow.Author.Needs.{needs}
 use Rattle.figuring.proofs.plate_u.Statement.{statement}
 use Rattle.figuring.proofs.plate_u.Tie as tie
 
-returns : tie.Need-returns
-returns c = search u-unloaded
-
-returns-2 : tie.Need-returns-2
-returns-2 c = search u-marks
-
 pub plate-u-spec : {M : Type 1} → statement M
 plate-u-spec =
     tie.close
-    (tie.spec (λ c κs. search needs) (omega (arith, pounds-most)) returns returns-2)
+    (tie.spec (λ c κs. search needs) (omega (arith, pounds-most)) (λ c. search u-unloaded) (λ c. search u-marks))

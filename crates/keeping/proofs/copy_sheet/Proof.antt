@@ -17,17 +17,11 @@ Inv-loop mem₀ from to i₀ mem i =
 abbrev μ-loop : tie.MeasureT-loop
 μ-loop mem₀ from to i₀ mem i = sheetWords - i
 
-loop-holds : tie.Need-loop-holds Inv-loop μ-loop
-loop-holds c = (omega arith, refl, refl)
-
 loop-again : tie.Need-loop-again Inv-loop μ-loop
 loop-again c =
     let inv = c .before .before .loop .inv in
     let copied = copied-more _ _ _ (c .before .before .before .pre) _ (c .before .loop-test .taken) (inv .2) in
     (omega arith, simp length-set (inv .1), copied)
-
-same-length : tie.Need-same-length Inv-loop μ-loop
-same-length c = c .before .loop .inv .1
 
 returns : tie.Need-returns Inv-loop μ-loop
 returns c = copied-whole _ _ _ (c .before .before .pre) _ (c .loop-test .left) (c .before .loop .inv .2)
@@ -35,18 +29,6 @@ returns c = copied-whole _ _ _ (c .before .before .pre) _ (c .loop-test .left) (
 pub copy-sheet-spec : {M : Type 1} → statement M
 copy-sheet-spec =
     tie.close
-    (tie.spec
-    Inv-loop
-    μ-loop
-    loop-holds
-    (λ c. omega arith)
-    (λ c. omega arith)
-    (λ c. omega arith)
-    (λ c. omega arith)
-    (λ c. omega arith)
-    (λ c. omega arith)
-    (λ c. omega arith)
-    (λ c. omega arith)
-    loop-again
-    same-length
-    returns)
+    (tie.spec Inv-loop μ-loop (λ c. (omega arith, refl, refl)) (λ c. omega arith) (λ c. omega arith)
+    (λ c. omega arith) (λ c. omega arith) (λ c. omega arith) (λ c. omega arith) (λ c. omega arith) (λ c. omega arith)
+    loop-again (λ c. c .before .loop .inv .1) returns)

@@ -4,16 +4,8 @@ use borrow.Author.Needs.{needs}
 use Rattle.keeping.proofs.sheet_at.Statement.{statement}
 use Rattle.keeping.proofs.sheet_at.Tie as tie
 
-returns : tie.Need-returns
-returns c = simp add-sub-cancel-left
-
 pub sheet-at-spec : {M : Type 1} → statement M
 sheet-at-spec =
     tie.close
-    (tie.spec
-    (λ c. search needs)
-    (λ c. search needs)
-    (λ c. search needs)
-    (λ c. search needs)
-    (λ c. search needs)
-    returns)
+    (tie.spec (λ c. search needs) (λ c. search needs) (λ c. search needs) (λ c. search needs) (λ c. search needs)
+    (λ c. simp add-sub-cancel-left))

@@ -5,12 +5,6 @@ use borrow.Author.Needs.{needs}
 use Rattle.measuring.proofs.from_vol.Statement.{statement}
 use Rattle.measuring.proofs.from_vol.Tie as tie
 
-run-ok-requires : tie.Need-run-ok-requires
-run-ok-requires c κs = (c .before .pre, vol-run)
-
-run-ok-requires-2 : tie.Need-run-ok-requires-2
-run-ok-requires-2 c κs = (c .before .before .before .before .before .pre, fitted-run)
-
 returns : tie.Need-returns
 returns c =
     let at-if = c .before .before .before in
@@ -32,4 +26,5 @@ returns-3 c =
 pub from-vol-spec : {M : Type 1} → statement M
 from-vol-spec =
     tie.close
-    (tie.spec run-ok-requires (λ c κs. search needs) run-ok-requires-2 returns returns-2 returns-3)
+    (tie.spec (λ c κs. (c .before .pre, vol-run)) (λ c κs. search needs)
+    (λ c κs. (c .before .before .before .before .before .pre, fitted-run)) returns returns-2 returns-3)

@@ -5,9 +5,6 @@ use borrow.Author.Needs.{needs}
 use Rattle.measuring.proofs.station_ok.Statement.{statement}
 use Rattle.measuring.proofs.station_ok.Tie as tie
 
-run-ok-requires : tie.Need-run-ok-requires
-run-ok-requires c κs = (c .before .pre .0, station _ (c .before .pre .1) .b)
-
 run-ok-requires-2 : tie.Need-run-ok-requires-2
 run-ok-requires-2 c κs =
     let p = c .before .before .before .pre in
@@ -27,5 +24,6 @@ returns-2 c =
 pub station-ok-spec : {M : Type 1} → statement M
 station-ok-spec =
     tie.close
-    (tie.spec (search needs) (search needs) (search needs) run-ok-requires (search needs)
-    (search needs) run-ok-requires-2 returns returns-2)
+    (tie.spec (search needs) (search needs) (search needs)
+    (λ c κs. (c .before .pre .0, station _ (c .before .pre .1) .b)) (search needs) (search needs) run-ok-requires-2
+    returns returns-2)

@@ -21,9 +21,6 @@ held c =
     let read = c .before .before .before .before .before .read-columns .ensures in
     columns-held _ (rw (c .before .rows .given .1) at read)
 
-returns : tie.Need-returns
-returns c = settled-few-powers _ _ _ (held (c .before)) (c .if1 .taken)
-
 returns-2 : tie.Need-returns-2
 returns-2 c = settled-few-weights _ _ _ (held (c .before .before)) (c .before .if1 .left) (c .if2 .taken)
 
@@ -56,22 +53,10 @@ returns-4 c =
 pub read-engines-spec : {M : Type 1} → statement M
 read-engines-spec =
     tie.close
-    (tie.spec
-    (λ c. search needs)
-    (λ c. search needs)
-    (λ c κs. search needs)
-    (λ c. search needs)
-    (λ c. search needs)
-    returns
-    returns-2
+    (tie.spec (λ c. search needs) (λ c. search needs) (λ c κs. search needs) (λ c. search needs) (λ c. search needs)
+    (λ c. settled-few-powers _ _ _ (held (c .before)) (c .if1 .taken)) returns-2
     (λ c. held (c .before .before) .powers-in)
     (λ c. sym (length-take-le _ _ (held (c .before .before .before) .powers-in)))
     (λ c κs. first-fit _ _ (held (c .before .before .before .before) .powers-in) (c .before .before .before .if1 .left))
-    (λ c. held (c .before .before .before .before .before .before .before) .weights-in)
-    slice-aggregate-copy-numbers-2
-    copy-numbers-requires-2
-    cast-t25
-    returns-3
-    (λ c. search needs)
-    (λ c. search needs)
-    returns-4)
+    (λ c. held (c .before .before .before .before .before .before .before) .weights-in) slice-aggregate-copy-numbers-2
+    copy-numbers-requires-2 cast-t25 returns-3 (λ c. search needs) (λ c. search needs) returns-4)

@@ -14,9 +14,6 @@ Inv-loop text weights₀ read₀ at₀ next₀ t11 weights read at next = State 
 abbrev μ-loop : tie.MeasureT-loop
 μ-loop text weights₀ read₀ at₀ next₀ t11 weights read at next = 24 - read
 
-loop-holds : tie.Need-loop-holds Inv-loop μ-loop
-loop-holds c = start _ _ (c .before .before .pre)
-
 turn : (c : tie.After-read-row Inv-loop μ-loop)
     → Turn (c .before .before .before .before .before .before .before .before .before .before .before .args .text .now)
     (c .before .before .before .before .before .before .before .before .loop .weights)
@@ -57,40 +54,20 @@ same-length-2 c =
 returns-2 : tie.Need-returns-2 Inv-loop μ-loop
 returns-2 c = stop (c .before .before .before .before .loop .inv) (sym (c .before .starts .ensures) ∙ c .if1 .left)
 
-returns-3 : tie.Need-returns-3 Inv-loop μ-loop
-returns-3 c = full (c .before .loop .inv) (c .loop-test .left)
-
 pub read-fits-spec : {M : Type 1} → statement M
 read-fits-spec =
     tie.close
-    (tie.spec
-    Inv-loop
-    μ-loop
-    loop-holds
-    (λ c. c .before .loop .inv .upto .at-in)
-    (λ c. c .before .loop .inv .upto .at-in)
-    (λ c. search needs)
-    (λ c κs. search needs)
-    (λ c. search needs)
-    (λ c. search needs)
-    (λ c. search needs)
-    (λ c. search needs)
-    (λ c κs. search needs)
-    (λ c. search needs)
+    (tie.spec Inv-loop μ-loop (λ c. start _ _ (c .before .before .pre)) (λ c. c .before .loop .inv .upto .at-in)
+    (λ c. c .before .loop .inv .upto .at-in) (λ c. search needs) (λ c κs. search needs) (λ c. search needs)
+    (λ c. search needs) (λ c. search needs) (λ c. search needs) (λ c κs. search needs) (λ c. search needs)
     (λ c. omega (arith, place-in (turn (c .before .before .before)), ap pairReach (c .before .refusal .given .1)))
-    same-length
-    returns
-    (λ c. search needs)
+    same-length returns (λ c. search needs)
     (λ c. omega (arith, bounds (turn (c .before .before .before)) (c .before .line .given .1)))
     (λ c. omega (arith, bounds (turn (c .before .before .before)) (c .before .line .given .1)))
     (λ c. omega (arith, bounds (turn (c .before .before .before)) (c .before .line .given .1)))
     (λ c. omega (arith, bounds (turn (c .before .before .before)) (c .before .line .given .1)))
     (λ c. omega (arith, bounds (turn (c .before .before .before)) (c .before .line .given .1)))
-    (λ c. omega (arith, bounds (turn (c .before .before .before)) (c .before .line .given .1)))
-    (λ c. search needs)
-    (λ c. search needs)
-    loop-again
-    same-length-2
-    returns-2
+    (λ c. omega (arith, bounds (turn (c .before .before .before)) (c .before .line .given .1))) (λ c. search needs)
+    (λ c. search needs) loop-again same-length-2 returns-2
     (λ c. kept (c .before .loop .inv) (c .before .before .before .before .pre))
-    returns-3)
+    (λ c. full (c .before .loop .inv) (c .loop-test .left)))

@@ -39,27 +39,12 @@ returns c =
 returns-2 : tie.Need-returns-2
 returns-2 c = whole (c .before .before .before) (c .before .refusal2 .given .1)
 
-returns-3 : tie.Need-returns-3
-returns-3 c = whole (c .before .before .before) (c .before .len .given .1)
-
 pub read-rest-spec : {M : Type 1} → statement M
 read-rest-spec =
     tie.close
-    (tie.spec
-    (λ c κs. search needs)
-    (λ c. search needs)
-    (λ c. search needs)
-    text-from
-    text-from
-    (λ c. search needs)
-    (λ c κs. search needs)
-    (λ c. search needs)
+    (tie.spec (λ c κs. search needs) (λ c. search needs) (λ c. search needs) text-from text-from (λ c. search needs)
+    (λ c κs. search needs) (λ c. search needs)
     (λ c. omega (arith, whole (c .before .before .before) (c .before .refusal2 .given .1) .within))
-    (λ c. search needs)
-    (λ c. omega (arith, whole (c .before .before .before) (c .before .len .given .1) .within))
-    (λ c. search needs)
-    returns
-    (λ c. search needs)
-    returns-2
-    (λ c. search needs)
-    returns-3)
+    (λ c. search needs) (λ c. omega (arith, whole (c .before .before .before) (c .before .len .given .1) .within))
+    (λ c. search needs) returns (λ c. search needs) returns-2 (λ c. search needs)
+    (λ c. whole (c .before .before .before) (c .before .len .given .1)))

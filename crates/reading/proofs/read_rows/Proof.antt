@@ -17,12 +17,6 @@ Inv-loop text powers₀ weights₀ rows₀ at₀ next₀ t13 powers weights rows
 abbrev μ-loop : tie.MeasureT-loop
 μ-loop text powers₀ weights₀ rows₀ at₀ next₀ t13 powers weights rows at next = 40 - rows
 
-loop-holds : tie.Need-loop-holds Inv-loop μ-loop
-loop-holds c = start _ _ _
-
-text-from : tie.Need-sub-read-row Inv-loop μ-loop
-text-from c = c .before .before .before .loop .inv .upto .at-in
-
 turn : (c : tie.After-read-row Inv-loop μ-loop)
     → Turn (c .before .before .before .before .before .before .before .before .before .args .text .now)
     (c .before .before .before .before .before .before .before .before .before .args .powers .now)
@@ -61,39 +55,19 @@ returns-2 c =
 loop-again : tie.Need-loop-again Inv-loop μ-loop
 loop-again c = step (turn (c .before .before .before .before)) (c .before .before .power .given .1) (c .if1 .left)
 
-returns-3 : tie.Need-returns-3 Inv-loop μ-loop
-returns-3 c = full (c .before .loop .inv) (c .loop-test .left)
-
 pub read-rows-spec : {M : Type 1} → statement M
 read-rows-spec =
     tie.close
-    (tie.spec
-    Inv-loop
-    μ-loop
-    loop-holds
-    (λ c. search needs)
-    text-from
-    text-from
-    (λ c. search needs)
-    (λ c κs. search needs)
-    (λ c. search needs)
+    (tie.spec Inv-loop μ-loop (λ c. start _ _ _) (λ c. search needs)
+    (λ c. c .before .before .before .loop .inv .upto .at-in) (λ c. c .before .before .before .loop .inv .upto .at-in)
+    (λ c. search needs) (λ c κs. search needs) (λ c. search needs)
     (λ c. omega (arith, place-in (turn (c .before .before .before)), ap pairReach (c .before .refusal .given .1)))
     (λ c. powers-kept (turn (c .before .before .before) .state))
-    (λ c. weights-kept (turn (c .before .before .before) .state))
-    returns
-    (λ c. search needs)
-    (λ c. search needs)
-    slice-write-powers
-    (λ c. search needs)
-    slice-write-weights
+    (λ c. weights-kept (turn (c .before .before .before) .state)) returns (λ c. search needs) (λ c. search needs)
+    slice-write-powers (λ c. search needs) slice-write-weights
     (λ c. omega (arith, bounds (turn (c .before .before .before)) (c .before .power .given .1)))
-    (λ c. omega (arith, bounds (turn (c .before .before .before)) (c .before .power .given .1)))
-    (λ c. search needs)
+    (λ c. omega (arith, bounds (turn (c .before .before .before)) (c .before .power .given .1))) (λ c. search needs)
     (λ c. simp length-set (powers-kept (turn (c .before .before .before .before) .state)))
-    (λ c. simp length-set (weights-kept (turn (c .before .before .before .before) .state)))
-    returns-2
-    (λ c. search needs)
-    loop-again
-    (λ c. powers-kept (c .before .loop .inv))
-    (λ c. weights-kept (c .before .loop .inv))
-    returns-3)
+    (λ c. simp length-set (weights-kept (turn (c .before .before .before .before) .state))) returns-2
+    (λ c. search needs) loop-again (λ c. powers-kept (c .before .loop .inv))
+    (λ c. weights-kept (c .before .loop .inv)) (λ c. full (c .before .loop .inv) (c .loop-test .left)))

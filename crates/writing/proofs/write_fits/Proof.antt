@@ -14,9 +14,6 @@ Inv-loop weights out₀ line₀ i₀ at₀ out line i at = State weights out₀ 
 abbrev μ-loop : tie.MeasureT-loop
 μ-loop weights out₀ line₀ i₀ at₀ out line i at = length weights - i
 
-loop-holds : tie.Need-loop-holds Inv-loop μ-loop
-loop-holds c = start _ _
-
 write-fit-requires : tie.Need-write-fit-requires Inv-loop μ-loop
 write-fit-requires c κs =
     let start = c .before .before .before .before .before .before in
@@ -35,22 +32,9 @@ loop-again c =
     let at-loop = at-loop-test .before in
     step (at-loop .loop .inv) (at-loop-test .loop-test .taken) (c .before .before .write-fit .ensures)
 
-returns : tie.Need-returns Inv-loop μ-loop
-returns c = done (c .before .loop .inv) (c .loop-test .left)
-
 pub write-fits-spec : {M : Type 1} → statement M
 write-fits-spec =
     tie.close
-    (tie.spec
-    Inv-loop
-    μ-loop
-    loop-holds
-    (λ c. search needs)
-    (λ c. search needs)
-    write-fit-requires
-    add-line
-    (λ c. search needs)
-    (λ c. search needs)
-    loop-again
-    (λ c. laid-length (c .before .loop .inv .laid))
-    returns)
+    (tie.spec Inv-loop μ-loop (λ c. start _ _) (λ c. search needs) (λ c. search needs) write-fit-requires add-line
+    (λ c. search needs) (λ c. search needs) loop-again (λ c. laid-length (c .before .loop .inv .laid))
+    (λ c. done (c .before .loop .inv) (c .loop-test .left)))

@@ -32,9 +32,6 @@ write-words-requires c κs =
     let ok = sym (at-if1 .before .sheet-ok .ensures) ∙ at-if1 .if1 .taken in
     (refl, search needs, text-most (start .args .sheet .now) ok)
 
-returns : tie.Need-returns
-returns c = settled-short _ (laid (c .before .before)) (c .if2 .taken)
-
 returns-2 : tie.Need-returns-2
 returns-2 c =
     let at-words = c .before .before .before .before .before .before .before in
@@ -47,16 +44,8 @@ returns-3 c = settled-outside _ _ (sym (c .before .sheet-ok .ensures) ∙ c .if1
 pub write-sheet-spec : {M : Type 1} → statement M
 write-sheet-spec =
     tie.close
-    (tie.spec
-    (λ c κs. search needs)
-    (λ c. search needs)
-    (λ c. search needs)
-    write-words-requires
-    returns
-    (λ c. laid (c .before .before) .long)
-    (λ c. sym (length-take-le _ _ (laid (c .before .before .before) .long)))
-    (λ c κs. search needs)
-    (λ c. omega (arith, laid (c .before .before .before .before .before .before .before) .short))
-    (λ c. search needs)
-    returns-2
-    returns-3)
+    (tie.spec (λ c κs. search needs) (λ c. search needs) (λ c. search needs) write-words-requires
+    (λ c. settled-short _ (laid (c .before .before)) (c .if2 .taken)) (λ c. laid (c .before .before) .long)
+    (λ c. sym (length-take-le _ _ (laid (c .before .before .before) .long))) (λ c κs. search needs)
+    (λ c. omega (arith, laid (c .before .before .before .before .before .before .before) .short)) (λ c. search needs)
+    returns-2 returns-3)

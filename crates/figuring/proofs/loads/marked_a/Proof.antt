@@ -8,12 +8,6 @@ use borrow.Author.Needs.{needs}
 use Rattle.figuring.proofs.loads.marked_a.Statement.{statement}
 use Rattle.figuring.proofs.loads.marked_a.Tie as tie
 
-loss-of-requires : tie.Need-loss-of-requires
-loss-of-requires c κs = (omega (arith, words-many), omega (arith, weight-most))
-
-loss-of-requires-2 : tie.Need-loss-of-requires-2
-loss-of-requires-2 c κs = (omega (arith, words-many), omega (arith, weight-most))
-
 returns : tie.Need-returns
 returns c = cc (marked-outboard _ (eq-eqb _ _ (c .before .before .if1 .taken)))
 
@@ -23,7 +17,8 @@ returns-2 c = cc (marked-inboard _ (ne-eqb _ _ (c .before .before .if1 .left)))
 pub marked-a-spec : {M : Type 1} → statement M
 marked-a-spec =
     tie.close
-    (tie.spec (λ c κs. search needs) (omega (arith, gain-most)) (λ c κs. search needs)
-    (omega (arith, words-many)) (omega (arith, words-many)) (omega (arith, weight-most))
-    loss-of-requires (search needs) (omega (arith, weight-most)) (omega (arith, weight-most))
-    loss-of-requires-2 (search needs) returns returns-2)
+    (tie.spec (λ c κs. search needs) (omega (arith, gain-most)) (λ c κs. search needs) (omega (arith, words-many))
+    (omega (arith, words-many)) (omega (arith, weight-most))
+    (λ c κs. (omega (arith, words-many), omega (arith, weight-most))) (search needs) (omega (arith, weight-most))
+    (omega (arith, weight-most)) (λ c κs. (omega (arith, words-many), omega (arith, weight-most))) (search needs)
+    returns returns-2)

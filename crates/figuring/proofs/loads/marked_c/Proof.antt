@@ -7,19 +7,10 @@ use borrow.Author.Needs.{needs}
 use Rattle.figuring.proofs.loads.marked_c.Statement.{statement}
 use Rattle.figuring.proofs.loads.marked_c.Tie as tie
 
-loss-of-requires : tie.Need-loss-of-requires
-loss-of-requires c κs = (omega (arith, words-many), omega (arith, weight-most))
-
-returns : tie.Need-returns
-returns c = cc (marked-high _ (c .before .if1 .taken))
-
-returns-2 : tie.Need-returns-2
-returns-2 c = cc (marked-low _ (c .before .if1 .left))
-
 pub marked-c-spec : {M : Type 1} → statement M
 marked-c-spec =
     tie.close
-    (tie.spec (λ c κs. search needs) (λ c κs. search needs) (omega (arith, words-many))
-    (omega (arith, weight-most)) loss-of-requires (omega (arith, words-many)) (search needs)
-    (omega (arith, gain-most)) (omega (arith, lost-most)) (search needs) (search needs) returns
-    returns-2)
+    (tie.spec (λ c κs. search needs) (λ c κs. search needs) (omega (arith, words-many)) (omega (arith, weight-most))
+    (λ c κs. (omega (arith, words-many), omega (arith, weight-most))) (omega (arith, words-many)) (search needs)
+    (omega (arith, gain-most)) (omega (arith, lost-most)) (search needs) (search needs)
+    (λ c. cc (marked-high _ (c .before .if1 .taken))) (λ c. cc (marked-low _ (c .before .if1 .left))))

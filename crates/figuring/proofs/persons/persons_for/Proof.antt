@@ -7,15 +7,12 @@ use borrow.Author.Needs.{needs}
 use Rattle.figuring.proofs.persons.persons_for.Statement.{statement}
 use Rattle.figuring.proofs.persons.persons_for.Tie as tie
 
-returns : tie.Need-returns
-returns c = cc (persons-untested _ _ (eq-eqb _ _ (c .if1 .taken)))
-
 returns-2 : tie.Need-returns-2
 returns-2 c = cc (persons-tested _ _ (ne-eqb _ _ (c .before .before .before .if1 .left)))
 
 pub persons-for-spec : {M : Type 1} → statement M
 persons-for-spec =
     tie.close
-    (tie.spec (search needs) (omega (arith, words-many)) (search needs) (search needs)
-    (omega (arith, words-many)) (omega (arith, words-many)) (search needs) (search needs) returns
-    returns-2)
+    (tie.spec (search needs) (omega (arith, words-many)) (search needs) (search needs) (omega (arith, words-many))
+    (omega (arith, words-many)) (search needs) (search needs)
+    (λ c. cc (persons-untested _ _ (eq-eqb _ _ (c .if1 .taken)))) returns-2)

@@ -8,18 +8,6 @@ use borrow.Author.Needs.{needs}
 use Rattle.figuring.proofs.pounds.marked_u.Statement.{statement}
 use Rattle.figuring.proofs.pounds.marked_u.Tie as tie
 
-pounds-of-requires : tie.Need-pounds-of-requires
-pounds-of-requires c κs = (search needs, omega (arith, weight-most))
-
-pounds-of-requires-2 : tie.Need-pounds-of-requires-2
-pounds-of-requires-2 c κs = (search needs, omega (arith, weight-most))
-
-pounds-of-requires-3 : tie.Need-pounds-of-requires-3
-pounds-of-requires-3 c κs = (search needs, omega (arith, weight-most))
-
-pounds-of-requires-4 : tie.Need-pounds-of-requires-4
-pounds-of-requires-4 c κs = (search needs, omega (arith, weight-most))
-
 returns : tie.Need-returns
 returns c = cc (marked-fifth _ (eq-eqb _ _ (c .before .before .before .if1 .taken)) (c .before .if2 .taken))
 
@@ -32,8 +20,9 @@ returns-3 c = cc (marked-greater _ (ne-eqb _ _ (c .before .before .before .befor
 pub marked-u-spec : {M : Type 1} → statement M
 marked-u-spec =
     tie.close
-    (tie.spec (λ c κs. search needs) (λ c κs. search needs) (omega (arith, words-many))
-    (search needs) (omega (arith, weight-most)) (omega (arith, words-many))
-    (omega (arith, words-many)) pounds-of-requires pounds-of-requires-2 (omega (arith, words-many))
-    (search needs) (search needs) (omega (arith, weight-most)) pounds-of-requires-3
-    pounds-of-requires-4 (search needs) returns returns-2 returns-3)
+    (tie.spec (λ c κs. search needs) (λ c κs. search needs) (omega (arith, words-many)) (search needs)
+    (omega (arith, weight-most)) (omega (arith, words-many)) (omega (arith, words-many))
+    (λ c κs. (search needs, omega (arith, weight-most))) (λ c κs. (search needs, omega (arith, weight-most)))
+    (omega (arith, words-many)) (search needs) (search needs) (omega (arith, weight-most))
+    (λ c κs. (search needs, omega (arith, weight-most))) (λ c κs. (search needs, omega (arith, weight-most)))
+    (search needs) returns returns-2 returns-3)

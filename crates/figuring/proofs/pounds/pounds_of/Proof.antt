@@ -20,9 +20,6 @@ mul-whole-part c =
           (rw (p .1 .gains) (gain-fine _ (p .0) (p .1 .times-most))) (lit< tt);
     }
 
-loss-of-requires : tie.Need-loss-of-requires
-loss-of-requires c κs = (omega (arith, words-many), c .before .pre .1 .grams-most)
-
 mul-whole-part-2 : tie.Need-mul-whole-part-2
 mul-whole-part-2 c =
     let p = c .before .before .pre in
@@ -40,5 +37,5 @@ returns c =
 pub pounds-of-spec : {M : Type 1} → statement M
 pounds-of-spec =
     tie.close
-    (tie.spec (search needs) mul-whole-part loss-of-requires mul-whole-part-2 (search needs)
-    (search needs) returns)
+    (tie.spec (search needs) mul-whole-part (λ c κs. (omega (arith, words-many), c .before .pre .1 .grams-most))
+    mul-whole-part-2 (search needs) (search needs) returns)

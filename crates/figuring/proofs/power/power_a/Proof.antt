@@ -30,9 +30,6 @@ formula-watts-requires : tie.Need-formula-watts-requires
 formula-watts-requires c κs =
     record { within = search needs; factor = factor (c .before .before .before); above = c .if2 .taken }
 
-returns : tie.Need-returns
-returns c = no-outboard _ (eq-eqb _ _ (c .if1 .taken))
-
 returns-2 : tie.Need-returns-2
 returns-2 c =
     c .formula-watts .ensures
@@ -47,6 +44,6 @@ returns-3 c =
 pub power-a-spec : {M : Type 1} → statement M
 power-a-spec =
     tie.close
-    (tie.spec (omega (arith, words-many)) (search needs) (omega (arith, words-many)) (search needs)
-    mul-p (omega (arith, words-many)) formula-watts-requires (omega (arith, words-many))
-    (search needs) (search needs) returns returns-2 returns-3)
+    (tie.spec (omega (arith, words-many)) (search needs) (omega (arith, words-many)) (search needs) mul-p
+    (omega (arith, words-many)) formula-watts-requires (omega (arith, words-many)) (search needs) (search needs)
+    (λ c. no-outboard _ (eq-eqb _ _ (c .if1 .taken))) returns-2 returns-3)

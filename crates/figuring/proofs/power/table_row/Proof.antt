@@ -3,9 +3,6 @@ use Rattle.capacity.proofs.Power.{row-stops, row-skips}
 use Rattle.figuring.proofs.power.table_row.Statement.{statement}
 use Rattle.figuring.proofs.power.table_row.Tie as tie
 
-returns : tie.Need-returns
-returns c = row-stops _ _ _ (c .if1 .taken)
-
 returns-2 : tie.Need-returns-2
 returns-2 c = row-skips _ _ _ (c .before .if1 .left) (row-stops _ _ _ (c .if2 .taken))
 
@@ -36,4 +33,6 @@ returns-6 c =
     (row-skips _ _ _ (c .if5 .left) (row-stops _ _ _ (c .before .before .before .before .before .pre))))))
 
 pub table-row-spec : {M : Type 1} → statement M
-table-row-spec = tie.close (tie.spec returns returns-2 returns-3 returns-4 returns-5 returns-6)
+table-row-spec =
+    tie.close
+    (tie.spec (λ c. row-stops _ _ _ (c .if1 .taken)) returns-2 returns-3 returns-4 returns-5 returns-6)

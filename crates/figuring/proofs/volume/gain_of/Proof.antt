@@ -7,19 +7,14 @@ use borrow.Author.Needs.{needs}
 use Rattle.figuring.proofs.volume.gain_of.Statement.{statement}
 use Rattle.figuring.proofs.volume.gain_of.Tie as tie
 
-volume-of-requires : tie.Need-volume-of-requires
-volume-of-requires c κs = search stations-within
-
 returns : tie.Need-returns
 unfolding volumeN
 returns c = cc
-
-add-result : tie.Need-add-result
-add-result c = omega (arith, returns c, gain-most)
 
 pub gain-of-spec : {M : Type 1} → statement M
 gain-of-spec =
     tie.close
     (tie.spec (omega (arith, words-many)) (omega (arith, words-many)) (omega (arith, words-many))
-    (omega (arith, words-many)) (omega (arith, words-many)) volume-of-requires
-    (omega (arith, words-many)) (search needs) (omega (arith, aft-most)) add-result returns)
+    (omega (arith, words-many)) (omega (arith, words-many)) (λ c κs. search stations-within)
+    (omega (arith, words-many)) (search needs) (omega (arith, aft-most)) (λ c. omega (arith, returns c, gain-most))
+    returns)

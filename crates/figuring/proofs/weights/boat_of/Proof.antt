@@ -19,11 +19,8 @@ returns c =
     let s = c .before .before .before .before .before .args .sheet .now in
     omega (arith, c .fittings-weight .ensures ∙ ap addedUp (rest-part s fittingsAt), boat-is s)
 
-add-result : tie.Need-add-result
-add-result c = omega (arith, returns c, weight-most)
-
 pub boat-of-spec : {M : Type 1} → statement M
 boat-of-spec =
     tie.close
-    (tie.spec (omega (arith, words-many)) (search needs) (omega (arith, words-many))
-    (omega (arith, words-many)) (search needs) fittings-weight-requires add-result returns)
+    (tie.spec (omega (arith, words-many)) (search needs) (omega (arith, words-many)) (omega (arith, words-many))
+    (search needs) fittings-weight-requires (λ c. omega (arith, returns c, weight-most)) returns)

@@ -26,9 +26,6 @@ dashed : (c : tie.Then1) →
     Dashed (limitOf (a .l)) (a .last) (a .ender) (a .text .now)
 dashed c = record { dashed = sym (c .before .is-dash .ensures) ∙ c .if1 .taken }
 
-some-byte : tie.Need-sub-starts
-some-byte c = omega (arith, dash-some (dashed c))
-
 returns : tie.Need-returns
 returns c =
     let ended = sym (rw rest-part at (c .before .starts .ensures)) ∙ c .if2 .taken in
@@ -106,7 +103,8 @@ returns-5 c =
 pub read-entry-spec : {M : Type 1} → statement M
 read-entry-spec =
     tie.close
-    (tie.spec (λ c κs. search needs) some-byte some-byte (λ c. search needs) (λ c κs. search needs) returns returns-2
+    (tie.spec (λ c κs. search needs) (λ c. omega (arith, dash-some (dashed c)))
+    (λ c. omega (arith, dash-some (dashed c))) (λ c. search needs) (λ c κs. search needs) returns returns-2
     (λ c κs. search needs) (λ c κs. search needs) (λ c. search needs) (λ c. search needs) field-fits field-fits
     (λ c. search needs) (λ c κs. search needs) (λ c κs. search needs) cast-t25 (λ c. search needs)
     (λ c. sym (no-number (found (c .before .before .before) (c .before .at .given .1)))) returns-4 returns-5

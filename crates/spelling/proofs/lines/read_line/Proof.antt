@@ -20,9 +20,6 @@ tagged : (c : tie.Else1) →
     Tagged (a .tag .now) (a .table .now) (a .text .now)
 tagged c = record { whole = sym (c .before .agreement .ensures) ∙ c .if1 .left }
 
-room : tie.Need-sub-read-numbers
-room c = tag-fits (tagged c)
-
 add-t19 : tie.Need-add-t19
 add-t19 c =
     let at = c .before .before .before .before .before in
@@ -50,5 +47,6 @@ returns-3 c =
 pub read-line-spec : {M : Type 1} → statement M
 read-line-spec =
     tie.close
-    (tie.spec (λ c κs. search needs) returns room room (λ c. search needs) (λ c κs. search needs) (λ c. search needs)
-    add-t19 (λ c. search needs) add-t20 (λ c. search needs) returns-2 (λ c. search needs) returns-3)
+    (tie.spec (λ c κs. search needs) returns (λ c. tag-fits (tagged c)) (λ c. tag-fits (tagged c)) (λ c. search needs)
+    (λ c κs. search needs) (λ c. search needs) add-t19 (λ c. search needs) add-t20 (λ c. search needs) returns-2
+    (λ c. search needs) returns-3)

@@ -63,14 +63,12 @@ loop-again c =
     let n = next (read c) (c .before .before .before .before .before .n .given .1) in
     rw (c .before .before .store-number .ensures) (step (turn (read c) .loop .inv) n)
 
-same-length-2 : tie.Need-same-length-2 Inv-loop μ-loop
-same-length-2 c = ap length (c .before .loop .inv .stored) ∙ simp length-sets
-
 pub read-numbers-spec : {M : Type 1} → statement M
 read-numbers-spec =
     tie.close
     (tie.spec Inv-loop μ-loop (λ c. start _ _ _) (λ c. search needs) (λ c. search needs) (λ c κs. search needs)
     (λ c. search needs) (λ c. search needs) (λ c. search needs) (λ c. search needs) (λ c. search needs)
     (λ c κs. search needs) (λ c. search needs) add-t22 same-length returns (λ c. search needs) (λ c κs. search needs)
-    add-at (λ c. search needs) (λ c. search needs) loop-again same-length-2
+    add-at (λ c. search needs) (λ c. search needs) loop-again
+    (λ c. ap length (c .before .loop .inv .stored) ∙ simp length-sets)
     (λ c. done (c .before .loop .inv) (c .loop-test .left)))
