@@ -6,3 +6,4 @@ pub mod Rows  -- engine rows are read alike
 pub mod Written  -- a sheet is written alike
 pub mod TextCalls  -- the calls on texts answer and leave the same
 pub mod Calls  -- the calls on the register answer and leave the same
+pub mod EachCall  -- each call on the register

@@ -1,18 +1,15 @@
 -- What a block is, of any list of events: where the desk holds a draft, it is the accepted open that made it and every
 -- call on it since, with nothing left out.
 use Prim.Native.Nat.{ℕ}
-use mathlib.Core.Path.{_≡_, refl, ap, _∙_}
+use mathlib.Core.Path.{_≡_, refl}
 use mathlib.Core.Bool.{Bool, true, false, cond, _&&_}
-use mathlib.Core.List.{List, [], _∷_, _++_}
-use mathlib.Core.Option.{some}
+use mathlib.Core.List.{List, [], _∷_}
 use lib.Dec.{eqb}
 use borrow.Author.Tests.{eqb-true}
 use Rattle.register.specs.Calls.{Work, newHull, openHull, work, save, dropDraft, ask}
 use Rattle.history.specs.Replies.{Reply, accepted}
 use Rattle.history.specs.Runs.{Event, _⇒_}
-use Rattle.history.specs.History.{Role, itsOpen, itsCall, itsEnd, elsewhere, role, block}
-use Rattle.history.specs.Told.{Opening, opening}
-use Rattle.history.proofs.Tools.{self, none≢some, some-inj}
+use Rattle.history.specs.History.{Role, itsOpen, itsCall, itsEnd, elsewhere, role}
 
 -- the work and the saves of desk d among the events: with its drop, which ends it, these are the calls on a draft that
 -- it holds
@@ -86,73 +83,3 @@ known d (work g w ⇒ r) = known-work d g r w (eqb d g) refl
 known d (save g ⇒ r) = known-save d g r (eqb d g) (accepted r) refl refl
 known d (dropDraft g ⇒ r) = known-drop d g r (eqb d g) (accepted r) refl refl
 known d (ask h q ⇒ r) = another (ask h q ⇒ r) (λ es. refl) (λ es. refl)
-
--- ---- the whole block
-
--- b is the block of the draft that desk d opened as o says: past is what came since, the accepted open, and what was
--- before
-pub record Whole (d : ℕ) (past : List Event) (o : Opening) (b : List Event) : Type 0 where
-  pub newer : List Event
-  pub its-reply : Reply
-  pub splits : past ≡ newer ++ ((openHull d (o .hull) ⇒ its-reply) ∷ o .before)
-  pub made-it : accepted its-reply ≡ true
-  pub held-since : stays d newer ≡ true
-  pub is : b ≡ callsBy d newer ++ ((openHull d (o .hull) ⇒ its-reply) ∷ [])
-
-module _ {d : ℕ} {past : List Event} {o : Opening} {b : List Event} (e : Event) (w : Whole d past o b)
-    (s : (es : List Event) → stays d (e ∷ es) ≡ stays d es) where
-  passed : ((es : List Event) → callsBy d (e ∷ es) ≡ callsBy d es) → Whole d (e ∷ past) o b
-  passed c =
-      record {
-        newer = e ∷ w .newer;
-        its-reply = w .its-reply;
-        splits = ap (λ (es : List Event). e ∷ es) (w .splits);
-        made-it = w .made-it;
-        held-since = s (w .newer) ∙ w .held-since;
-        is = rw (c (w .newer)) (w .is);
-      }
-
-  joined : ((es : List Event) → callsBy d (e ∷ es) ≡ e ∷ callsBy d es) → Whole d (e ∷ past) o (e ∷ b)
-  joined c =
-      record {
-        newer = e ∷ w .newer;
-        its-reply = w .its-reply;
-        splits = ap (λ (es : List Event). e ∷ es) (w .splits);
-        made-it = w .made-it;
-        held-since = s (w .newer) ∙ w .held-since;
-        is = rw (c (w .newer)) (ap (λ (es : List Event). e ∷ es) (w .is));
-      }
-
-whole-step : {d : ℕ} {e : Event} {s : Role} (past : List Event) (o : Opening)
-    → Known d e s
-    → role d e ≡ s
-    → opening d (e ∷ past) ≡ some o
-    → (opening d past ≡ some o → Whole d past o (block d past)) → Whole d (e ∷ past) o (block d (e ∷ past))
-unfolding block opening callsBy stays
-whole-step past o (an-open {h} {r} a) p q f =
-    let u : _≡_ {A = Opening} (record { hull = h; before = past }) o = some-inj (rw (p, opening) at q) in
-    rw (p, block, ← u) (record { newer = []; its-reply = r; splits = refl; made-it = a; held-since = refl; is = refl })
-whole-step past o some-work p q f = rw (p, block) (joined _ (f (rw (p, opening) at q)) (λ es. refl) (λ es. rw self))
-whole-step past o (vain-save a) p q f =
-    rw (p, block) (joined _ (f (rw (p, opening) at q)) (λ es. rw (self, a)) (λ es. rw self))
-whole-step past o an-end p q f = absurd (none≢some (rw (p, opening) at q))
-whole-step past o (another e s c) p q f = rw (p, block) (passed _ (f (rw (p, opening) at q)) s c)
-
--- Where the history says that the desk holds a draft, its block is the draft's own open and every call on the draft
--- since.
-pub block-whole : (d : ℕ) (past : List Event) (o : Opening) → opening d past ≡ some o → Whole d past o (block d past)
-unfolding opening
-block-whole d [] o q = absurd (none≢some q)
-block-whole d (e ∷ past) o q = whole-step past o (known d e) refl q (block-whole d past o)
-
--- ---- saves in a block
-
--- no call of the block is a save
-unfoldable pub saveless : List Event → Bool
-saveless [] = true
-saveless ((newHull t ⇒ r) ∷ b) = saveless b
-saveless ((openHull d h ⇒ r) ∷ b) = saveless b
-saveless ((work d w ⇒ r) ∷ b) = saveless b
-saveless ((save d ⇒ r) ∷ b) = false
-saveless ((dropDraft d ⇒ r) ∷ b) = saveless b
-saveless ((ask h q ⇒ r) ∷ b) = saveless b

@@ -14,17 +14,13 @@ use Rattle.register.proofs.Refusals.{hull-there, hull-absent, room-none, open-a
 use Rattle.register.proofs.Effects.{fresh-right-size}
 use Rattle.history.specs.Replies.{Reply, reply, next}
 use Rattle.history.specs.Runs.{after, history}
-use Rattle.history.proofs.Model.{State, step, stateOf, eventsOf}
-use Rattle.history.proofs.Rules.{Way, new-enters, new-unread, new-full, open-done, open-unknown, open-high}
-use Rattle.history.proofs.Rules.{by-ways}
-use Rattle.history.proofs.Rules.{work-done, work-idle, work-high, save-done, save-spent, save-stale, save-idle}
-use Rattle.history.proofs.Rules.{save-high}
-use Rattle.history.proofs.Rules.{drop-done, drop-idle, drop-high, ask-done, ask-unknown, editsOf}
+use Rattle.history.proofs.Model.{State}
+use Rattle.history.proofs.ModelStep.{step, stateOf, eventsOf}
+use Rattle.history.proofs.Rules.{Way, new-enters, new-unread, new-full, open-done, open-unknown, open-high, work-done, work-idle, work-high, save-done, save-spent, save-stale, save-idle, save-high, drop-done, drop-idle, drop-high, ask-done, ask-unknown, editsOf}
+use Rattle.history.proofs.SomeRule.{by-ways}
 use Rattle.history.proofs.Shown.{Shows, fresh-shows, shown-few, shown-holds}
 use Rattle.history.proofs.Worked.{works}
-use Rattle.history.proofs.CallsShown.{Tied, kept, done, asks, holds-desk, idle-desk, high-desk, room}
-use Rattle.history.proofs.CallsShown.{enters-shown, opens-shown, drops-shown, its-number, saves-shown}
-use Rattle.history.proofs.CallsShown.{save-spends, save-late, save-goes}
+use Rattle.history.proofs.CallsShown.{Tied, kept, done, asks, holds-desk, idle-desk, high-desk, room, enters-shown, opens-shown, drops-shown, its-number, saves-shown, save-spends, save-late, save-goes}
 
 -- ---- every rule
 

@@ -13,12 +13,15 @@ use Rattle.history.specs.Runs.{Event}
 use Rattle.history.specs.History.{block}
 use Rattle.history.specs.Told.{Opening, opening, savesOf, quietSince}
 use Rattle.history.specs.Demand.{Due}
-use Rattle.history.proofs.Blocks.{saveless}
-use Rattle.history.proofs.Model.{Draft, State, but, store, step, stateOf, eventsOf}
-use Rattle.history.proofs.Rules.{editsOf, Way, save-done, save-spent, save-stale, save-idle, save-high, by-ways}
-use Rattle.history.proofs.Replay.{Drafts, drafts}
+use Rattle.history.proofs.WholeBlock.{saveless}
+use Rattle.history.proofs.Model.{Draft, State, but, store}
+use Rattle.history.proofs.ModelStep.{step, stateOf, eventsOf}
+use Rattle.history.proofs.Rules.{editsOf, Way, save-done, save-spent, save-stale, save-idle, save-high}
+use Rattle.history.proofs.SomeRule.{by-ways}
+use Rattle.history.proofs.AllReady.{Drafts, drafts}
 use Rattle.history.proofs.Quiet.{still-quiet, quiet-still}
-use Rattle.history.proofs.HistoryTells.{draftOf, draftFrom, Tells, From, drawn, history-tells}
+use Rattle.history.proofs.HistoryTells.{draftOf, draftFrom, Tells, From, drawn}
+use Rattle.history.proofs.TellsEvery.{history-tells}
 
 -- ---- accepted only where it is due
 

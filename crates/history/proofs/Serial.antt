@@ -12,11 +12,12 @@ use Rattle.register.specs.Calls.{Ask, Call, newHull, save, ask}
 use Rattle.history.specs.Replies.{Reply, says}
 use Rattle.history.specs.Runs.{Event, _⇒_, call}
 use Rattle.history.specs.History.{spot, serial}
-use Rattle.history.proofs.Model.{Draft, Register, State, askSays, refusal, enter, store, stateOf, eventsOf}
-use Rattle.history.proofs.Rules.{Way, new-enters, new-unread, new-full, open-done, open-unknown, open-high}
-use Rattle.history.proofs.Rules.{work-done, work-idle, work-high, save-done, save-spent, save-stale, save-idle}
-use Rattle.history.proofs.Rules.{save-high, drop-done, drop-idle, drop-high, ask-done, ask-unknown, by-ways}
-use Rattle.history.proofs.Replay.{state-by, events-by, Replays, Ready, Drafts, drafts}
+use Rattle.history.proofs.Model.{Draft, Register, State, askSays, refusal, enter, store}
+use Rattle.history.proofs.ModelStep.{stateOf, eventsOf}
+use Rattle.history.proofs.Rules.{Way, new-enters, new-unread, new-full, open-done, open-unknown, open-high, work-done, work-idle, work-high, save-done, save-spent, save-stale, save-idle, save-high, drop-done, drop-idle, drop-high, ask-done, ask-unknown}
+use Rattle.history.proofs.SomeRule.{by-ways}
+use Rattle.history.proofs.Replay.{state-by, events-by, Replays, Ready}
+use Rattle.history.proofs.AllReady.{Drafts, drafts}
 
 -- from fresh, the calls in es end with the register R, and are answered as es says
 pub record RunsTo (R : Register) (es : List Event) : Type 0 where

@@ -8,8 +8,7 @@ use mathlib.Core.List.{List}
 use mathlib.Core.Option.{Option, none, some}
 use lib.Dec.{eqb}
 use borrow.Author.Tests.{eqb-true, eqb-false}
-use Rattle.memory.specs.Layout.{mostHulls, desks, editAt, heldAt, hullCount, edit, hullSheet, held, draftHull, opening}
-use Rattle.memory.specs.Layout.{draftSheet}
+use Rattle.memory.specs.Layout.{mostHulls, desks, editAt, heldAt, hullCount, edit, hullSheet, held, draftHull, opening, draftSheet}
 use Rattle.memory.specs.Formed.{formed}
 use Rattle.memory.specs.Updates.{freshWords}
 use Rattle.memory.proofs.Sound.{sound, held-draft}
@@ -17,7 +16,8 @@ use Rattle.memory.proofs.Slots.{SameDraft}
 use Rattle.memory.proofs.OneSlot.{ButDesk}
 use Rattle.memory.proofs.Changes.{fresh-changes}
 use Rattle.memory.proofs.Keeps.{fresh-formed}
-use Rattle.history.proofs.Model.{Draft, State, atDesk, fresh}
+use Rattle.history.proofs.Model.{Draft, State, atDesk}
+use Rattle.history.proofs.ModelStep.{fresh}
 use Rattle.history.proofs.Tools.{at-or, self, none≢some, some-inj}
 
 -- the draft that stands in desk d's slot

@@ -17,14 +17,15 @@ use Rattle.history.specs.History.{block, serial}
 use Rattle.history.specs.Told.{Opening, savesOf}
 use Rattle.history.specs.Demand.{Due, SaveDoes, Gives, Demand}
 use Rattle.history.proofs.Tools.{self}
-use Rattle.history.proofs.Blocks.{Whole, block-whole, saveless}
-use Rattle.history.proofs.Model.{Register, State, Outcome, stateOf, eventsOf}
+use Rattle.history.proofs.WholeBlock.{Whole, block-whole, saveless}
+use Rattle.history.proofs.Model.{Register, State, Outcome}
+use Rattle.history.proofs.ModelStep.{stateOf, eventsOf}
 use Rattle.history.proofs.Rules.{way-taken}
 use Rattle.history.proofs.Replay.{state-by}
 use Rattle.history.proofs.Serial.{serial-runs}
 use Rattle.history.proofs.Shown.{shown-few, there-few}
 use Rattle.history.proofs.RunsShown.{run-shows, run-replies, run-history}
-use Rattle.history.proofs.HistoryTells.{history-tells}
+use Rattle.history.proofs.TellsEvery.{history-tells}
 use Rattle.history.proofs.Saves.{Saved, save-only, save-taken, taken-clean}
 
 module _ (m : List ℕ) (z : length m ≡ registerWords) where

@@ -1,2 +1,2 @@
 -- Laws that the proofs of the functions here go by.
-pub mod Writes
+pub mod Writes  -- a slot's words written one after the other

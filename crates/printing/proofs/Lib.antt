@@ -1,2 +1,2 @@
 -- The laws of what is printed.
-pub mod Laying
+pub mod Laying  -- what is printed, laid piece by piece

@@ -3,6 +3,7 @@ pub mod Found  -- what was found, piece after piece
 pub mod Row  -- a line that was read, and a row of two numbers
 pub mod RowsLoop  -- rows of a part, one after another
 pub mod FitsLoop  -- FIT lines
+pub mod FitsTurn  -- one turn of that loop
 pub mod Columns  -- engine rows up to the end of their text, and their columns
 pub mod EnginesLoop  -- engine rows
 pub mod EnginesCall  -- the call that reads engine rows

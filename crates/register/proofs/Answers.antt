@@ -45,8 +45,7 @@ unformed : List (List ℕ)
 unformed = take 1672 small ∷ set small 0 17 ∷ set small 1 65536 ∷ set small 1605 1999 ∷ []
 
 -- the memory comes first, of each call
-unformed-right :
-    map (λ (m : List ℕ). map (λ (c : Call). step m c .answer) wrongs) unformed
+unformed-right : map (λ (m : List ℕ). map (λ (c : Call). step m c .answer) wrongs) unformed
     ≡ replicate 4 (replicate 14 (Refused 1))
 unfolding unformed small sheet hulls draft idle formed each hullOk draftOk hullRefusal deskRefusal roomRefusal
     openRefusal allHold sheetLimits limitsOn

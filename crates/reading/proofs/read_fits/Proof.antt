@@ -2,7 +2,8 @@
 use mathlib.Core.Path.{sym, ap, _∙_}
 use Prim.Native.Nat.{_-_}
 use Rattle.reading.specs.Rows.{pairReach}
-use Rattle.reading.proofs.FitsLoop.{State, start, kept, full, stop, Turn, place-in, fault, bounds, step}
+use Rattle.reading.proofs.FitsLoop.{State, start, kept, full, stop}
+use Rattle.reading.proofs.FitsTurn.{bounds, step, Turn, place-in, fault}
 use native.Mathlib.Omega.{arith}
 use borrow.Author.Needs.{needs}
 use Rattle.reading.proofs.read_fits.Statement.{statement}
