@@ -2,7 +2,7 @@
 use mathlib.Core.Path.{_≡_, refl, sym, _∙_}
 use mathlib.Core.Bool.{Bool, true, false, not, _&&_, true≢false}
 use mathlib.Core.Logic.{_↔_}
-use mathlib.Core.List.{List, [], _∷_, map}
+use mathlib.Core.List.{List}
 use Prim.Native.Nat.{ℕ}
 use lib.Dec.{leb}
 use Rattle.answers.specs.Refusals.{badMemory, emptyLine}
@@ -60,12 +60,3 @@ zero-written s room = zero-taken (writeAnswer s room) (write-listed s room)
 
 pub zero-engines : (t : List ℕ) (a b : ℕ) → Told (enginesAnswer (readEngines t) a b)
 zero-engines t a b = zero-taken (enginesAnswer (readEngines t) a b) (engines-listed t a b)
-
--- each answer, figure by figure
-answers-right :
-    map faced (Refused 12 ∷ Done ∷ Count 718 ∷ Plate 326 20000 ∷ [])
-    ≡ record { refusal = 12; first = 0; second = 0; third = 0 }
-    ∷ record { refusal = 0; first = 0; second = 0; third = 0 }
-    ∷ record { refusal = 0; first = 718; second = 0; third = 0 }
-    ∷ record { refusal = 0; first = 326; second = 20000; third = 0 } ∷ []
-answers-right = refl

@@ -3,12 +3,14 @@ ghost use mathlib.Core.Path.{_≡_};
 ghost use mathlib.Core.Bool.{true};
 ghost use Prim.Native.Nat.{_+_, _*_, _≤_};
 ghost use lib.ListN.{length, take, drop};
+ghost use Rattle.sheet.specs.Places.{readings};
 ghost use Rattle.sheet.specs.Sheet.{wordsOk};
 ghost use Rattle.capacity.specs.Words.{aft};
 ghost use Rattle.capacity.specs.Volume.{stationProduct, stationsN, volumeN, gram};
 ghost use Rattle.capacity.specs.Highs.{Readings, Stations};
 use super::numbers::wide;
 use sheet::AFT;
+use sheet::READINGS;
 use sheet::REFERENCE;
 use sheet::STATION_Q;
 use sheet::STATION_R;
@@ -19,9 +21,9 @@ use sheet::STATION_T;
 pub const GRAM: u64 = 180_000;
 
 // The seven readings that start at a place of the sheet.
-fn readings_at(sheet: &[u32], at: usize) -> [u32; 7]
-    requires { ⌜ at + 7 ≤ length (now sheet) ⌝ }
-    ensures { λ r. ⌜ r ≡ take 7 (drop at (now (sheet .entry))) ⌝ }
+fn readings_at(sheet: &[u32], at: usize) -> [u32; READINGS]
+    requires { ⌜ at + readings ≤ length (now sheet) ⌝ }
+    ensures { λ r. ⌜ r ≡ take readings (drop at (now (sheet .entry))) ⌝ }
 {
     [
         sheet[at],
@@ -35,7 +37,7 @@ fn readings_at(sheet: &[u32], at: usize) -> [u32; 7]
 }
 
 // Fifteen times a station's area.
-fn station_product(l: [u32; 7]) -> u64
+fn station_product(l: [u32; READINGS]) -> u64
     requires { ⌜ Readings l ⌝ }
     ensures { λ r. ⌜ r ≡ stationProduct l ⌝ }
 {
@@ -49,7 +51,7 @@ fn station_product(l: [u32; 7]) -> u64
 }
 
 // N, of the readings of the four stations: one station at a time, its share added to a running total.
-fn volume_of(readings: [[u32; 7]; 4], reference: u32) -> u64
+fn volume_of(readings: [[u32; READINGS]; 4], reference: u32) -> u64
     requires { ⌜ Stations readings reference ⌝ }
     ensures { λ r. ⌜ r ≡ stationsN reference readings ⌝ }
 {

@@ -2,7 +2,7 @@
 use mathlib.Core.Path.{_≡_, refl, sym, ap, _∙_}
 use mathlib.Core.Bool.{Bool, true, false, _&&_}
 use mathlib.Core.List.{List, [], _∷_, append-nil}
-use Prim.Native.Nat.{ℕ, _-_}
+use Prim.Native.Nat.{ℕ}
 use native.Mathlib.Omega.{arith}
 use borrow.Author.Tests.{ltb-true}
 use lib.Dec.{eqb, ltb}
@@ -19,7 +19,7 @@ use Rattle.form.specs.Reading.{readRows, readStop, readParts, readForm}
 use Rattle.form.proofs.Chain.{lost-not-found}
 use Rattle.form.proofs.OneLine.{one-agree}
 use Rattle.sheet.specs.Lines.{lines, fittings, endLine, mostBytes}
-use Rattle.sheet.specs.SheetText.{fitPart, eachOnce, sheetForm, weightsFrom, fitsOf, numbersOn, readSheet}
+use Rattle.sheet.specs.SheetText.{fitPart, eachOnce, sheetForm, weightsFrom, fitsOf, numbersOn, readSheet, lastParts}
 use Rattle.former.specs.Reading as old
 use Rattle.former.specs.Reading.{readFits, readLines, readEnd, readRest}
 use Rattle.former.proofs.Followed.{followed-agree, followed-assoc}
@@ -62,7 +62,7 @@ end-agree t =
     (readLine endLine t) old.readStop q (λ (rs : Rows). readParts []) t
     (silent (readLine endLine t) q (end-silent t) (one-agree endLine t (omega arith))) (λ (a : Rows). stop-agree)
 
-rest-agree : (t : List ℕ) → outcome (readRest t) ≡ mapped fitsOf (readParts (fitPart ∷ oneLine endLine ∷ []) t)
+rest-agree : (t : List ℕ) → outcome (readRest t) ≡ mapped fitsOf (readParts lastParts t)
 unfolding readRest readParts fitsOf
 rest-agree t =
     followed-agree (weightsFrom 1) nought fitsOf (λ (a : Rows) (v : List Rows). sym (append-nil (weightsFrom 1 a)))
@@ -78,7 +78,7 @@ tagged (l ∷ ls) = ltb 0 (length (l .tag)) && tagged ls
 
 lines-agree : (ls : List Line) (t : List ℕ) → tagged ls ≡ true
     → outcome (followed (readLines ls t) readRest t)
-    ≡ mapped (numbersOn ls) (readParts (eachOnce ls (fitPart ∷ oneLine endLine ∷ [])) t)
+    ≡ mapped (numbersOn ls) (readParts (eachOnce ls lastParts) t)
 unfolding readLines readParts numbersOn tagged
 lines-agree [] t m = rw (after-nothing (readRest t)) (rest-agree t)
 lines-agree (l ∷ ls) t m =
@@ -87,7 +87,7 @@ lines-agree (l ∷ ls) t m =
     ap outcome (followed-assoc (readLine l t) (readLines ls) readRest t)
     ∙ followed-agree numbersOf (numbersOn ls) (numbersOn (l ∷ ls)) (λ (a : Rows) (v : List Rows). refl)
     (readLine l t) (λ (u : List ℕ). followed (readLines ls u) readRest u)
-    (readRows (oneLine l) 1 1 0 t) (λ (rs : Rows). readParts (eachOnce ls (fitPart ∷ oneLine endLine ∷ []))) t
+    (readRows (oneLine l) 1 1 0 t) (λ (rs : Rows). readParts (eachOnce ls lastParts)) t
     (one-agree l t h) (λ (a : Rows) (u : List ℕ). lines-agree ls u (ms .1))
 
 lines-tagged : tagged lines ≡ true

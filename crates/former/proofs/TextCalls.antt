@@ -53,11 +53,11 @@ write-into s before = rw (written-agree s)
 -- ---- read engine rows
 
 -- what the two readers found is alike: the same rows, or the same fault
-record Alike (p : Reading) (rows : Rows) : Type 0 where
-  count : ℕ
-  taken : p .ended ≡ Taken count
-  powers : old-engines.powersOf (p .numbers) ≡ powersOf rows
-  weights : old-engines.weightsOf (p .numbers) ≡ weightsOf rows
+pub record Alike (p : Reading) (rows : Rows) : Type 0 where
+  pub count : ℕ
+  pub taken : p .ended ≡ Taken count
+  pub powers : old-engines.powersOf (p .numbers) ≡ powersOf rows
+  pub weights : old-engines.weightsOf (p .numbers) ≡ weightsOf rows
 
 found-alike : (p : Reading) (k : ℕ) (rows : Rows) → outcome p ≡ took k (numbersOf rows)
     → old-engines.powersOf (numbersOf rows) ≡ powersOf rows
@@ -81,16 +81,16 @@ lost-alike p number at e = go (p .ended) refl
     go (Fault m i) d = let f : lost m i ≡ lost number at = rw d at e in d ∙ cc
 
 module _ (t : List ℕ) where
-  abbrev before : Reading
+  abbrev pub before : Reading
   before = old-engines.readEngines t
 
-  rows-alike : (k : ℕ) (rows : Rows) → readEngines t ≡ took k rows → Alike before rows
+  pub rows-alike : (k : ℕ) (rows : Rows) → readEngines t ≡ took k rows → Alike before rows
   rows-alike k rows e =
       let w = engines-held rows (reads-written t k rows e .within) in
       let c = columns-agree rows 0 (w .held) in
       found-alike before k rows (engines-agree t ∙ ap (mapped numbersOf) e) (c .0) (c .1)
 
-  fault-alike : (number at : ℕ) → readEngines t ≡ lost number at → before .ended ≡ Fault number at
+  pub fault-alike : (number at : ℕ) → readEngines t ≡ lost number at → before .ended ≡ Fault number at
   fault-alike number at e = lost-alike before number at (engines-agree t ∙ ap (mapped numbersOf) e)
 
   pub engines-answer : (a b : ℕ) → old.enginesAnswer before a b ≡ enginesAnswer (readEngines t) a b

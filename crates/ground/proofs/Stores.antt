@@ -74,20 +74,6 @@ part-sets o a bs =
     let h : a ≤ a = omega arith in
     rw (e, append-nil, ← d, ← take-sets o a a bs h, take-append-drop)
 
--- ns stored into the part from n on, after the first n elements of o₀ were stored
-pub part-append : (o₀ so ns o ys : List ℕ) (n : ℕ)
-    → o ≡ sets o₀ 0 so
-    → length so ≡ n
-    → ys ≡ sets (take (length o - n) (drop n o)) 0 ns
-    → putBack o n ys ≡ sets o₀ 0 (so ++ ns)
-part-append o₀ so ns o ys n e m y =
-    let w : ys ≡ sets (drop n o) 0 ns = y ∙ rw (rest-part o n) in
-    let z : n ≡ 0 + length so = omega arith in
-    rw w (part-sets o n ns)
-    ∙ ap (λ (x : List ℕ). sets x n ns) e
-    ∙ ap (λ (k : ℕ). sets (sets o₀ 0 so) k ns) z
-    ∙ sym (sets-append o₀ 0 so ns)
-
 -- ---- stores into a list of zeros
 
 drop-replicate : (k m a : ℕ) → drop k (replicate m a) ≡ replicate (m - k) a

@@ -9,12 +9,12 @@ use Rattle.text.specs.declared.LineRead.{LineRead}
 use Rattle.text.specs.declared.LineRead.the-variants.{Taken, Fault}
 use Rattle.text.specs.Line.{Line, shiftBy, readLine}
 use Rattle.ground.proofs.Stores.{sets-append}
-use Rattle.form.specs.Parts.{Rows, oneLine, numbersOf}
+use Rattle.form.specs.Parts.{Rows, numbersOf}
 use Rattle.form.specs.Outcome.{Found, took, lost, mapped, ahead}
 use Rattle.form.specs.Reading.{readParts}
-use Rattle.sheet.specs.Lines.{lines, endLine}
+use Rattle.sheet.specs.Lines.{lines}
 use Rattle.sheet.specs.Places.{textWords}
-use Rattle.sheet.specs.SheetText.{fitPart, eachOnce, numbersOn}
+use Rattle.sheet.specs.SheetText.{eachOnce, numbersOn, lastParts}
 use Rattle.reading.specs.Steps.{ReadsOn, onward, restOn, goingOn, manyRead, Past}
 use Rattle.reading.proofs.Found.{onward-none, onward-twice}
 use Rattle.reading.proofs.Row.{line-count, one-taken, one-lost}
@@ -37,7 +37,7 @@ line-first l ls t h = go (readLine l t .ended) refl
     go (Taken k) e =
         let f = one-taken l t h e in
         rw (e, f .1, ← f .2) (numbers-ahead l ls k (f .0)
-        (readParts (eachOnce ls (fitPart ∷ oneLine endLine ∷ [])) (drop k t)))
+        (readParts (eachOnce ls lastParts) (drop k t)))
     go (Fault number at) e = rw (e, one-lost l t h e)
 
 pub no-lines : (t o : List ℕ) → o ≡ replicate textWords 0 → Past lines t 0 (Taken 0) o

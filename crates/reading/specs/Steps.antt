@@ -1,19 +1,18 @@
 -- One line more of a sheet: the lines are read one after another, each after what was read before it.
 use Prim.Native.Nat.{ℕ, _+_, _≤_}
 use mathlib.Core.Path.{_≡_}
-use mathlib.Core.List.{List, [], _∷_, _++_}
+use mathlib.Core.List.{List, [], _++_}
 use lib.ListN.{length, drop, replicate}
 use lib.Seq.{sets}
 use Rattle.text.specs.declared.LineRead.{LineRead}
 use Rattle.text.specs.declared.LineRead.the-variants.{Taken, Fault}
 use Rattle.text.specs.Line.{Line, Reading, followed, readLine}
-use Rattle.form.specs.Parts.{oneLine}
 use Rattle.form.specs.Outcome.{Found, took, lost, mapped}
 use Rattle.form.specs.Reading.{readParts}
-use Rattle.sheet.specs.Lines.{lines, endLine}
+use Rattle.sheet.specs.Lines.{lines}
 use Rattle.sheet.specs.Sheet.{limitRows}
 use Rattle.sheet.specs.Places.{textWords}
-use Rattle.sheet.specs.SheetText.{fitPart, eachOnce, numbersOn}
+use Rattle.sheet.specs.SheetText.{eachOnce, numbersOn, lastParts}
 use Rattle.reading.specs.Filled.{reached}
 
 -- ---- a line
@@ -48,7 +47,7 @@ onward xs k (lost number at) = lost number (k + at)
 
 -- the words of a sheet from the line of ls on, the fittings among them, up to its end
 unfoldable pub restOn : List Line → List ℕ → Found (List ℕ)
-restOn ls t = mapped (numbersOn ls) (readParts (eachOnce ls (fitPart ∷ oneLine endLine ∷ [])) t)
+restOn ls t = mapped (numbersOn ls) (readParts (eachOnce ls lastParts) t)
 
 -- the words so were read up to where r says; then the rest is read, unless there was a fault
 abbrev pub goingOn : LineRead → List ℕ → (List ℕ → Found (List ℕ)) → List ℕ → Found (List ℕ)

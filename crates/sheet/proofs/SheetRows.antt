@@ -10,21 +10,17 @@ use Rattle.text.specs.Limit.{Limit, allHold}
 use Rattle.text.specs.Line.{Line}
 use Rattle.ground.proofs.Booleans.{both-hold}
 use Rattle.text.proofs.Limit.{hold-length}
-use Rattle.form.specs.Parts.{Part, Rows, lineRow, oneLine, letterOf, numbersOf}
+use Rattle.form.specs.Parts.{Rows, lineRow, oneLine, letterOf, numbersOf}
 use Rattle.form.specs.Writing.{partOk, partsOk, formOk}
 use Rattle.form.proofs.Held.{part-held, held-part}
 use Rattle.form.proofs.Single.{single, single-ok}
 use Rattle.sheet.specs.Lines.{lines, fittings, endLine}
 use Rattle.sheet.specs.Sheet.{limitsOn, fitLimit, sheetLimits, sheetOk}
-use Rattle.sheet.specs.SheetText.{fitPart, eachOnce, sheetForm, fitRows, fitsOf}
+use Rattle.sheet.specs.SheetText.{fitPart, eachOnce, sheetForm, fitRows, fitsOf, lastParts}
 use Rattle.sheet.specs.SheetText.{numbersOn, sheetOf, rowsOn, rowsOf}
 use Rattle.sheet.proofs.Held.{opens, linesOpen, hold-free, hold-join, lines-split}
 use Rattle.sheet.proofs.Weights.{weights-rows, rows-weights, fits-few}
 use Rattle.sheet.proofs.WeightLimits.{fits-ok, weights-held}
-
--- the parts after the lines HULL to SEAT
-abbrev pub lastParts : List Part
-lastParts = fitPart ∷ oneLine endLine ∷ []
 
 abbrev pub fitLimits : List Limit
 fitLimits = replicate fittings fitLimit

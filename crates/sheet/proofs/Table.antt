@@ -11,10 +11,6 @@ table-limits : limitsOf limitRows ≡ sheetLimits
 unfolding limitRows sheetLimits limitsOn
 table-limits = refl
 
--- a table that is the sheet's, and the limits in it
-pub rows-limits : {rows : List (List ℕ)} → rows ≡ limitRows → limitsOf rows ≡ sheetLimits
-rows-limits e = ap limitsOf e ∙ table-limits
-
 pub rows-long : {rows : List (List ℕ)} → rows ≡ limitRows → length rows ≡ textWords
 unfolding limitRows sheetLimits limitsOn
 rows-long e = ap length e

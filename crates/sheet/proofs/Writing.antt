@@ -11,8 +11,7 @@ use Rattle.form.specs.Parts.{kindOf}
 use Rattle.form.specs.Writing.{rowsText, partsText}
 use Rattle.form.proofs.Single.{single-text}
 use Rattle.sheet.specs.Lines.{lines, fitLine, endLine}
-use Rattle.sheet.specs.SheetText.{fitPart, eachOnce, sheetForm, fitRows, rowsOn, sheetText}
-use Rattle.sheet.proofs.SheetRows.{lastParts}
+use Rattle.sheet.specs.SheetText.{fitPart, eachOnce, sheetForm, fitRows, rowsOn, sheetText, lastParts}
 use Rattle.sheet.proofs.Weights.{row-none, row-some}
 
 -- the text from the lines ls on: of the numbers on them, of the fittings after these, and END

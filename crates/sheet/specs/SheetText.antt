@@ -22,8 +22,12 @@ abbrev pub eachOnce : List Line → List Part → List Part
 eachOnce [] ps = ps
 eachOnce (l ∷ ls) ps = oneLine l ∷ eachOnce ls ps
 
+-- what follows SEAT
+abbrev pub lastParts : List Part
+lastParts = fitPart ∷ oneLine endLine ∷ []
+
 unfoldable pub sheetForm : Form
-sheetForm = record { parts = eachOnce lines (fitPart ∷ oneLine endLine ∷ []); room = mostBytes }
+sheetForm = record { parts = eachOnce lines lastParts; room = mostBytes }
 
 -- ---- FIT rows and the weight on each fitting line, 0 for an empty one
 

@@ -1,15 +1,13 @@
 -- A sheet's text is laid piece after piece: line by line, then the fittings, then END.
 use Prim.Native.Nat.{ℕ, _+_, _-_, _≤_}
 use mathlib.Core.Path.{_≡_}
-use mathlib.Core.List.{List, [], _∷_, _++_}
+use mathlib.Core.List.{List, [], _++_}
 use lib.ListN.{length, take, drop}
 use Rattle.text.specs.Line.{Line, Laid, lineOf, lineText}
-use Rattle.form.specs.Parts.{oneLine}
 use Rattle.form.specs.Writing.{rowsText, partsText}
-use Rattle.sheet.specs.Lines.{endLine}
 use Rattle.sheet.specs.Sheet.{limitRows}
 use Rattle.sheet.specs.Places.{textWords}
-use Rattle.sheet.specs.SheetText.{fitPart, fitRows, rowsOn}
+use Rattle.sheet.specs.SheetText.{fitPart, fitRows, rowsOn, lastParts}
 
 -- the line of a tag and of the numbers from..to of a sheet
 abbrev pub lineFrom : List ℕ → ℕ → ℕ → Line
@@ -29,7 +27,7 @@ fitsText n ws = rowsText (fitPart .kinds) (fitRows n ws)
 
 -- the text of what follows the line SEAT: of the fittings, and END
 abbrev pub restText : List ℕ → List ℕ
-restText ws = partsText (fitPart ∷ oneLine endLine ∷ []) (rowsOn [] ws)
+restText ws = partsText lastParts (rowsOn [] ws)
 
 -- what of a text stands before the rest of it was laid into o from its start, and r is the place after it
 pub record LaidBefore (rest text o₀ : List ℕ) (r : ℕ) (o : List ℕ) : Type 0 where

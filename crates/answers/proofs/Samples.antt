@@ -1,0 +1,31 @@
+-- The refusals by their numbers, and each answer figure by figure, computed: no name and no figure can move unseen.
+use mathlib.Core.Path.{_≡_, refl}
+use mathlib.Core.List.{List, [], _∷_, map}
+use Prim.Native.Nat.{ℕ}
+use Rattle.answers.specs.declared.Answer.the-variants.{Refused, Done, Count, Plate}
+use Rattle.answers.specs.Refusals.{badMemory, brokenLine, outsideLimits, full, noHull, noDesk, noDraft}
+use Rattle.answers.specs.Refusals.{editedSince, editsSpent, badRows, noRow, noLoad, noPower, untested, noPersons}
+use Rattle.answers.specs.Refusals.{noRoom, emptyLine}
+use Rattle.answers.specs.Values.{faced, isListed}
+use mathlib.Core.Bool.{true, false}
+
+-- in 01's order
+refusals-right :
+    badMemory ∷ brokenLine ∷ outsideLimits ∷ full ∷ noHull ∷ noDesk ∷ noDraft ∷ editedSince ∷ editsSpent
+    ∷ badRows ∷ noRow ∷ noLoad ∷ noPower ∷ untested ∷ noPersons ∷ noRoom ∷ emptyLine ∷ []
+    ≡ 1 ∷ 2 ∷ 3 ∷ 4 ∷ 5 ∷ 6 ∷ 7 ∷ 8 ∷ 9 ∷ 10 ∷ 11 ∷ 12 ∷ 13 ∷ 14 ∷ 15 ∷ 16 ∷ 17 ∷ []
+refusals-right = refl
+
+-- the list ends at both ends
+listed-right :
+    map isListed (Refused 0 ∷ Refused 1 ∷ Refused 17 ∷ Refused 18 ∷ Done ∷ Count 0 ∷ Plate 0 0 ∷ [])
+    ≡ false ∷ true ∷ true ∷ false ∷ true ∷ true ∷ true ∷ []
+listed-right = refl
+
+answers-right :
+    map faced (Refused 12 ∷ Done ∷ Count 718 ∷ Plate 326 20000 ∷ [])
+    ≡ record { refusal = 12; first = 0; second = 0; third = 0 }
+    ∷ record { refusal = 0; first = 0; second = 0; third = 0 }
+    ∷ record { refusal = 0; first = 718; second = 0; third = 0 }
+    ∷ record { refusal = 0; first = 326; second = 20000; third = 0 } ∷ []
+answers-right = refl
