@@ -1,5 +1,5 @@
 -- A call on a memory that shows a state leaves a memory that shows the state after it, and replies as the model does.
-use Prim.Native.Nat.{ℕ, _+_, _<_, _≤_}
+use Prim.Native.Nat.{ℕ, _+_, _<_}
 use native.Mathlib.Omega.{arith}
 use mathlib.Core.Path.{_≡_, refl, sym, _∙_}
 use mathlib.Core.List.{List}
@@ -7,7 +7,7 @@ use mathlib.Core.Bool.{true, false}
 use mathlib.Core.Option.{none, some}
 use borrow.Author.Tests.{eqb-false, eq-eqb, ne-eqb}
 use Rattle.form.specs.Outcome.{took}
-use Rattle.answers.specs.Refusals.{noDesk, noDraft, editedSince, editsSpent}
+use Rattle.answers.specs.Refusals.{editedSince, editsSpent}
 use Rattle.answers.specs.declared.Answer.{Answer}
 use Rattle.answers.specs.declared.Answer.the-variants.{Refused}
 use Rattle.answers.specs.Values.{isRefusal}
@@ -15,15 +15,15 @@ use Rattle.sheet.specs.SheetText.{readSheet}
 use Rattle.memory.specs.Layout.{mostHulls, desks, edit, hullSheet, draftHull, draftSheet}
 use Rattle.memory.specs.Formed.{mostEdits, formed}
 use Rattle.memory.specs.Updates.{entered, opened, dropped, saved}
-use Rattle.register.specs.Refusals.{roomRefusal, hullRefusal, openRefusal, deskRefusal, saveOwn, sheetOf}
+use Rattle.register.specs.Refusals.{roomRefusal, hullRefusal, openRefusal, deskRefusal, saveOwn, orRefused, sheetOf}
 use Rattle.register.specs.Calls.{Ask, Call, ask, lent, makes, fills, step}
 use Rattle.register.proofs.Refusals.{desk-high, desk-idle, desk-holds, room-left}
 use Rattle.register.proofs.Keeps.{keeps-formed}
 use Rattle.register.proofs.Effects.{leaves-accepted, leaves-same, accepted-makes}
 use Rattle.register.proofs.Effects.{new-changes, open-changes, save-changes, drop-changes}
 use Rattle.history.specs.Replies.{Reply, reply, next}
-use Rattle.history.proofs.Model.{Draft, State, askSays, refusal, enter, store, opens, but, atDesk}
-use Rattle.history.proofs.Rules.{editsOf}
+use Rattle.history.proofs.Model.{Draft, State, askSays, refusal, opens, atDesk, afterEntry, afterSave, editsOf}
+use Rattle.history.proofs.Rules.{Idle, no-desk, no-draft}
 use Rattle.history.proofs.Tools.{at-or, self}
 use Rattle.history.proofs.Shown.{Shows, holds-none, same-draft-in, desk-shows, shown-few, shown-holds}
 use Rattle.history.proofs.Shown.{shown-hull}
@@ -70,11 +70,9 @@ module _ {m : List ℕ} {s : State} (S : Shows m s) where
   pub holds-desk : {d : ℕ} {x : Draft} → d < desks → s .draft d ≡ some x → deskRefusal m d ≡ 0
   holds-desk {d} p q = sym (desk-holds m d (S .ok) p refl (shown-holds S p q .some))
 
-  pub idle-desk : {d : ℕ} → d < desks → s .draft d ≡ none → deskRefusal m d ≡ noDraft
-  idle-desk {d} p q = sym (desk-idle m d (S .ok) p refl (holds-none m d (S .drafts d p ∙ q)))
-
-  pub high-desk : {d : ℕ} → desks ≤ d → deskRefusal m d ≡ noDesk
-  high-desk {d} p = sym (desk-high m d (S .ok) p)
+  pub idle-desk : {d n : ℕ} (a : Answer) → Idle s d n → orRefused (deskRefusal m d) a ≡ Refused n
+  idle-desk {d} a (no-desk p) = rw (← desk-high m d (S .ok) p) refl
+  idle-desk {d} a (no-draft p q) = rw (← desk-idle m d (S .ok) p refl (holds-none m d (S .drafts d p ∙ q))) refl
 
   pub room : s .register .entered < mostHulls → roomRefusal m ≡ 0
   room p = sym (room-left m (S .ok) refl (rw (S .counts) p))
@@ -85,7 +83,7 @@ module _ {m : List ℕ} {s : State} (S : Shows m s) where
       → s .register .entered < mostHulls
       → readSheet t ≡ took k r
       → formed (entered m (sheetOf t)) ≡ true
-      → Shows (entered m (sheetOf t)) (record { register = enter (s .register) t; draft = s .draft })
+      → Shows (entered m (sheetOf t)) (afterEntry s t)
   enters-shown t k r p e ok =
       let x = new-changes m t k r (room p) e in
       let after = s .register .entered in
@@ -118,8 +116,7 @@ module _ {m : List ℕ} {s : State} (S : Shows m s) where
     pub its-number : edit m (draftHull m d) ≡ editsOf s x
     its-number = rw (shown-holds S p q .hull) (S .numbers (x .hull) (shown-few S (shown-hull S p q)))
 
-    pub saves-shown : formed (saved m d) ≡ true
-        → Shows (saved m d) (record { register = store (s .register) x; draft = but (s .draft) d none })
+    pub saves-shown : formed (saved m d) ≡ true → Shows (saved m d) (afterSave s d x)
     saves-shown ok =
         let y = save-changes m d (holds-desk p q) in
         let H = shown-holds S p q in

@@ -4,12 +4,12 @@
 use Prim.Native.Nat.{ℕ, suc}
 use mathlib.Core.Bool.{cond}
 use mathlib.Core.List.{List}
-use mathlib.Core.Option.{Option}
+use mathlib.Core.Option.{Option, none}
 use lib.Dec.{eqb}
+use Rattle.answers.specs.declared.Answer.{Answer}
 use Rattle.answers.specs.declared.Answer.the-variants.{Refused}
 use Rattle.register.specs.Refusals.{leaves, sheetOf}
-use Rattle.register.specs.Calls.{Work, Ask, Call, work}
-use Rattle.register.specs.Calls.{askLent, lent, workAnswer, askAnswer, askFills}
+use Rattle.register.specs.Calls.{Work, Ask, Call, askLent, lent, workAnswer, askAnswer, askFills}
 use Rattle.history.specs.Replies.{Reply, says, accepted}
 use Rattle.history.specs.Told.{worked}
 
@@ -51,6 +51,12 @@ askSays h q s = let a = askAnswer h q s in record { answer = a; output = leaves 
 abbrev pub refusal : Call → ℕ → Reply
 refusal c n = record { answer = Refused n; output = lent c }
 
+abbrev pub refuse : State → Call → ℕ → Outcome
+refuse s c n = record { state = s; reply = refusal c n }
+
+abbrev pub gives : State → Answer → Outcome
+gives s a = record { state = s; reply = says a }
+
 -- ---- a state with one thing changed
 
 -- f but for i, which has a
@@ -64,13 +70,8 @@ abbrev pub enter : Register → List ℕ → Register
 enter r t =
     record { entered = suc (r .entered); hull = but (r .hull) (r .entered) (record { sheet = sheetOf t; edits = 0 }) }
 
-abbrev pub store : Register → Draft → Register
-store r x =
-    record {
-      entered = r .entered;
-      hull = but (r .hull) (x .hull)
-          (record { sheet = x .sheet; edits = suc (r .hull (x .hull) .edits) });
-    }
+abbrev pub afterEntry : State → List ℕ → State
+afterEntry s t = record { register = enter (s .register) t; draft = s .draft }
 
 abbrev pub opens : Register → ℕ → Draft
 opens r h = record { hull = h; opening = r .hull h .edits; sheet = r .hull h .sheet }
@@ -78,5 +79,14 @@ opens r h = record { hull = h; opening = r .hull h .edits; sheet = r .hull h .sh
 abbrev pub edited : Work → Draft → Draft
 edited w x = record { hull = x .hull; opening = x .opening; sheet = workDone w (x .sheet) }
 
-abbrev pub refuse : State → Call → ℕ → Outcome
-refuse s c n = record { state = s; reply = refusal c n }
+abbrev pub store : Register → Draft → Register
+store r x =
+    let h : Hull = record { sheet = x .sheet; edits = suc (r .hull (x .hull) .edits) } in
+    record { entered = r .entered; hull = but (r .hull) (x .hull) h }
+
+abbrev pub afterSave : State → ℕ → Draft → State
+afterSave s d x = record { register = store (s .register) x; draft = but (s .draft) d none }
+
+-- the edit number of a draft's hull
+abbrev pub editsOf : State → Draft → ℕ
+editsOf s x = s .register .hull (x .hull) .edits

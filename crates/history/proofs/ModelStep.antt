@@ -9,55 +9,45 @@ use Rattle.answers.specs.declared.Answer.the-variants.{Done, Count}
 use Rattle.memory.specs.Layout.{mostHulls, desks, hullSheet}
 use Rattle.memory.specs.Formed.{mostEdits}
 use Rattle.memory.specs.Updates.{freshWords}
-use Rattle.register.specs.Refusals.{leaves, onText}
-use Rattle.register.specs.Calls.{Work, Call, newHull, openHull, work, save, dropDraft, ask}
-use Rattle.history.specs.Replies.{says}
+use Rattle.register.specs.Refusals.{onText}
+use Rattle.register.specs.Calls.{Call, newHull, openHull, work, save, dropDraft, ask}
 use Rattle.history.specs.Runs.{Event, _⇒_}
-use Rattle.history.proofs.Model.{Draft, State, Outcome, workSays, askSays, but, atDesk, enter, store, opens}
-use Rattle.history.proofs.Model.{edited, refuse}
+use Rattle.history.proofs.Model.{Draft, State, Outcome, workSays, askSays, refuse, gives, atDesk, afterEntry}
+use Rattle.history.proofs.Model.{opens, edited, afterSave, editsOf}
 
 -- ---- a call
 
-abbrev workOn : State → ℕ → Work → Option Draft → Outcome
-workOn s d w none = refuse s (work d w) noDraft
-workOn s d w (some x) = record { state = atDesk s d (some (edited w x)); reply = workSays w (x .sheet) }
+abbrev onDraft : State → Call → (Draft → Outcome) → Option Draft → Outcome
+onDraft s c f none = refuse s c noDraft
+onDraft s c f (some x) = f x
 
-abbrev saveOf : State → ℕ → Option Draft → Outcome
-saveOf s d none = refuse s (save d) noDraft
-saveOf s d (some x) =
-    cond (eqb (s .register .hull (x .hull) .edits) (x .opening))
-    (cond (eqb (s .register .hull (x .hull) .edits) mostEdits)
-    (refuse s (save d) editsSpent)
-    (record {
-      state = record { register = store (s .register) x; draft = but (s .draft) d none };
-      reply = says
-          (Count (suc (s .register .hull (x .hull) .edits)));
-    }))
+-- a call on the draft that desk d holds
+abbrev pub onDesk : State → ℕ → Call → (Draft → Outcome) → Outcome
+onDesk s d c f = cond (ltb d desks) (onDraft s c f (s .draft d)) (refuse s c noDesk)
+
+abbrev saveOf : State → ℕ → Draft → Outcome
+saveOf s d x =
+    cond (eqb (editsOf s x) (x .opening))
+    (cond (eqb (editsOf s x) mostEdits) (refuse s (save d) editsSpent)
+    (gives (afterSave s d x) (Count (suc (editsOf s x)))))
     (refuse s (save d) editedSince)
-
-abbrev dropOf : State → ℕ → Option Draft → Outcome
-dropOf s d none = refuse s (dropDraft d) noDraft
-dropOf s d (some x) = record { state = atDesk s d none; reply = says Done }
 
 unfoldable pub step : State → Call → Outcome
 step s (newHull t) =
     cond (ltb (s .register .entered) mostHulls)
-    (onText t
-    (record {
-      state = record { register = enter (s .register) t; draft = s .draft };
-      reply = says
-          (Count (s .register .entered));
-    }) (refuse s (newHull t)))
+    (onText t (gives (afterEntry s t) (Count (s .register .entered))) (refuse s (newHull t)))
     (refuse s (newHull t) full)
 step s (openHull d h) =
     cond (ltb d desks)
     (cond (ltb h (s .register .entered))
-    (record { state = atDesk s d (some (opens (s .register) h)); reply = says (Count (s .register .hull h .edits)) })
+    (gives (atDesk s d (some (opens (s .register) h))) (Count (s .register .hull h .edits)))
     (refuse s (openHull d h) noHull))
     (refuse s (openHull d h) noDesk)
-step s (work d w) = cond (ltb d desks) (workOn s d w (s .draft d)) (refuse s (work d w) noDesk)
-step s (save d) = cond (ltb d desks) (saveOf s d (s .draft d)) (refuse s (save d) noDesk)
-step s (dropDraft d) = cond (ltb d desks) (dropOf s d (s .draft d)) (refuse s (dropDraft d) noDesk)
+step s (work d w) =
+    onDesk s d (work d w)
+    (λ (x : Draft). record { state = atDesk s d (some (edited w x)); reply = workSays w (x .sheet) })
+step s (save d) = onDesk s d (save d) (saveOf s d)
+step s (dropDraft d) = onDesk s d (dropDraft d) (λ (x : Draft). gives (atDesk s d none) Done)
 step s (ask h q) =
     cond (ltb h (s .register .entered))
     (record { state = s; reply = askSays h q (s .register .hull h .sheet) })

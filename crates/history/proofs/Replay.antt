@@ -11,7 +11,6 @@ use Rattle.memory.specs.Formed.{mostEdits}
 use Rattle.register.specs.Calls.{Call}
 use Rattle.history.specs.Replies.{Reply}
 use Rattle.history.specs.Runs.{Event, _⇒_, call}
-use Rattle.history.specs.History.{block}
 use Rattle.history.proofs.WholeBlock.{saveless}
 use Rattle.history.proofs.Model.{Draft, Register, State, Outcome}
 use Rattle.history.proofs.ModelStep.{stateOf, eventsOf}
@@ -37,49 +36,45 @@ pub record Replays (d : ℕ) (x : Draft) (b : List Event) (cs : List Call) : Typ
   pub register : stateOf (map call b ++ cs) .register ≡ stateOf cs .register
   pub draft : stateOf (map call b ++ cs) .draft d ≡ some x
 
+-- where the draft x may still be saved
+abbrev pub IfSavable : Register → Draft → Type 0 → Type 0
+IfSavable R x P = R .hull (x .hull) .edits ≡ x .opening → (R .hull (x .hull) .edits ≡ mostEdits → ⊥) → P
+
 -- the draft x of desk d, made by the calls b: while it may still be saved, b has no save, and gives x wherever its hull
 -- is as it is here
 pub record Ready (R : Register) (d : ℕ) (x : Draft) (b : List Event) : Type 0 where
   pub desk : d < desks
   pub hull : x .hull < R .entered
   pub grown : x .opening ≤ R .hull (x .hull) .edits
-  pub clean : R .hull (x .hull) .edits ≡ x .opening → (R .hull (x .hull) .edits ≡ mostEdits → ⊥) → saveless b ≡ true
-  pub replays : R .hull (x .hull) .edits ≡ x .opening → (R .hull (x .hull) .edits ≡ mostEdits → ⊥)
-      → (cs : List Call)
+  pub clean : IfSavable R x (saveless b ≡ true)
+  pub replays : IfSavable R x
+      ((cs : List Call)
       → x .hull < stateOf cs .register .entered
       → stateOf cs .register .hull (x .hull) ≡ R .hull (x .hull)
-      → Replays d x b cs
+      → Replays d x b cs)
 
-pub kept : {R : Register} {d : ℕ} {x : Draft} {b : List Event} (Q : Register)
-    → Ready R d x b
-    → R .entered ≤ Q .entered
-    → Q .hull (x .hull) ≡ R .hull (x .hull)
-    → Ready Q d x b
-kept Q r l e =
-    record {
-      desk = r .desk;
-      hull = omega (arith, r .hull);
-      grown = rw e (r .grown);
-      clean = rw e (r .clean);
-      replays =
-          rw e (r .replays);
-    }
+module _ {R : Register} {d : ℕ} {x : Draft} {b : List Event} (r : Ready R d x b) where
+  pub kept : (Q : Register) → R .entered ≤ Q .entered → Q .hull (x .hull) ≡ R .hull (x .hull) → Ready Q d x b
+  kept Q l e =
+      record {
+        desk = r .desk;
+        hull = omega (arith, r .hull);
+        grown = rw e (r .grown);
+        clean = rw e (r .clean);
+        replays = rw e (r .replays);
+      }
 
--- a draft that can no longer be saved
-pub lost : {R : Register} {d : ℕ} {x : Draft} {b : List Event} (Q : Register) (c : List Event)
-    → Ready R d x b
-    → R .entered ≤ Q .entered
-    → (Q .hull (x .hull) .edits ≡ x .opening → (Q .hull (x .hull) .edits ≡ mostEdits → ⊥) → ⊥)
-    → x .opening ≤ Q .hull (x .hull) .edits
-    → Ready Q d x c
-lost Q c r l never g =
-    record {
-      desk = r .desk;
-      hull = omega (arith, r .hull);
-      grown = g;
-      clean = λ p q. absurd (never p q);
-      replays = λ p
-          q cs h e. absurd (never p q);
-    }
-
--- a draft just opened
+  -- a draft that can no longer be saved
+  pub lost : (Q : Register) (c : List Event)
+      → R .entered ≤ Q .entered
+      → IfSavable Q x ⊥
+      → x .opening ≤ Q .hull (x .hull) .edits
+      → Ready Q d x c
+  lost Q c l never g =
+      record {
+        desk = r .desk;
+        hull = omega (arith, r .hull);
+        grown = g;
+        clean = λ p q. absurd (never p q);
+        replays = λ p q. absurd (never p q);
+      }

@@ -2,9 +2,10 @@
 use Prim.Native.Nat.{ℕ, suc, _≤_, _<_}
 use native.Mathlib.Omega.{arith}
 use mathlib.Core.Path.{_≡_, sym, ap, _∙_}
-use mathlib.Core.Bool.{true, false≢true}
+use mathlib.Core.Bool.{true}
 use mathlib.Core.List.{List}
-use mathlib.Core.Option.{none, some}
+use mathlib.Core.Option.{some}
+use Rattle.ground.proofs.Booleans.{false-true}
 use Rattle.answers.specs.declared.Answer.the-variants.{Count}
 use Rattle.memory.specs.Formed.{mostEdits}
 use Rattle.register.specs.Calls.{Call, save}
@@ -14,9 +15,9 @@ use Rattle.history.specs.History.{block}
 use Rattle.history.specs.Told.{Opening, opening, savesOf, quietSince}
 use Rattle.history.specs.Demand.{Due}
 use Rattle.history.proofs.WholeBlock.{saveless}
-use Rattle.history.proofs.Model.{Draft, State, but, store}
+use Rattle.history.proofs.Model.{Draft, State, afterSave, editsOf}
 use Rattle.history.proofs.ModelStep.{step, stateOf, eventsOf}
-use Rattle.history.proofs.Rules.{editsOf, Way, save-done, save-spent, save-stale, save-idle, save-high}
+use Rattle.history.proofs.Rules.{Way, save-done, refused}
 use Rattle.history.proofs.SomeRule.{by-ways}
 use Rattle.history.proofs.AllReady.{Drafts, drafts}
 use Rattle.history.proofs.Quiet.{still-quiet, quiet-still}
@@ -45,13 +46,9 @@ due s past d (save-done y p q u n) f few a =
       draft = o;
       holds = z .is;
       quiet = still-quiet d (o .hull) past o (z .is) (sym e ∙ u ∙ sym k);
-      room =
-          omega (arith, few y q, n, e);
+      room = omega (arith, few y q, n, e);
     }
-due s past d (save-spent y p q u n) f few a = absurd (false≢true a)
-due s past d (save-stale y p q u) f few a = absurd (false≢true a)
-due s past d (save-idle p q) f few a = absurd (false≢true a)
-due s past d (save-high p) f few a = absurd (false≢true a)
+due s past d (refused p) f few a = false-true a
 
 pub save-only : (cs : List Call) (d : ℕ)
     → Few (stateOf cs)
@@ -65,9 +62,7 @@ save-only cs d few =
 
 pub record Saved (s : State) (past : List Event) (d : ℕ) (o : Opening) : Type 0 where
   pub rule :
-      Way s (save d)
-      (record { register = store (s .register) (draftOf (block d past) o); draft = but (s .draft) d none })
-      (says (Count (suc (editsOf s (draftOf (block d past) o)))))
+      let x = draftOf (block d past) o in Way s (save d) (afterSave s d x) (says (Count (suc (editsOf s x))))
   pub count : editsOf s (draftOf (block d past) o) ≡ savesOf (o .hull) past
   pub known : o .hull < s .register .entered
 
@@ -82,11 +77,11 @@ save-taken cs d o e q l =
     let y : Draft = draftOf (block d past) o in
     let x : stateOf cs .draft d ≡ some y = f .drafts d ∙ ap (draftFrom (block d past)) e in
     let n : editsOf (stateOf cs) y ≡ savesOf (o .hull) past = f .edits (o .hull) in
+    let r = drafts cs d y x in
     record {
-      rule = save-done y (drafts cs d y x .desk) x (n ∙ quiet-still d (o .hull) past o e q)
-          (λ k. omega (arith, n, k));
+      rule = save-done y (r .desk) x (n ∙ quiet-still d (o .hull) past o e q) (λ k. omega (arith, n, k));
       count = n;
-      known = drafts cs d y x .hull;
+      known = r .hull;
     }
 
 -- ---- no refused save among the calls taken
@@ -97,10 +92,7 @@ clean : (s : State) (past : List Event) (d : ℕ) {t : State} {r : Reply}
     → accepted r ≡ true
     → saveless (block d past) ≡ true
 clean s past d (save-done x p q u n) f a = f d x q .clean u n
-clean s past d (save-spent x p q u n) f a = absurd (false≢true a)
-clean s past d (save-stale x p q u) f a = absurd (false≢true a)
-clean s past d (save-idle p q) f a = absurd (false≢true a)
-clean s past d (save-high p) f a = absurd (false≢true a)
+clean s past d (refused p) f a = false-true a
 
 pub taken-clean : (cs : List Call) (d : ℕ)
     → accepted (step (stateOf cs) (save d) .reply) ≡ true

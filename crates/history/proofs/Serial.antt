@@ -2,9 +2,9 @@
 use Prim.Native.Nat.{ℕ, suc, _≤_, _<_}
 use mathlib.Core.Path.{_≡_, refl, ap, _∙_}
 use mathlib.Core.List.{List, [], _∷_, _++_, map}
-use Rattle.form.specs.Outcome.{took, lost}
-use Rattle.answers.specs.Refusals.{full, noHull}
-use Rattle.answers.specs.declared.Answer.the-variants.{Refused, Count}
+use Rattle.form.specs.Outcome.{took}
+use Rattle.answers.specs.Refusals.{noHull}
+use Rattle.answers.specs.declared.Answer.the-variants.{Count}
 use Rattle.sheet.specs.SheetText.{readSheet}
 use Rattle.memory.specs.Layout.{mostHulls}
 use Rattle.memory.specs.Formed.{mostEdits}
@@ -14,7 +14,9 @@ use Rattle.history.specs.Runs.{Event, _⇒_, call}
 use Rattle.history.specs.History.{spot, serial}
 use Rattle.history.proofs.Model.{Draft, Register, State, askSays, refusal, enter, store}
 use Rattle.history.proofs.ModelStep.{stateOf, eventsOf}
-use Rattle.history.proofs.Rules.{Way, new-enters, new-unread, new-full, open-done, open-unknown, open-high, work-done, work-idle, work-high, save-done, save-spent, save-stale, save-idle, save-high, drop-done, drop-idle, drop-high, ask-done, ask-unknown}
+use Rattle.history.proofs.Rules.{Refuses, unread, no-room, open-unknown, open-high}
+use Rattle.history.proofs.Rules.{work-idle, save-idle, save-spent, save-stale, drop-idle, ask-unknown}
+use Rattle.history.proofs.Rules.{Way, new-enters, open-done, work-done, save-done, drop-done, ask-done, refused}
 use Rattle.history.proofs.SomeRule.{by-ways}
 use Rattle.history.proofs.Replay.{state-by, events-by, Replays, Ready}
 use Rattle.history.proofs.AllReady.{Drafts, drafts}
@@ -27,56 +29,24 @@ pub record RunsTo (R : Register) (es : List Event) : Type 0 where
 -- ---- one call more
 
 module _ {R : Register} {es : List Event} (g : RunsTo R es) where
+  one-more : {Q : Register} {c : Call} {t : State} {r : Reply}
+      → Way (stateOf (map call es)) c t r
+      → t .register ≡ Q
+      → RunsTo Q ((c ⇒ r) ∷ es)
+  one-more p e =
+      record { replies = rw (events-by (map call es) p, g .replies); register = rw (state-by (map call es) p) e }
+
   enters-runs : (t : List ℕ) (k : ℕ) (r : List ℕ)
       → R .entered < mostHulls
       → readSheet t ≡ took k r
       → RunsTo (enter R t) ((newHull t ⇒ says (Count (R .entered))) ∷ es)
-  enters-runs t k r p e =
-      let q : stateOf (map call es) .register .entered < mostHulls = rw (g .register) p in
-      record {
-        replies = rw (events-by (map call es) (new-enters {t = t} k r q e), g .register, g .replies);
-        register =
-            rw (state-by (map call es) (new-enters {t = t} k r q e), g .register);
-      }
-
-  unread-runs : (t : List ℕ) (n at : ℕ)
-      → R .entered < mostHulls
-      → readSheet t ≡ lost n at
-      → RunsTo R ((newHull t ⇒ says (Refused n)) ∷ es)
-  unread-runs t n at p e =
-      let q : stateOf (map call es) .register .entered < mostHulls = rw (g .register) p in
-      record {
-        replies = rw (events-by (map call es) (new-unread {t = t} n at q e), g .replies);
-        register =
-            rw (state-by (map call es) (new-unread {t = t} n at q e)) (g .register);
-      }
-
-  full-runs : (t : List ℕ) → mostHulls ≤ R .entered → RunsTo R ((newHull t ⇒ says (Refused full)) ∷ es)
-  full-runs t p =
-      let q : mostHulls ≤ stateOf (map call es) .register .entered = rw (g .register) p in
-      record {
-        replies = rw (events-by (map call es) (new-full {t = t} q), g .replies);
-        register =
-            rw (state-by (map call es) (new-full {t = t} q)) (g .register);
-      }
+  enters-runs t k r p e = rw (← g .register) (one-more (new-enters k r (rw (g .register) p) e) refl)
 
   asks-runs : (h : ℕ) (q : Ask) → h < R .entered → RunsTo R ((ask h q ⇒ askSays h q (R .hull h .sheet)) ∷ es)
-  asks-runs h q p =
-      let l : h < stateOf (map call es) .register .entered = rw (g .register) p in
-      record {
-        replies = rw (events-by (map call es) (ask-done {q = q} l), g .register, g .replies);
-        register =
-            rw (state-by (map call es) (ask-done {q = q} l)) (g .register);
-      }
+  asks-runs h q p = rw (← g .register) (one-more (ask-done (rw (g .register) p)) refl)
 
   unasked-runs : (h : ℕ) (q : Ask) → R .entered ≤ h → RunsTo R ((ask h q ⇒ refusal (ask h q) noHull) ∷ es)
-  unasked-runs h q p =
-      let l : stateOf (map call es) .register .entered ≤ h = rw (g .register) p in
-      record {
-        replies = rw (events-by (map call es) (ask-unknown {q = q} l), g .replies);
-        register =
-            rw (state-by (map call es) (ask-unknown {q = q} l)) (g .register);
-      }
+  unasked-runs h q p = one-more (refused (ask-unknown (rw (g .register) p))) (g .register)
 
 -- ---- one block more, and its save
 
@@ -103,6 +73,22 @@ saves-runs {R} {es} {d} {x} {b} r u l g =
 
 -- ---- every rule. What is asked of a hull changes no register, so the list would run so without it too.
 
+serial-refused : (s : State) (past : List Event) {c : Call} {n : ℕ}
+    → Refuses s c n
+    → RunsTo (s .register) (serial past)
+    → RunsTo (s .register) (serial ((c ⇒ refusal c n) ∷ past))
+unfolding serial spot
+serial-refused s past (unread n at p e) g = one-more g (refused (unread n at (rw (g .register) p) e)) (g .register)
+serial-refused s past (no-room p) g = one-more g (refused (no-room (rw (g .register) p))) (g .register)
+serial-refused s past (open-unknown p q) g = g
+serial-refused s past (open-high p) g = g
+serial-refused s past (work-idle i) g = g
+serial-refused s past (save-idle i) g = g
+serial-refused s past (save-spent y p q u l) g = g
+serial-refused s past (save-stale y p q u) g = g
+serial-refused s past (drop-idle i) g = g
+serial-refused s past (ask-unknown {h} {q} p) g = search (g, unasked-runs g h q p)
+
 serial-step : (s : State) (past : List Event) {c : Call} {t : State} {r : Reply}
     → Way s c t r
     → Drafts s past
@@ -110,24 +96,12 @@ serial-step : (s : State) (past : List Event) {c : Call} {t : State} {r : Reply}
     → RunsTo (t .register) (serial ((c ⇒ r) ∷ past))
 unfolding serial spot
 serial-step s past (new-enters {t} k r p e) f g = enters-runs g t k r p e
-serial-step s past (new-unread {t} n at p e) f g = unread-runs g t n at p e
-serial-step s past (new-full {t} p) f g = full-runs g t p
 serial-step s past (open-done p q) f g = g
-serial-step s past (open-unknown p q) f g = g
-serial-step s past (open-high p) f g = g
 serial-step s past (work-done y p q) f g = g
-serial-step s past (work-idle p q) f g = g
-serial-step s past (work-high p) f g = g
 serial-step s past (save-done {d} y p q u l) f g = saves-runs (f d y q) u l g
-serial-step s past (save-spent y p q u l) f g = g
-serial-step s past (save-stale y p q u) f g = g
-serial-step s past (save-idle p q) f g = g
-serial-step s past (save-high p) f g = g
 serial-step s past (drop-done y p q) f g = g
-serial-step s past (drop-idle p q) f g = g
-serial-step s past (drop-high p) f g = g
 serial-step s past (ask-done {h} {q} p) f g = search (g, asks-runs g h q p)
-serial-step s past (ask-unknown {h} {q} p) f g = search (g, unasked-runs g h q p)
+serial-step s past (refused p) f g = serial-refused s past p g
 
 -- run from fresh, the serial list gives the same hulls and edit numbers, and the replies that its calls had
 pub serial-runs : (cs : List Call) → RunsTo (stateOf cs .register) (serial (eventsOf cs))
