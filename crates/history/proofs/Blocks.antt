@@ -6,6 +6,7 @@ use mathlib.Core.Bool.{Bool, true, false, cond, _&&_}
 use mathlib.Core.List.{List, [], _∷_}
 use lib.Dec.{eqb}
 use borrow.Author.Tests.{eqb-true}
+use Rattle.ground.proofs.Booleans.{by-test}
 use Rattle.register.specs.Calls.{Work, newHull, openHull, work, save, dropDraft, ask}
 use Rattle.history.specs.Replies.{Reply, accepted}
 use Rattle.history.specs.Runs.{Event, _⇒_}
@@ -44,42 +45,24 @@ pub data Known (d : ℕ) : Event → Role → Type 0 where
       → ((es : List Event) → callsBy d (e ∷ es) ≡ callsBy d es)
       → Known d e elsewhere
 
--- an event of desk g: t says whether g is d, and a whether the call was accepted
-module _ (d g : ℕ) (r : Reply) where
-  known-open : (h : ℕ) (t a : Bool)
-      → eqb d g ≡ t
-      → accepted r ≡ a
-      → Known d (openHull g h ⇒ r) (cond (t && a) itsOpen elsewhere)
-  unfolding callsBy stays
-  known-open h true true p q = rw (← eqb-true d g p) (an-open q)
-  known-open h true false p q = another (openHull g h ⇒ r) (λ es. rw (p, q)) (λ es. refl)
-  known-open h false a p q = another (openHull g h ⇒ r) (λ es. rw p) (λ es. refl)
-
-  known-work : (w : Work) (t : Bool) → eqb d g ≡ t → Known d (work g w ⇒ r) (cond t itsCall elsewhere)
-  unfolding callsBy stays
-  known-work w true p = rw (← eqb-true d g p) some-work
-  known-work w false p = another (work g w ⇒ r) (λ es. refl) (λ es. rw p)
-
-  known-save : (t a : Bool)
-      → eqb d g ≡ t
-      → accepted r ≡ a
-      → Known d (save g ⇒ r) (cond t (cond a itsEnd itsCall) elsewhere)
-  unfolding callsBy stays
-  known-save true true p q = an-end
-  known-save true false p q = rw (← eqb-true d g p) (vain-save q)
-  known-save false a p q = another (save g ⇒ r) (λ es. rw p) (λ es. rw p)
-
-  known-drop : (t a : Bool) → eqb d g ≡ t → accepted r ≡ a → Known d (dropDraft g ⇒ r) (cond (t && a) itsEnd elsewhere)
-  unfolding callsBy stays
-  known-drop true true p q = an-end
-  known-drop true false p q = another (dropDraft g ⇒ r) (λ es. rw (p, q)) (λ es. refl)
-  known-drop false a p q = another (dropDraft g ⇒ r) (λ es. rw p) (λ es. refl)
-
 pub known : (d : ℕ) (e : Event) → Known d e (role d e)
 unfolding role callsBy stays
 known d (newHull t ⇒ r) = another (newHull t ⇒ r) (λ es. refl) (λ es. refl)
-known d (openHull g h ⇒ r) = known-open d g r h (eqb d g) (accepted r) refl refl
-known d (work g w ⇒ r) = known-work d g r w (eqb d g) refl
-known d (save g ⇒ r) = known-save d g r (eqb d g) (accepted r) refl refl
-known d (dropDraft g ⇒ r) = known-drop d g r (eqb d g) (accepted r) refl refl
+known d (openHull g h ⇒ r) =
+    by-test (eqb d g)
+    (λ p. by-test (accepted r) (λ q. rw (p, q, ← eqb-true d g p) (an-open q))
+    (λ q. rw (p, q) (another (openHull g h ⇒ r) (λ es. rw (p, q)) (λ es. refl))))
+    (λ p. rw p (another (openHull g h ⇒ r) (λ es. rw p) (λ es. refl)))
+known d (work g w ⇒ r) =
+    by-test (eqb d g) (λ p. rw (p, ← eqb-true d g p) some-work)
+    (λ p. rw p (another (work g w ⇒ r) (λ es. refl) (λ es. rw p)))
+known d (save g ⇒ r) =
+    by-test (eqb d g)
+    (λ p. by-test (accepted r) (λ q. rw (p, q) an-end) (λ q. rw (p, q, ← eqb-true d g p) (vain-save q)))
+    (λ p. rw p (another (save g ⇒ r) (λ es. rw p) (λ es. rw p)))
+known d (dropDraft g ⇒ r) =
+    by-test (eqb d g)
+    (λ p. by-test (accepted r) (λ q. rw (p, q) an-end)
+    (λ q. rw (p, q) (another (dropDraft g ⇒ r) (λ es. rw (p, q)) (λ es. refl))))
+    (λ p. rw p (another (dropDraft g ⇒ r) (λ es. rw p) (λ es. refl)))
 known d (ask h q ⇒ r) = another (ask h q ⇒ r) (λ es. refl) (λ es. refl)

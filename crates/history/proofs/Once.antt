@@ -3,16 +3,16 @@ use Prim.Native.Nat.{ℕ, zero, suc, _+_, _≤_, _<_}
 use native.Mathlib.Omega.{arith}
 use native.Mathlib.Nat.{le-refl}
 use mathlib.Core.Path.{_≡_, refl}
-use mathlib.Core.Bool.{Bool, true, false}
+use mathlib.Core.Bool.{false}
 use mathlib.Core.List.{List, [], _∷_, _++_}
-use mathlib.Core.Logic.{inl, inr}
 use lib.Dec.{eqb}
 use borrow.Author.Tests.{ne-eqb}
+use Rattle.ground.proofs.Booleans.{by-less, by-test}
 use Rattle.register.specs.Calls.{newHull, openHull, work, save, dropDraft, ask}
 use Rattle.history.specs.Replies.{Reply, accepted}
 use Rattle.history.specs.Runs.{Event, _⇒_}
 use Rattle.history.specs.History.{Role, itsOpen, itsCall, itsEnd, elsewhere, role, block, spot, serial}
-use Rattle.history.proofs.Tools.{self, below}
+use Rattle.history.proofs.Tools.{self}
 
 -- ---- whatever events weigh, the serial list weighs no more than the history
 
@@ -51,14 +51,13 @@ module _ (f k : ℕ → ℕ) (g : ℕ) (other : (d : ℕ) → eqb d g ≡ false 
   unfolding sumBelow
   sum-beyond zero l = absurd (omega arith)
   sum-beyond (suc n) l =
-      elim (below g n) [
-        | inl p ↦ let a = sum-beyond n p in let b = other n (ne-eqb n g (λ e. omega arith)) in omega arith
-        | inr p ↦ let a = sum-before n p in let e : n ≡ g = omega arith in rw e (let b = rw e at a in omega arith)
-      ]
+      by-less g n
+      (λ p. let a = sum-beyond n p in let b = other n (ne-eqb n g (λ e. omega arith)) in omega arith)
+      (λ p. let a = sum-before n p in let e : n ≡ g = omega arith in rw e (let b = rw e at a in omega arith))
 
   sum-grows : (c n : ℕ) → k g ≤ c + f g → sumBelow k n ≤ c + sumBelow f n
   sum-grows c n l =
-      elim (below g n) [ inl p ↦ let a = sum-beyond n p in omega arith | inr p ↦ let a = sum-before n p in omega arith ]
+      by-less g n (λ p. let a = sum-beyond n p in omega arith) (λ p. let a = sum-before n p in omega arith)
 
 module _ (w : Event → ℕ) where
   -- what the desks' blocks weigh
@@ -91,40 +90,33 @@ module _ (w : Event → ℕ) where
   -- a save, by whether it was accepted
   saved-within : (g : ℕ) (r : Reply) (past : List Event) (n : ℕ)
       → ((j : ℕ) → Within past j)
-      → (a : Bool)
-      → accepted r ≡ a
       → Within ((save g ⇒ r) ∷ past) n
   unfolding Within held weight serial block role spot
-  saved-within g r past n h true e =
+  saved-within g r past n h =
+      by-test (accepted r)
+      (λ e.
       let k : ℕ → ℕ = held ((save g ⇒ r) ∷ past) in
       let z : k g ≡ 0 = rw (self, e, block) in
       let a = sum-beyond (held past) k g (λ d o. rw (o, block)) (n + suc g) (omega arith) in
-      let b = sum-more k n (suc g) in
-      let c = weight-append w (block g past) (serial past) in
-      let i = h (n + suc g) in
       let q : weight w (serial ((save g ⇒ r) ∷ past)) ≡ w (save g ⇒ r) + weight w (block g past ++ serial past) =
       rw (e, serial) in
-      omega arith
-  saved-within g r past n h false e =
+      omega (arith, sum-more k n (suc g), weight-append w (block g past) (serial past), h (n + suc g)))
+      (λ e.
       let a = blocks-grow (save g ⇒ r) g past n (λ d o. rw o) in
-      let i = h n in
       let q : weight w (serial ((save g ⇒ r) ∷ past)) ≡ weight w (serial past) = rw (e, serial) in
-      omega arith
+      omega (arith, h n))
 
   within : (past : List Event) (n : ℕ) → Within past n
   unfolding Within held weight serial block role spot
   within [] n = omega (arith, sum-none n)
-  within ((newHull t ⇒ r) ∷ past) n = let h = within past n in omega arith
-  within ((openHull g k ⇒ r) ∷ past) n =
-      let h = within past n in let a = blocks-grow (openHull g k ⇒ r) g past n (λ d o. rw o) in omega arith
-  within ((work g x ⇒ r) ∷ past) n =
-      let h = within past n in let a = blocks-grow (work g x ⇒ r) g past n (λ d o. rw o) in omega arith
-  within ((save g ⇒ r) ∷ past) n = saved-within g r past n (within past) (accepted r) refl
-  within ((dropDraft g ⇒ r) ∷ past) n =
-      let h = within past n in let a = blocks-grow (dropDraft g ⇒ r) g past n (λ d o. rw o) in omega arith
-  within ((ask h q ⇒ r) ∷ past) n = let h = within past n in omega arith
+  within ((newHull t ⇒ r) ∷ past) n = omega (arith, within past n)
+  within ((openHull g k ⇒ r) ∷ past) n = omega (arith, within past n, blocks-grow (openHull g k ⇒ r) g past n (λ d o. rw o))
+  within ((work g x ⇒ r) ∷ past) n = omega (arith, within past n, blocks-grow (work g x ⇒ r) g past n (λ d o. rw o))
+  within ((save g ⇒ r) ∷ past) n = saved-within g r past n (within past)
+  within ((dropDraft g ⇒ r) ∷ past) n = omega (arith, within past n, blocks-grow (dropDraft g ⇒ r) g past n (λ d o. rw o))
+  within ((ask h q ⇒ r) ∷ past) n = omega (arith, within past n)
 
   -- Each call of a history is taken at most once.
   pub once : (past : List Event) → weight w (serial past) ≤ weight w past
   unfolding Within
-  once past = let a = within past 0 in omega arith
+  once past = omega (arith, within past 0)

@@ -4,6 +4,7 @@ use Prim.Native.Nat.{ℕ}
 use mathlib.Core.Path.{_≡_, refl, ap}
 use mathlib.Core.Bool.{Bool, true, false, cond}
 use mathlib.Core.List.{List, [], _∷_, _++_}
+use Rattle.ground.proofs.Booleans.{by-test}
 use Rattle.register.specs.Calls.{newHull, openHull, work, save, dropDraft, ask}
 use Rattle.history.specs.Replies.{accepted}
 use Rattle.history.specs.Runs.{Event, _⇒_}
@@ -37,31 +38,23 @@ block-in-order d (e ∷ past) = go (role d e) refl (block-in-order d past)
 -- ---- the serial list
 
 -- new hulls, plates and writings, and accepted saves: each has a place of its own
+unfoldable pub hasPlace : Event → Bool
+hasPlace (newHull t ⇒ r) = true
+hasPlace (openHull d h ⇒ r) = false
+hasPlace (work d w ⇒ r) = false
+hasPlace (save d ⇒ r) = accepted r
+hasPlace (dropDraft d ⇒ r) = false
+hasPlace (ask h q ⇒ r) = true
+
 unfoldable pub placed : List Event → List Event
 placed [] = []
-placed ((newHull t ⇒ r) ∷ es) = (newHull t ⇒ r) ∷ placed es
-placed ((openHull d h ⇒ r) ∷ es) = placed es
-placed ((work d w ⇒ r) ∷ es) = placed es
-placed ((save d ⇒ r) ∷ es) = cond (accepted r) ((save d ⇒ r) ∷ placed es) (placed es)
-placed ((dropDraft d ⇒ r) ∷ es) = placed es
-placed ((ask h q ⇒ r) ∷ es) = (ask h q ⇒ r) ∷ placed es
+placed (e ∷ es) = cond (hasPlace e) (e ∷ placed es) (placed es)
 
 placed-append : (a b : List Event) → placed (a ++ b) ≡ placed a ++ placed b
 unfolding placed
 placed-append [] b = refl
-placed-append ((newHull t ⇒ r) ∷ a) b = ap (λ (es : List Event). (newHull t ⇒ r) ∷ es) (placed-append a b)
-placed-append ((openHull d h ⇒ r) ∷ a) b = placed-append a b
-placed-append ((work d w ⇒ r) ∷ a) b = placed-append a b
-placed-append ((save d ⇒ r) ∷ a) b = go (accepted r) (placed-append a b)
-  where
-    go : (t : Bool)
-        → placed (a ++ b) ≡ placed a ++ placed b
-        → cond t ((save d ⇒ r) ∷ placed (a ++ b)) (placed (a ++ b))
-        ≡ cond t ((save d ⇒ r) ∷ placed a) (placed a) ++ placed b
-    go true h = ap (λ (es : List Event). (save d ⇒ r) ∷ es) h
-    go false h = h
-placed-append ((dropDraft d ⇒ r) ∷ a) b = placed-append a b
-placed-append ((ask h q ⇒ r) ∷ a) b = ap (λ (es : List Event). (ask h q ⇒ r) ∷ es) (placed-append a b)
+placed-append (e ∷ a) b =
+    let h = placed-append a b in by-test (hasPlace e) (λ t. rw (t, h)) (λ t. rw (t, h))
 
 -- the calls of a block have no place of their own
 unplaced : {d : ℕ} {e : Event} {s : Role} (past : List Event)
@@ -69,7 +62,7 @@ unplaced : {d : ℕ} {e : Event} {s : Role} (past : List Event)
     → role d e ≡ s
     → placed (block d past) ≡ []
     → placed (block d (e ∷ past)) ≡ []
-unfolding placed block
+unfolding placed hasPlace block
 unplaced past (an-open a) p n = rw (p, block)
 unplaced past some-work p n = rw (p, block) n
 unplaced past (vain-save a) p n = rw (p, block, a) n
@@ -83,18 +76,15 @@ block-none d (e ∷ past) = unplaced past (known d e) refl (block-none d past)
 
 -- Every call kept is at its own place, and every block at its save's place.
 pub places-kept : (past : List Event) → placed (serial past) ≡ placed past
-unfolding placed serial spot
+unfolding placed hasPlace serial spot
 places-kept [] = refl
 places-kept ((newHull t ⇒ r) ∷ past) = ap (λ (es : List Event). (newHull t ⇒ r) ∷ es) (places-kept past)
 places-kept ((openHull d h ⇒ r) ∷ past) = places-kept past
 places-kept ((work d w ⇒ r) ∷ past) = places-kept past
-places-kept ((save d ⇒ r) ∷ past) = go (accepted r) refl (places-kept past)
-  where
-    go : (t : Bool)
-        → accepted r ≡ t
-        → placed (serial past) ≡ placed past
-        → placed (serial ((save d ⇒ r) ∷ past)) ≡ placed ((save d ⇒ r) ∷ past)
-    go true e h = rw (e, serial) (rw (e, placed-append (block d past) (serial past), block-none d past, h))
-    go false e h = rw (e, serial) h
+places-kept ((save d ⇒ r) ∷ past) =
+    let h = places-kept past in
+    by-test (accepted r)
+    (λ e. rw (e, serial) (rw (e, placed-append (block d past) (serial past), block-none d past, h)))
+    (λ e. rw (e, serial) h)
 places-kept ((dropDraft d ⇒ r) ∷ past) = places-kept past
 places-kept ((ask h q ⇒ r) ∷ past) = ap (λ (es : List Event). (ask h q ⇒ r) ∷ es) (places-kept past)
