@@ -1,6 +1,7 @@
 -- A call on a memory that shows a state leaves a memory that shows the state after it, and replies as the model does.
 use Prim.Native.Nat.{ℕ, _+_, _<_}
 use native.Mathlib.Omega.{arith}
+use native.Mathlib.Numerals.{add-one}
 use mathlib.Core.Path.{_≡_, refl, sym, _∙_}
 use mathlib.Core.List.{List}
 use mathlib.Core.Bool.{true, false}
@@ -25,8 +26,8 @@ use Rattle.history.specs.Replies.{Reply, reply, next}
 use Rattle.history.proofs.Model.{Draft, State, askSays, refusal, opens, atDesk, afterEntry, afterSave, editsOf}
 use Rattle.history.proofs.Rules.{Idle, no-desk, no-draft}
 use Rattle.history.proofs.Tools.{at-or, self}
-use Rattle.history.proofs.Shown.{Shows, holds-none, same-draft-in, desk-shows, shown-few, shown-holds}
-use Rattle.history.proofs.Shown.{shown-hull}
+use Rattle.history.proofs.Shown.{Shows, holds-none, same-hull-in, same-draft-in, desk-shows, shown-few}
+use Rattle.history.proofs.Shown.{shown-number, shown-sheet, shown-holds, shown-hull}
 
 -- the memory o shows the state t, and the reply a is the reply r
 pub record Tied (o : List ℕ) (a : Reply) (t : State) (r : Reply) : Type 0 where
@@ -62,7 +63,7 @@ module _ {m : List ℕ} {s : State} (S : Shows m s) where
   asks h q p z =
       record {
         shows = rw (leaves-same (step m (ask h q) .answer) m) S;
-        replies = rw (z, S .sheets h (shown-few S p)) refl;
+        replies = rw (z, shown-sheet S (shown-few S p)) refl;
       }
 
   -- ---- the refusals of a memory that shows the state
@@ -90,12 +91,9 @@ module _ {m : List ℕ} {s : State} (S : Shows m s) where
       record {
         ok = ok;
         counts = omega (arith, x .counts, S .counts);
-        numbers =
-            at-or after _ (λ l. rw (self, ← S .counts) (x .number))
-            (λ h n l. rw n (x .others h l (rw (← S .counts) at (eqb-false h after n)) .number ∙ S .numbers h l));
-        sheets =
-            at-or after _ (λ l. rw (self, ← S .counts) (x .sheet))
-            (λ h n l. rw n (x .others h l (rw (← S .counts) at (eqb-false h after n)) .sheet ∙ S .sheets h l));
+        hulls =
+            at-or after _ (λ l. rw (self, ← S .counts, x .number, x .sheet) refl)
+            (λ h n l. rw n (same-hull-in (x .others h l (rw (← S .counts) at (eqb-false h after n))) ∙ S .hulls h l));
         drafts = λ d l. same-draft-in (x .drafts d l) ∙ S .drafts d l;
       }
 
@@ -107,14 +105,14 @@ module _ {m : List ℕ} {s : State} (S : Shows m s) where
   opens-shown d h q z ok =
       let x = open-changes m d h z in
       let few = shown-few S q in
-      desk-shows S ok (x .rest) (rw (x .holds, x .hull, x .number, x .sheet, S .numbers h few, S .sheets h few) refl)
+      desk-shows S ok (x .rest) (rw (x .holds, x .hull, x .number, x .sheet, ← S .hulls h few) refl)
 
   pub drops-shown : (d : ℕ) → deskRefusal m d ≡ 0 → formed (dropped m d) ≡ true → Shows (dropped m d) (atDesk s d none)
   drops-shown d z ok = let x = drop-changes m d z in desk-shows S ok (x .rest) (rw (x .holds) refl)
 
   module _ {d : ℕ} (x : Draft) (p : d < desks) (q : s .draft d ≡ some x) where
     pub its-number : edit m (draftHull m d) ≡ editsOf s x
-    its-number = rw (shown-holds S p q .hull) (S .numbers (x .hull) (shown-few S (shown-hull S p q)))
+    its-number = rw (shown-holds S p q .hull) (shown-number S (shown-few S (shown-hull S p q)))
 
     pub saves-shown : formed (saved m d) ≡ true → Shows (saved m d) (afterSave s d x)
     saves-shown ok =
@@ -122,15 +120,13 @@ module _ {m : List ℕ} {s : State} (S : Shows m s) where
         let H = shown-holds S p q in
         let number : edit (saved m d) (x .hull) ≡ edit m (draftHull m d) + 1 = rw (← H .hull) (y .number) in
         let sheet : hullSheet (saved m d) (x .hull) ≡ draftSheet m d = rw (← H .hull) (y .sheet) in
+        let others = rw (H .hull) at (y .others) in
         record {
           ok = ok;
           counts = y .counts ∙ S .counts;
-          numbers =
-              at-or (x .hull) _ (λ l. rw self (omega (arith, number, its-number)))
-              (λ h n l. rw n (y .others h l (rw (← H .hull) at (eqb-false h (x .hull) n)) .number ∙ S .numbers h l));
-          sheets =
-              at-or (x .hull) _ (λ l. rw self (sheet ∙ H .sheet))
-              (λ h n l. rw n (y .others h l (rw (← H .hull) at (eqb-false h (x .hull) n)) .sheet ∙ S .sheets h l));
+          hulls =
+              at-or (x .hull) _ (λ l. rw (self, number, sheet, its-number, add-one, H .sheet) refl)
+              (λ h n l. rw n (same-hull-in (others h l (eqb-false h (x .hull) n)) ∙ S .hulls h l));
           drafts =
               at-or d _ (λ l. rw (self, y .holds) refl)
               (λ j n l. rw n (same-draft-in (y .drafts j l (eqb-false j d n)) ∙ S .drafts j l));

@@ -20,7 +20,7 @@ use Rattle.history.proofs.Rules.{Refuses, unread, no-room, open-unknown
 use Rattle.history.proofs.Rules.{work-idle, save-idle, save-spent, save-stale, drop-idle, ask-unknown}
 use Rattle.history.proofs.Rules.{Way, new-enters, open-done, work-done, save-done, drop-done, ask-done, refused}
 use Rattle.history.proofs.SomeRule.{by-ways}
-use Rattle.history.proofs.Shown.{Shows, fresh-shows, shown-few, shown-holds}
+use Rattle.history.proofs.Shown.{Shows, fresh-shows, shown-few, shown-number, shown-holds}
 use Rattle.history.proofs.Worked.{works}
 use Rattle.history.proofs.CallsShown.{Tied, kept, done, asks, holds-desk, idle-desk, room, enters-shown, opens-shown}
 use Rattle.history.proofs.CallsShown.{drops-shown, its-number, saves-shown, save-spends, save-late, save-goes}
@@ -46,9 +46,9 @@ module _ {m : List ℕ} {s : State} (S : Shows m s) where
       (enters-shown S t k r p e)
   tied-step (open-done {d} {h} p q) =
       let z = sym (open-there m d h (S .ok) p (rw (S .counts) q)) in
-      done S (openHull d h) (Count (s .register .hull h .edits)) (rw (z, S .numbers h (shown-few S q)) refl) refl
+      done S (openHull d h) (Count (s .register .hull h .edits)) (rw (z, shown-number S (shown-few S q)) refl) refl
       (opens-shown S d h q z)
-  tied-step (work-done {w} x p q) = works w x S q (shown-holds S p q) (holds-desk S p q)
+  tied-step (work-done {w} x p q) = works S (shown-holds S p q) w (holds-desk S p q)
   tied-step (save-done {d} x p q e n) =
       done S (save d) (Count (suc (editsOf s x)))
       (rw (holds-desk S p q, save-goes S x p q e n, its-number S x p q, add-one) refl) refl (saves-shown S x p q)

@@ -3,24 +3,29 @@
 use Prim.Native.Nat.{ℕ, _<_}
 use native.Mathlib.Omega.{arith}
 use mathlib.Core.Path.{_≡_, refl, sym, ap, _∙_}
-use mathlib.Core.Bool.{Bool, true, false, cond}
+use mathlib.Core.Bool.{true, cond}
 use mathlib.Core.List.{List}
 use mathlib.Core.Option.{Option, none, some}
 use lib.Dec.{eqb}
 use borrow.Author.Tests.{eqb-true, eqb-false}
-use Rattle.memory.specs.Layout.{mostHulls, desks, editAt, heldAt, hullCount, edit, hullSheet, held, draftHull, opening, draftSheet}
+use Rattle.ground.proofs.Booleans.{by-test}
+use Rattle.memory.specs.Layout.{mostHulls, desks, editAt, heldAt, hullCount, edit, hullSheet, held, draftHull, opening}
+use Rattle.memory.specs.Layout.{draftSheet}
 use Rattle.memory.specs.Formed.{formed}
 use Rattle.memory.specs.Updates.{freshWords}
 use Rattle.memory.proofs.Sound.{sound, held-draft}
-use Rattle.memory.proofs.Slots.{SameDraft}
+use Rattle.memory.proofs.Slots.{SameHull, SameDraft}
 use Rattle.memory.proofs.OneSlot.{ButDesk}
 use Rattle.memory.proofs.Changes.{fresh-changes}
 use Rattle.memory.proofs.Keeps.{fresh-formed}
-use Rattle.history.proofs.Model.{Draft, State, atDesk}
+use Rattle.history.proofs.Model.{Hull, Draft, State, atDesk}
 use Rattle.history.proofs.ModelStep.{fresh}
 use Rattle.history.proofs.Tools.{at-or, self, none≢some, some-inj}
 
--- the draft that stands in desk d's slot
+-- the hull in slot h, and the draft in desk d's
+abbrev pub hullIn : List ℕ → ℕ → Hull
+hullIn m h = record { sheet = hullSheet m h; edits = edit m h }
+
 abbrev slot : List ℕ → ℕ → Draft
 slot m d = record { hull = draftHull m d; opening = opening m d; sheet = draftSheet m d }
 
@@ -30,8 +35,7 @@ draftIn m d = cond (eqb (held m d) 0) none (some (slot m d))
 pub record Shows (m : List ℕ) (s : State) : Type 0 where
   pub ok : formed m ≡ true
   pub counts : hullCount m ≡ s .register .entered
-  pub numbers : (h : ℕ) → h < mostHulls → edit m h ≡ s .register .hull h .edits
-  pub sheets : (h : ℕ) → h < mostHulls → hullSheet m h ≡ s .register .hull h .sheet
+  pub hulls : (h : ℕ) → h < mostHulls → hullIn m h ≡ s .register .hull h
   pub drafts : (d : ℕ) → d < desks → draftIn m d ≡ s .draft d
 
 pub fresh-shows : Shows freshWords fresh
@@ -41,8 +45,7 @@ fresh-shows =
     record {
       ok = fresh-formed;
       counts = zeros 0;
-      numbers = λ h l. zeros (editAt h);
-      sheets = λ h l. refl;
+      hulls = λ h l. rw (zeros (editAt h)) refl;
       drafts = λ d l. rw (zeros (heldAt d));
     }
 
@@ -56,31 +59,23 @@ pub record Holds (m : List ℕ) (d : ℕ) (x : Draft) : Type 0 where
   pub sheet : draftSheet m d ≡ x .sheet
 
 holds-it : (m : List ℕ) (d : ℕ) (x : Draft) → draftIn m d ≡ some x → Holds m d x
-holds-it m d x e = go (eqb (held m d) 0) refl e
-  where
-    go : (t : Bool) → eqb (held m d) 0 ≡ t → cond t none (some (slot m d)) ≡ some x → Holds m d x
-    go true z u = absurd (none≢some u)
-    go false z u =
-        let v = some-inj u in
-        record {
-          some = eqb-false (held m d) 0 z;
-          hull = ap (λ (y : Draft). y .hull) v;
-          number =
-              ap (λ (y : Draft). y .opening) v;
-          sheet = ap (λ (y : Draft). y .sheet) v;
-        }
+holds-it m d x e =
+    by-test (eqb (held m d) 0) (λ z. absurd (none≢some (rw z at e)))
+    (λ z.
+    let v : slot m d ≡ x = some-inj (rw z at e) in
+    rw (← v) (record { some = eqb-false (held m d) 0 z; hull = refl; number = refl; sheet = refl }))
 
 pub holds-none : (m : List ℕ) (d : ℕ) → draftIn m d ≡ none → held m d ≡ 0
-holds-none m d e = go (eqb (held m d) 0) refl e
-  where
-    go : (t : Bool) → eqb (held m d) 0 ≡ t → cond t none (some (slot m d)) ≡ none → held m d ≡ 0
-    go true z u = eqb-true (held m d) 0 z
-    go false z u = absurd (none≢some (sym u))
+holds-none m d e =
+    by-test (eqb (held m d) 0) (eqb-true (held m d) 0) (λ z. absurd (none≢some (sym (rw z at e))))
+
+-- ---- slots that are as they were, and one desk's that is not
+
+pub same-hull-in : {o m : List ℕ} {h : ℕ} → SameHull o m h → hullIn o h ≡ hullIn m h
+same-hull-in c = rw (c .number, c .sheet)
 
 pub same-draft-in : {o m : List ℕ} {d : ℕ} → SameDraft o m d → draftIn o d ≡ draftIn m d
 same-draft-in c = rw (c .holds, c .hull, c .opened, c .sheet)
-
--- ---- one desk changed, and none
 
 pub desk-shows : {m o : List ℕ} {s : State} {d : ℕ} {x : Option Draft}
     → Shows m s
@@ -88,28 +83,14 @@ pub desk-shows : {m o : List ℕ} {s : State} {d : ℕ} {x : Option Draft}
     → ButDesk o m d
     → draftIn o d ≡ x
     → Shows o (atDesk s d x)
-desk-shows {m} {o} {s} {d} {x} S f c e =
+desk-shows {d} S f c e =
     record {
       ok = f;
       counts = c .counts ∙ S .counts;
-      numbers = λ h l. c .hulls h l .number ∙ S .numbers h l;
-      sheets = λ h l. c .hulls h l .sheet ∙ S .sheets h l;
-      drafts = at-or d _ (λ l. rw self e)
+      hulls = λ h l. same-hull-in (c .hulls h l) ∙ S .hulls h l;
+      drafts =
+          at-or d _ (λ l. rw self e)
           (λ j n l. rw n (same-draft-in (c .others j l (eqb-false j d n)) ∙ S .drafts j l));
-    }
-
-pub same-shows : {m : List ℕ} {s : State} {d : ℕ} {x : Option Draft}
-    → Shows m s
-    → s .draft d ≡ x
-    → Shows m (atDesk s d x)
-same-shows {m} {s} {d} {x} S e =
-    record {
-      ok = S .ok;
-      counts = S .counts;
-      numbers = S .numbers;
-      sheets = S .sheets;
-      drafts = at-or d _
-          (λ l. rw self (S .drafts d l ∙ e)) (λ j n l. rw n (S .drafts j l));
     }
 
 -- ---- limits
@@ -120,6 +101,12 @@ module _ {m : List ℕ} {s : State} (S : Shows m s) where
 
   pub there-few : {h : ℕ} → h < hullCount m → h < mostHulls
   there-few l = omega (arith, sound m (S .ok) .few)
+
+  pub shown-number : {h : ℕ} → h < mostHulls → edit m h ≡ s .register .hull h .edits
+  shown-number {h} l = ap (λ (x : Hull). x .edits) (S .hulls h l)
+
+  pub shown-sheet : {h : ℕ} → h < mostHulls → hullSheet m h ≡ s .register .hull h .sheet
+  shown-sheet {h} l = ap (λ (x : Hull). x .sheet) (S .hulls h l)
 
   pub shown-holds : {d : ℕ} {x : Draft} → d < desks → s .draft d ≡ some x → Holds m d x
   shown-holds {d} {x} l e = holds-it m d x (S .drafts d l ∙ e)

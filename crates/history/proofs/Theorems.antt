@@ -18,12 +18,12 @@ use Rattle.history.specs.Told.{Opening, savesOf}
 use Rattle.history.specs.Demand.{Due, SaveDoes, Gives, Demand}
 use Rattle.history.proofs.Tools.{self}
 use Rattle.history.proofs.WholeBlock.{Whole, block-whole, saveless}
-use Rattle.history.proofs.Model.{Register, State, Outcome}
+use Rattle.history.proofs.Model.{State, Outcome}
 use Rattle.history.proofs.ModelStep.{stateOf, eventsOf}
 use Rattle.history.proofs.Rules.{way-taken}
 use Rattle.history.proofs.Replay.{state-by}
 use Rattle.history.proofs.Serial.{serial-runs}
-use Rattle.history.proofs.Shown.{shown-few, there-few}
+use Rattle.history.proofs.Shown.{shown-few, there-few, shown-number, shown-sheet}
 use Rattle.history.proofs.RunsShown.{run-shows, run-replies, run-history}
 use Rattle.history.proofs.TellsEvery.{history-tells}
 use Rattle.history.proofs.Saves.{Saved, save-only, save-taken, taken-clean}
@@ -39,7 +39,7 @@ module _ (m : List ℕ) (z : length m ≡ registerWords) where
       → edit (after m cs) h ≡ savesOf h (history m cs)
   edits-count cs h l =
       let S = run-shows m z cs in
-      rw (run-history m z cs) (S .numbers h (there-few S l) ∙ history-tells cs .edits h)
+      rw (run-history m z cs) (shown-number S (there-few S l) ∙ history-tells cs .edits h)
 
   -- ---- (a) the exact rule for saves
 
@@ -47,7 +47,7 @@ module _ (m : List ℕ) (z : length m ≡ registerWords) where
   few : (cs : List Call) (h : ℕ) → h < stateOf cs .register .entered → stateOf cs .register .hull h .edits ≤ mostEdits
   few cs h l =
       let S = run-shows m z cs in
-      rw (← S .numbers h (shown-few S l)) (Sound.sound (after m cs) (S .ok) .hulls h (rw (S .counts) l) .number)
+      rw (← shown-number S (shown-few S l)) (Sound.sound (after m cs) (S .ok) .hulls h (rw (S .counts) l) .number)
 
   -- A save by desk d that is due, of the draft opened as o says, does what demand 3 says.
   save-due-does : (cs : List Call) (d : ℕ) (o : Opening) → Saved (stateOf cs) (eventsOf cs) d o
@@ -62,13 +62,13 @@ module _ (m : List ℕ) (z : length m ≡ registerWords) where
         answer = ap (λ (r : Reply). r .answer)
             (run-replies m z cs (save d) ∙ ap (λ (x : Outcome). x .reply) (way-taken (stateOf cs) (y .rule)))
             ∙ rw (run-history m z cs, y .count) refl;
-        number = rw (run-history m z cs) (T .numbers (o .hull) k ∙ rw (next, self, y .count) refl);
-        sheet = rw (run-history m z cs, run-shows m z (map call (o .before)) .sheets (o .hull) k)
-            (T .sheets (o .hull) k ∙ rw (next, self) refl);
+        number = rw (run-history m z cs) (shown-number T k ∙ rw (next, self, y .count) refl);
+        sheet = rw (run-history m z cs, shown-sheet (run-shows m z (map call (o .before))) k)
+            (shown-sheet T k ∙ rw (next, self) refl);
         hulls = T .counts ∙ ap (λ (s : State). s .register .entered) next ∙ sym (S .counts);
         others = λ h l n. let j = there-few S l in (
-          T .numbers h j ∙ rw (next, ne-eqb h (o .hull) n) (sym (S .numbers h j)),
-          T .sheets h j ∙ rw (next, ne-eqb h (o .hull) n) (sym (S .sheets h j)),
+          shown-number T j ∙ rw (next, ne-eqb h (o .hull) n) (sym (shown-number S j)),
+          shown-sheet T j ∙ rw (next, ne-eqb h (o .hull) n) (sym (shown-sheet S j)),
         );
       }
 
@@ -118,13 +118,9 @@ module _ (m : List ℕ) (z : length m ≡ registerWords) where
       rw (run-history m z cs) (record {
         replies = run-history m z ks ∙ g .replies;
         hulls = record {
-          counts = T .counts ∙ ap (λ (r : Register). r .entered) (g .register) ∙ sym (S .counts);
-          numbers = λ h l. let j = there-few S l in T .numbers h j
-              ∙ ap (λ (r : Register). r .hull h .edits) (g .register)
-              ∙ sym (S .numbers h j);
-          sheets = λ h l. let j = there-few S l in T .sheets h j
-              ∙ ap (λ (r : Register). r .hull h .sheet) (g .register)
-              ∙ sym (S .sheets h j);
+          counts = T .counts ∙ rw (g .register) (sym (S .counts));
+          numbers = λ h l. let j = there-few S l in shown-number T j ∙ rw (g .register) (sym (shown-number S j));
+          sheets = λ h l. let j = there-few S l in shown-sheet T j ∙ rw (g .register) (sym (shown-sheet S j));
         };
       })
 
