@@ -27,6 +27,8 @@ use Rattle.capacity.specs.Kinds.{kindA, kindC, kindU}
 use Rattle.memory.specs.Formed.{each, hullOk, draftOk, formed}
 use Rattle.memory.specs.Updates.{freshWords, entered, opened, fitted, replaced, dropped, saved}
 use Rattle.register.specs.Refusals.{hullRefusal, deskRefusal, roomRefusal, openRefusal}
+use Rattle.memory.proofs.Changes.{fresh-changes}
+use Rattle.register.proofs.Effects.{fresh-right-size}
 use Rattle.sheet.proofs.BaseHull.{form, mass, power, seats, sheetWith}
 use Rattle.register.specs.Calls.{put, takeOff, tryPlate, plate, write, newHull, openHull, work, save, dropDraft, ask}
 use Rattle.history.specs.Replies.{says, reply, next}
@@ -34,6 +36,7 @@ use Rattle.history.specs.Runs.{Event, _⇒_, call}
 use Rattle.history.specs.History.{role, block, spot, serial}
 use Rattle.history.specs.Told.{opening, isSaveOf, savesOf, quietSince}
 use Rattle.history.specs.InOrder.{transcript, order}
+use Rattle.history.proofs.InOrder.{serial-in-order}
 
 -- 01's hull, under a number, with fitting lines
 text : String → String → List ℕ
@@ -104,16 +107,12 @@ a-day-in-order : order day ≡ serial-day
 unfolding order serial spot block role day serial-day
 a-day-in-order = refl
 
--- and that list, run from fresh, has the same replies
+-- and that list, run from fresh, has the same replies, as demand 3 says
 a-day-again : transcript freshWords (map call serial-day) ≡ serial-day
-unfolding transcript reply next serial-day text freshWords entered opened fitted replaced dropped saved
-    each hullOk draftOk formed hullRefusal deskRefusal roomRefusal openRefusal readSheet sheetForm numbersOn
-    numbersOf fitsOf weightsFrom readForm readParts readRows kindOf readLine agreed readNumbers readEntry
-    fieldOf numberOf restOf allHold sheetLimits limitsOn sheetText rowsOn fitRows partsText rowsText numbersText
-    digitsOf digitsIn stationProduct volumeN netZ addedUp boatM exactX markedC rising rowsRight rowFor lacksRow
-    engineWeight liveLoad persons lacksTests plateC inboardX loadX markedA formulaWatts powerA plateA ruleU
-    markedU plateU
-a-day-again = refl
+a-day-again =
+    let size = fresh-changes .size in
+    let g = serial-in-order freshWords (map call day) size .replies in
+    rw (fresh-right-size freshWords size .1, a-day, a-day-in-order) at g
 
 -- what the day's history tells: hull 0 has had two accepted saves, though five were tried
 a-day-counted : savesOf 0 (reverse day) ≡ 2

@@ -1,17 +1,13 @@
 -- DEMAND 3 with the oldest call first.
-use Prim.Native.Nat.{ℕ, _<_}
+use Prim.Native.Nat.{ℕ}
 use mathlib.Core.Path.{_≡_, refl, sym, ap, _∙_}
-use mathlib.Core.Bool.{true}
 use mathlib.Core.List.{List, [], _∷_, map, reverse, reverseAux, reverse-reverse}
-use mathlib.Core.Logic.{_↔_}
 use lib.ListN.{length}
-use Rattle.memory.specs.Layout.{registerWords, hullCount, edit}
-use Rattle.register.specs.Calls.{freshStep, Call, save}
-use Rattle.history.specs.Replies.{reply, next, accepted}
+use Rattle.memory.specs.Layout.{registerWords}
+use Rattle.register.specs.Calls.{freshStep, Call}
 use Rattle.history.specs.Runs.{Event, call, after, history}
 use Rattle.history.specs.History.{serial}
-use Rattle.history.specs.Told.{savesOf}
-use Rattle.history.specs.Demand.{Due, SaveDoes, Gives}
+use Rattle.history.specs.Demand.{Gives}
 use Rattle.history.specs.InOrder.{transcript, lastly, order, GivesInOrder, DemandInOrder}
 use Rattle.history.proofs.Theorems.{save-iff, save-does, edits-count, serial-gives}
 
@@ -55,51 +51,31 @@ calls-turned (e ∷ es) fs = calls-turned es (e ∷ fs)
 
 -- ---- the theorems
 
-module _ (m : List ℕ) (z : length m ≡ registerWords) where
-  -- From a fresh register: the calls of a run in serial order have the replies that they had in the run, and leave the
-  -- same hulls with the same edit numbers.
-  pub serial-in-order : (cs : List Call)
-      → GivesInOrder m (transcript (freshStep m .memory) cs) (lastly (freshStep m .memory) cs)
-  serial-in-order cs =
-      let es : List Event = serial (history m (reverse cs)) in
-      let g : Gives m es (after m (reverse cs)) = serial-gives m z (reverse cs) in
-      let q : map call (order (transcript (freshStep m .memory) cs)) ≡ reverse (map call es) =
-      ap (map call) (order-turned m cs) ∙ calls-turned es [] in
-      record {
-        replies = ap (transcript (freshStep m .memory)) q
-            ∙ oldest-first m (map call es)
-            ∙ ap reverse (g .replies)
-            ∙ sym (order-turned m cs);
-        hulls = rw (q, oldest-last m (map call es), ← newest-last m cs) (g .hulls);
-      }
+-- From a fresh register: the calls of a run in serial order have the replies that they had in the run, and leave the
+-- same hulls with the same edit numbers.
+pub serial-in-order : (m : List ℕ) (cs : List Call)
+    → length m ≡ registerWords
+    → GivesInOrder m (transcript (freshStep m .memory) cs) (lastly (freshStep m .memory) cs)
+serial-in-order m cs z =
+    let es : List Event = serial (history m (reverse cs)) in
+    let g : Gives m es (after m (reverse cs)) = serial-gives m z (reverse cs) in
+    let q : map call (order (transcript (freshStep m .memory) cs)) ≡ reverse (map call es) =
+    ap (map call) (order-turned m cs) ∙ calls-turned es [] in
+    record {
+      replies = rw (q, oldest-first m (map call es), g .replies) (sym (order-turned m cs));
+      hulls = rw (q, oldest-last m (map call es), ← newest-last m cs) (g .hulls);
+    }
 
-  -- From a fresh register: a save after a run is accepted exactly when it is due.
-  pub save-iff-in-order : (cs : List Call) (d : ℕ)
-      → (accepted (reply (lastly (freshStep m .memory) cs) (save d)) ≡ true)
-      ↔ Due d (reverse (transcript (freshStep m .memory) cs))
-  save-iff-in-order cs d = rw (← newest-last m cs, ← newest-first m cs) (save-iff m z (reverse cs) d)
-
-  -- And then does what demand 3 says.
-  pub save-does-in-order : (cs : List Call) (d : ℕ) (u : Due d (reverse (transcript (freshStep m .memory) cs)))
-      → SaveDoes d (u .draft) (reverse (transcript (freshStep m .memory) cs))
-      (lastly (freshStep m .memory) (reverse (map call (u .draft .before)))) (lastly (freshStep m .memory) cs)
-      (reply (lastly (freshStep m .memory) cs) (save d) .answer) (next (lastly (freshStep m .memory) cs) (save d))
-  unfolding after
-  save-does-in-order cs d =
-      rw (← newest-last m cs, ← newest-first m cs)
-      (λ u. rw (oldest-last m (map call (u .draft .before))) (save-does m z (reverse cs) d u))
-
-  -- Edit numbers count accepted saves.
-  pub edits-count-in-order : (cs : List Call) (h : ℕ)
-      → h < hullCount (lastly (freshStep m .memory) cs)
-      → edit (lastly (freshStep m .memory) cs) h ≡ savesOf h (reverse (transcript (freshStep m .memory) cs))
-  edits-count-in-order cs h = rw (← newest-last m cs, ← newest-first m cs) (edits-count m z (reverse cs) h)
-
+-- From a fresh register: a save after a run is accepted exactly when it is due, and then does what demand 3 says; edit
+-- numbers count accepted saves; and so the serial list.
 pub demand-3-in-order : (m : List ℕ) → length m ≡ registerWords → DemandInOrder m
+unfolding after
 demand-3-in-order m z =
     record {
-      accepts = save-iff-in-order m z;
-      saves = save-does-in-order m z;
-      counts = edits-count-in-order m z;
-      serves = serial-in-order m z;
+      accepts = λ cs d. rw (← newest-last m cs, ← newest-first m cs) (save-iff m z (reverse cs) d);
+      saves =
+          λ cs d. rw (← newest-last m cs, ← newest-first m cs)
+          (λ u. rw (oldest-last m (map call (u .draft .before))) (save-does m z (reverse cs) d u));
+      counts = λ cs h. rw (← newest-last m cs, ← newest-first m cs) (edits-count m z (reverse cs) h);
+      serves = λ cs. serial-in-order m cs z;
     }

@@ -16,8 +16,7 @@ use Rattle.answers.specs.declared.Answer.the-variants.{Refused, Done, Count, Pl
 use Rattle.sheet.specs.Sheet.{limitsOn, sheetLimits}
 use Rattle.form.specs.Parts.{kindOf, numbersOf}
 use Rattle.form.specs.Reading.{readRows, readParts, readForm}
-use Rattle.form.specs.Writing.{rowsText, partsText}
-use Rattle.sheet.specs.SheetText.{sheetForm, weightsFrom, fitRows, fitsOf, numbersOn, rowsOn, readSheet, sheetText}
+use Rattle.sheet.specs.SheetText.{sheetForm, weightsFrom, fitsOf, numbersOn, readSheet}
 use Rattle.capacity.specs.Volume.{stationProduct, volumeN, netZ}
 use Rattle.capacity.specs.Weights.{addedUp, boatM}
 use Rattle.capacity.specs.PlateC.{exactX, markedC, rising, rowsRight, rowFor, lacksRow, engineWeight, liveLoad, persons}

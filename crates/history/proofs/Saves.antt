@@ -24,7 +24,7 @@ use Rattle.history.proofs.Quiet.{still-quiet, quiet-still}
 use Rattle.history.proofs.HistoryTells.{draftOf, draftFrom, Tells, From, drawn}
 use Rattle.history.proofs.TellsEvery.{history-tells}
 
--- ---- accepted only where it is due
+-- ---- accepted only where it is due, and with no refused save among the calls taken
 
 -- no hull has had more than 65,535 saves
 abbrev Few : State → Type 0
@@ -33,30 +33,35 @@ Few s = (h : ℕ) → h < s .register .entered → s .register .hull h .edits �
 due : (s : State) (past : List Event) (d : ℕ) {t : State} {r : Reply}
     → Way s (save d) t r
     → Tells s past
-    → ((x : Draft) → s .draft d ≡ some x → editsOf s x ≤ mostEdits)
+    → Drafts s past
+    → Few s
     → accepted r ≡ true
-    → Due d past
-due s past d (save-done y p q u n) f few a =
+    → Due d past × (saveless (block d past) ≡ true)
+due s past d (save-done y p q u n) f ready few a =
     let z : From (block d past) (opening d past) y = drawn (block d past) (opening d past) y (sym (f .drafts d) ∙ q) in
     let o : Opening = z .from in
     let h : o .hull ≡ y .hull = ap (λ (x : Draft). x .hull) (z .draft) in
     let k : savesOf (o .hull) (o .before) ≡ y .opening = ap (λ (x : Draft). x .opening) (z .draft) in
     let e : editsOf s y ≡ savesOf (o .hull) past = rw h (f .edits (y .hull)) in
-    record {
-      draft = o;
-      holds = z .is;
-      quiet = still-quiet d (o .hull) past o (z .is) (sym e ∙ u ∙ sym k);
-      room = omega (arith, few y q, n, e);
-    }
-due s past d (refused p) f few a = false-true a
+    let r = ready d y q in (
+      record {
+        draft = o;
+        holds = z .is;
+        quiet = still-quiet d (o .hull) past o (z .is) (sym e ∙ u ∙ sym k);
+        room = omega (arith, few (y .hull) (r .hull), n, e);
+      },
+      r .clean u n,
+    )
+due s past d (refused p) f ready few a = false-true a
 
 pub save-only : (cs : List Call) (d : ℕ)
     → Few (stateOf cs)
     → accepted (step (stateOf cs) (save d) .reply) ≡ true
-    → Due d (eventsOf cs)
+    → Due d (eventsOf cs) × (saveless (block d (eventsOf cs)) ≡ true)
 save-only cs d few =
-    by-ways (stateOf cs) (save d) (λ t r. accepted r ≡ true → Due d (eventsOf cs))
-    (λ t r p. due (stateOf cs) (eventsOf cs) d p (history-tells cs) (λ x q. few (x .hull) (drafts cs d x q .hull)))
+    by-ways (stateOf cs) (save d)
+    (λ t r. accepted r ≡ true → Due d (eventsOf cs) × (saveless (block d (eventsOf cs)) ≡ true))
+    (λ t r p. due (stateOf cs) (eventsOf cs) d p (history-tells cs) (drafts cs) few)
 
 -- ---- where it is due, the rule that it takes
 
@@ -83,20 +88,3 @@ save-taken cs d o e q l =
       count = n;
       known = r .hull;
     }
-
--- ---- no refused save among the calls taken
-
-clean : (s : State) (past : List Event) (d : ℕ) {t : State} {r : Reply}
-    → Way s (save d) t r
-    → Drafts s past
-    → accepted r ≡ true
-    → saveless (block d past) ≡ true
-clean s past d (save-done x p q u n) f a = f d x q .clean u n
-clean s past d (refused p) f a = false-true a
-
-pub taken-clean : (cs : List Call) (d : ℕ)
-    → accepted (step (stateOf cs) (save d) .reply) ≡ true
-    → saveless (block d (eventsOf cs)) ≡ true
-taken-clean cs d =
-    by-ways (stateOf cs) (save d) (λ t r. accepted r ≡ true → saveless (block d (eventsOf cs)) ≡ true)
-    (λ t r p. clean (stateOf cs) (eventsOf cs) d p (drafts cs))

@@ -1,18 +1,14 @@
 -- The list of demand 3, run from fresh in the model: the same register, and the same reply to each call kept.
-use Prim.Native.Nat.{ℕ, suc, _≤_, _<_}
+use Prim.Native.Nat.{ℕ, suc, _<_}
 use mathlib.Core.Path.{_≡_, refl, ap, _∙_}
 use mathlib.Core.List.{List, [], _∷_, _++_, map}
-use Rattle.form.specs.Outcome.{took}
-use Rattle.answers.specs.Refusals.{noHull}
 use Rattle.answers.specs.declared.Answer.the-variants.{Count}
-use Rattle.sheet.specs.SheetText.{readSheet}
-use Rattle.memory.specs.Layout.{mostHulls}
 use Rattle.memory.specs.Formed.{mostEdits}
-use Rattle.register.specs.Calls.{Ask, Call, newHull, save, ask}
+use Rattle.register.specs.Calls.{Ask, Call, save, ask}
 use Rattle.history.specs.Replies.{Reply, says}
 use Rattle.history.specs.Runs.{Event, _⇒_, call}
 use Rattle.history.specs.History.{spot, serial}
-use Rattle.history.proofs.Model.{Draft, Register, State, askSays, refusal, enter, store}
+use Rattle.history.proofs.Model.{Draft, Register, State, askSays, refusal, store}
 use Rattle.history.proofs.ModelStep.{stateOf, eventsOf}
 use Rattle.history.proofs.Rules.{Refuses, unread, no-room, open-unknown, open-high}
 use Rattle.history.proofs.Rules.{work-idle, save-idle, save-spent, save-stale, drop-idle, ask-unknown}
@@ -36,17 +32,11 @@ module _ {R : Register} {es : List Event} (g : RunsTo R es) where
   one-more p e =
       record { replies = rw (events-by (map call es) p, g .replies); register = rw (state-by (map call es) p) e }
 
-  enters-runs : (t : List ℕ) (k : ℕ) (r : List ℕ)
-      → R .entered < mostHulls
-      → readSheet t ≡ took k r
-      → RunsTo (enter R t) ((newHull t ⇒ says (Count (R .entered))) ∷ es)
-  enters-runs t k r p e = rw (← g .register) (one-more (new-enters k r (rw (g .register) p) e) refl)
-
   asks-runs : (h : ℕ) (q : Ask) → h < R .entered → RunsTo R ((ask h q ⇒ askSays h q (R .hull h .sheet)) ∷ es)
   asks-runs h q p = rw (← g .register) (one-more (ask-done (rw (g .register) p)) refl)
 
-  unasked-runs : (h : ℕ) (q : Ask) → R .entered ≤ h → RunsTo R ((ask h q ⇒ refusal (ask h q) noHull) ∷ es)
-  unasked-runs h q p = one-more (refused (ask-unknown (rw (g .register) p))) (g .register)
+  refused-runs : {c : Call} {n : ℕ} → Refuses (stateOf (map call es)) c n → RunsTo R ((c ⇒ refusal c n) ∷ es)
+  refused-runs p = one-more (refused p) (g .register)
 
 -- ---- one block more, and its save
 
@@ -78,8 +68,8 @@ serial-refused : (s : State) (past : List Event) {c : Call} {n : ℕ}
     → RunsTo (s .register) (serial past)
     → RunsTo (s .register) (serial ((c ⇒ refusal c n) ∷ past))
 unfolding serial spot
-serial-refused s past (unread n at p e) g = one-more g (refused (unread n at (rw (g .register) p) e)) (g .register)
-serial-refused s past (no-room p) g = one-more g (refused (no-room (rw (g .register) p))) (g .register)
+serial-refused s past (unread n at p e) g = refused-runs g (unread n at (rw (g .register) p) e)
+serial-refused s past (no-room p) g = refused-runs g (no-room (rw (g .register) p))
 serial-refused s past (open-unknown p q) g = g
 serial-refused s past (open-high p) g = g
 serial-refused s past (work-idle i) g = g
@@ -87,7 +77,8 @@ serial-refused s past (save-idle i) g = g
 serial-refused s past (save-spent y p q u l) g = g
 serial-refused s past (save-stale y p q u) g = g
 serial-refused s past (drop-idle i) g = g
-serial-refused s past (ask-unknown {h} {q} p) g = search (g, unasked-runs g h q p)
+serial-refused s past (ask-unknown {h} {q} p) g =
+    search (g, refused-runs g (ask-unknown {h = h} {q = q} (rw (g .register) p)))
 
 serial-step : (s : State) (past : List Event) {c : Call} {t : State} {r : Reply}
     → Way s c t r
@@ -95,7 +86,8 @@ serial-step : (s : State) (past : List Event) {c : Call} {t : State} {r : Reply}
     → RunsTo (s .register) (serial past)
     → RunsTo (t .register) (serial ((c ⇒ r) ∷ past))
 unfolding serial spot
-serial-step s past (new-enters {t} k r p e) f g = enters-runs g t k r p e
+serial-step s past (new-enters k r p e) f g =
+    rw (← g .register) (one-more g (new-enters k r (rw (g .register) p) e) refl)
 serial-step s past (open-done p q) f g = g
 serial-step s past (work-done y p q) f g = g
 serial-step s past (save-done {d} y p q u l) f g = saves-runs (f d y q) u l g

@@ -26,7 +26,7 @@ use Rattle.history.proofs.Serial.{serial-runs}
 use Rattle.history.proofs.Shown.{shown-few, there-few, shown-number, shown-sheet}
 use Rattle.history.proofs.RunsShown.{run-shows, run-replies, run-history}
 use Rattle.history.proofs.TellsEvery.{history-tells}
-use Rattle.history.proofs.Saves.{Saved, save-only, save-taken, taken-clean}
+use Rattle.history.proofs.Saves.{Saved, save-only, save-taken}
 
 module _ (m : List ℕ) (z : length m ≡ registerWords) where
   -- Every run keeps the memory well formed: no call of it is refused with 1.
@@ -83,7 +83,7 @@ module _ (m : List ℕ) (z : length m ≡ registerWords) where
   -- A save is accepted exactly when the history says that it is due.
   pub save-iff : (cs : List Call) (d : ℕ) → (accepted (reply (after m cs) (save d)) ≡ true) ↔ Due d (history m cs)
   save-iff cs d = (
-    λ a. rw (run-history m z cs) (save-only cs d (few cs) (rw (run-replies m z cs (save d)) at a)),
+    λ a. rw (run-history m z cs) (save-only cs d (few cs) (rw (run-replies m z cs (save d)) at a) .0),
     λ u. rw (save-due-does cs d (u .draft) (due-taken cs d u) .answer) refl,
   )
 
@@ -103,7 +103,7 @@ module _ (m : List ℕ) (z : length m ≡ registerWords) where
   pub taken-saveless : (cs : List Call) (d : ℕ)
       → accepted (reply (after m cs) (save d)) ≡ true
       → saveless (block d (history m cs)) ≡ true
-  taken-saveless cs d a = rw (run-history m z cs) (taken-clean cs d (rw (run-replies m z cs (save d)) at a))
+  taken-saveless cs d a = rw (run-history m z cs) (save-only cs d (few cs) (rw (run-replies m z cs (save d)) at a) .1)
 
   -- ---- (b) the list of demand 3
 

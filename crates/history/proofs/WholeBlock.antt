@@ -24,29 +24,20 @@ pub record Whole (d : ℕ) (past : List Event) (o : Opening) (b : List Event) : 
   pub held-since : stays d newer ≡ true
   pub is : b ≡ callsBy d newer ++ ((openHull d (o .hull) ⇒ its-reply) ∷ [])
 
-module _ {d : ℕ} {past : List Event} {o : Opening} {b : List Event} (e : Event) (w : Whole d past o b)
-    (s : (es : List Event) → stays d (e ∷ es) ≡ stays d es) where
-  passed : ((es : List Event) → callsBy d (e ∷ es) ≡ callsBy d es) → Whole d (e ∷ past) o b
-  passed c =
-      record {
-        newer = e ∷ w .newer;
-        its-reply = w .its-reply;
-        splits = ap (λ (es : List Event). e ∷ es) (w .splits);
-        made-it = w .made-it;
-        held-since = s (w .newer) ∙ w .held-since;
-        is = rw (c (w .newer)) (w .is);
-      }
-
-  joined : ((es : List Event) → callsBy d (e ∷ es) ≡ e ∷ callsBy d es) → Whole d (e ∷ past) o (e ∷ b)
-  joined c =
-      record {
-        newer = e ∷ w .newer;
-        its-reply = w .its-reply;
-        splits = ap (λ (es : List Event). e ∷ es) (w .splits);
-        made-it = w .made-it;
-        held-since = s (w .newer) ∙ w .held-since;
-        is = rw (c (w .newer)) (ap (λ (es : List Event). e ∷ es) (w .is));
-      }
+-- one event more, of which the block takes what the desk's calls take
+longer : {d : ℕ} {past : List Event} {o : Opening} {b c : List Event} (e : Event) (w : Whole d past o b)
+    → stays d (e ∷ w .newer) ≡ stays d (w .newer)
+    → c ≡ callsBy d (e ∷ w .newer) ++ ((openHull d (o .hull) ⇒ w .its-reply) ∷ [])
+    → Whole d (e ∷ past) o c
+longer e w s c =
+    record {
+      newer = e ∷ w .newer;
+      its-reply = w .its-reply;
+      splits = ap (λ (es : List Event). e ∷ es) (w .splits);
+      made-it = w .made-it;
+      held-since = s ∙ w .held-since;
+      is = c;
+    }
 
 whole-step : {d : ℕ} {e : Event} {s : Role} (past : List Event) (o : Opening)
     → Known d e s
@@ -57,11 +48,13 @@ unfolding block opening callsBy stays
 whole-step past o (an-open {h} {r} a) p q f =
     let u : _≡_ {A = Opening} (record { hull = h; before = past }) o = some-inj (rw (p, opening) at q) in
     rw (p, block, ← u) (record { newer = []; its-reply = r; splits = refl; made-it = a; held-since = refl; is = refl })
-whole-step past o some-work p q f = rw (p, block) (joined _ (f (rw (p, opening) at q)) (λ es. refl) (λ es. rw self))
-whole-step past o (vain-save a) p q f =
-    rw (p, block) (joined _ (f (rw (p, opening) at q)) (λ es. rw (self, a)) (λ es. rw self))
+whole-step {d} past o (some-work {w = x} {r}) p q f =
+    let w = f (rw (p, opening) at q) in rw (p, block) (longer (work d x ⇒ r) w refl (rw (self, ← w .is)))
+whole-step {d} past o (vain-save {r} a) p q f =
+    let w = f (rw (p, opening) at q) in rw (p, block) (longer (save d ⇒ r) w (rw (self, a)) (rw (self, ← w .is)))
 whole-step past o an-end p q f = absurd (none≢some (rw (p, opening) at q))
-whole-step past o (another e s c) p q f = rw (p, block) (passed _ (f (rw (p, opening) at q)) s c)
+whole-step past o (another e s c) p q f =
+    let w = f (rw (p, opening) at q) in rw (p, block) (longer e w (s (w .newer)) (rw (c (w .newer)) (w .is)))
 
 -- Where the history says that the desk holds a draft, its block is the draft's own open and every call on the draft
 -- since.
