@@ -19,8 +19,7 @@ use Rattle.history.proofs.Rules.{Idle, no-desk, no-draft, Refuses, unre
 use Rattle.history.proofs.Rules.{work-idle, save-idle, save-spent, save-stale, drop-idle, ask-unknown}
 use Rattle.history.proofs.Rules.{Way, new-enters, open-done, work-done, save-done, drop-done, ask-done, refused}
 use Rattle.history.proofs.SomeRule.{by-ways}
-use Rattle.history.proofs.Replay.{Ready, IfSavable, kept, lost}
-use Rattle.history.proofs.ReadyAgain.{opened-ready, worked-ready, store-ready}
+use Rattle.history.proofs.Replay.{Ready, IfSavable, kept, lost, opened-ready, worked-ready, store-ready}
 
 -- ---- every rule keeps every desk's draft and block so
 

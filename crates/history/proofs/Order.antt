@@ -9,7 +9,7 @@ use Rattle.register.specs.Calls.{newHull, openHull, work, save, dropDraft, ask}
 use Rattle.history.specs.Replies.{accepted}
 use Rattle.history.specs.Runs.{Event, _⇒_}
 use Rattle.history.specs.History.{Role, itsOpen, itsCall, itsEnd, elsewhere, role, block, spot, serial}
-use Rattle.history.proofs.Blocks.{Known, an-open, some-work, vain-save, an-end, another, known}
+use Rattle.history.proofs.WholeBlock.{Known, an-open, some-work, vain-save, an-end, another, known}
 
 -- ---- a block
 

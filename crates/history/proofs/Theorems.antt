@@ -75,10 +75,7 @@ module _ (m : List ℕ) (z : length m ≡ registerWords) where
   due-taken : (cs : List Call) (d : ℕ) (u : Due d (history m cs)) → Saved (stateOf cs) (eventsOf cs) d (u .draft)
   due-taken cs d u =
       let e = run-history m z cs in
-      let holds = u .holds in
-      let quiet = u .quiet in
-      let room = u .room in
-      save-taken cs d (u .draft) (rw e at holds) (rw e at quiet) (rw e at room)
+      save-taken cs d (u .draft) (rw e at (u .holds)) (rw e at (u .quiet)) (rw e at (u .room))
 
   -- A save is accepted exactly when the history says that it is due.
   pub save-iff : (cs : List Call) (d : ℕ) → (accepted (reply (after m cs) (save d)) ≡ true) ↔ Due d (history m cs)
