@@ -6,17 +6,16 @@ use mathlib.Core.Path.{_≡_, refl, sym, _∙_}
 use mathlib.Core.List.{List}
 use mathlib.Core.Bool.{true, false}
 use mathlib.Core.Option.{none, some}
-use borrow.Author.Tests.{eqb-false, eq-eqb, ne-eqb}
+use borrow.Author.Tests.{eqb-false}
 use Rattle.form.specs.Outcome.{took}
-use Rattle.answers.specs.Refusals.{editedSince, editsSpent}
 use Rattle.answers.specs.declared.Answer.{Answer}
 use Rattle.answers.specs.declared.Answer.the-variants.{Refused}
 use Rattle.answers.specs.Values.{isRefusal}
 use Rattle.sheet.specs.SheetText.{readSheet}
 use Rattle.memory.specs.Layout.{mostHulls, desks, edit, hullSheet, draftHull, draftSheet}
-use Rattle.memory.specs.Formed.{mostEdits, formed}
+use Rattle.memory.specs.Formed.{formed}
 use Rattle.memory.specs.Updates.{entered, opened, dropped, saved}
-use Rattle.register.specs.Refusals.{roomRefusal, hullRefusal, openRefusal, deskRefusal, saveOwn, orRefused, sheetOf}
+use Rattle.register.specs.Refusals.{roomRefusal, hullRefusal, openRefusal, deskRefusal, orRefused, sheetOf}
 use Rattle.register.specs.Calls.{Ask, Call, ask, lent, makes, fills, step}
 use Rattle.register.proofs.Refusals.{desk-high, desk-idle, desk-holds, room-left}
 use Rattle.register.proofs.Keeps.{keeps-formed}
@@ -131,13 +130,3 @@ module _ {m : List ℕ} {s : State} (S : Shows m s) where
               at-or d _ (λ l. rw (self, y .holds) refl)
               (λ j n l. rw n (same-draft-in (y .drafts j l (eqb-false j d n)) ∙ S .drafts j l));
         }
-
-    -- the save's own checks are those of the state
-    pub save-spends : editsOf s x ≡ x .opening → editsOf s x ≡ mostEdits → saveOwn m d ≡ editsSpent
-    save-spends e n = rw (its-number, shown-holds S p q .number, eq-eqb _ _ n, eq-eqb _ _ e) refl
-
-    pub save-late : (editsOf s x ≡ x .opening → ⊥) → saveOwn m d ≡ editedSince
-    save-late e = rw (its-number, shown-holds S p q .number, ne-eqb _ _ e) refl
-
-    pub save-goes : editsOf s x ≡ x .opening → (editsOf s x ≡ mostEdits → ⊥) → saveOwn m d ≡ 0
-    save-goes e n = rw (its-number, shown-holds S p q .number, ne-eqb _ _ n, eq-eqb _ _ e) refl

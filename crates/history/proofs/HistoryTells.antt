@@ -68,7 +68,8 @@ unfolding redo
 drawn-worked b none x d w e = absurd (none≢some e)
 drawn-worked b (some o) x d w e = let u : draftOf b o ≡ x = some-inj e in rw (← u) refl
 
-pub drawn-save : (b : List Event) (O : Option Opening) (d : ℕ) (r : Reply) → draftFrom ((save d ⇒ r) ∷ b) O ≡ draftFrom b O
+pub drawn-save : (b : List Event) (O : Option Opening) (d : ℕ) (r : Reply)
+    → draftFrom ((save d ⇒ r) ∷ b) O ≡ draftFrom b O
 unfolding redo
 drawn-save b none d r = refl
 drawn-save b (some o) d r = refl

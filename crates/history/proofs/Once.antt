@@ -34,11 +34,6 @@ unfolding sumBelow
 sum-more f n zero = let e : n + 0 ≡ n = omega arith in rw e (le-refl _)
 sum-more f n (suc j) = let h = sum-more f n j in let e : n + suc j ≡ suc (n + j) = omega arith in rw e (omega arith)
 
-sum-none : (n : ℕ) → sumBelow (λ (d : ℕ). 0) n ≡ 0
-unfolding sumBelow
-sum-none zero = refl
-sum-none (suc n) = let h = sum-none n in omega arith
-
 -- k is f but for desk g
 module _ (f k : ℕ → ℕ) (g : ℕ) (other : (d : ℕ) → eqb d g ≡ false → k d ≡ f d) where
   sum-before : (n : ℕ) → n ≤ g → sumBelow k n ≡ sumBelow f n
@@ -76,11 +71,11 @@ module _ (w : Event → ℕ) where
       go elsewhere p = rw (p, block) (omega arith)
 
   -- and where it is desk g's, to no block but that one
-  blocks-grow : (e : Event) (g : ℕ) (past : List Event) (n : ℕ)
+  grows : (e : Event) (g : ℕ) (past : List Event) (n : ℕ)
       → ((d : ℕ) → eqb d g ≡ false → role d e ≡ elsewhere)
       → sumBelow (held (e ∷ past)) n ≤ w e + sumBelow (held past) n
   unfolding held block
-  blocks-grow e g past n o =
+  grows e g past n o =
       sum-grows (held past) (held (e ∷ past)) g (λ d p. rw (o d p, block)) (w e) n (weigh g e past)
 
   -- the serial list, and the blocks of the desks below n
@@ -102,18 +97,19 @@ module _ (w : Event → ℕ) where
       rw (e, serial) in
       omega (arith, sum-more k n (suc g), weight-append w (block g past) (serial past), h (n + suc g)))
       (λ e.
-      let a = blocks-grow (save g ⇒ r) g past n (λ d o. rw o) in
+      let a = grows (save g ⇒ r) g past n (λ d o. rw o) in
       let q : weight w (serial ((save g ⇒ r) ∷ past)) ≡ weight w (serial past) = rw (e, serial) in
       omega (arith, h n))
 
   within : (past : List Event) (n : ℕ) → Within past n
-  unfolding Within held weight serial block role spot
-  within [] n = omega (arith, sum-none n)
+  unfolding Within held weight serial block role spot sumBelow
+  within [] zero = omega arith
+  within [] (suc n) = omega (arith, within [] n)
   within ((newHull t ⇒ r) ∷ past) n = omega (arith, within past n)
-  within ((openHull g k ⇒ r) ∷ past) n = omega (arith, within past n, blocks-grow (openHull g k ⇒ r) g past n (λ d o. rw o))
-  within ((work g x ⇒ r) ∷ past) n = omega (arith, within past n, blocks-grow (work g x ⇒ r) g past n (λ d o. rw o))
+  within ((openHull g k ⇒ r) ∷ past) n = omega (arith, within past n, grows (openHull g k ⇒ r) g past n (λ d o. rw o))
+  within ((work g x ⇒ r) ∷ past) n = omega (arith, within past n, grows (work g x ⇒ r) g past n (λ d o. rw o))
   within ((save g ⇒ r) ∷ past) n = saved-within g r past n (within past)
-  within ((dropDraft g ⇒ r) ∷ past) n = omega (arith, within past n, blocks-grow (dropDraft g ⇒ r) g past n (λ d o. rw o))
+  within ((dropDraft g ⇒ r) ∷ past) n = omega (arith, within past n, grows (dropDraft g ⇒ r) g past n (λ d o. rw o))
   within ((ask h q ⇒ r) ∷ past) n = omega (arith, within past n)
 
   -- Each call of a history is taken at most once.

@@ -25,7 +25,7 @@ pub data Idle (s : State) (d : ℕ) : ℕ → Type 0 where
 
 -- the state refuses the call with that number
 pub data Refuses (s : State) : Call → ℕ → Type 0 where
-  unread : {t : List ℕ} (n at : ℕ) → s .register .entered < mostHulls → readSheet t ≡ lost n at → Refuses s (newHull t) n
+  unread : {t : List ℕ} (n k : ℕ) → s .register .entered < mostHulls → readSheet t ≡ lost n k → Refuses s (newHull t) n
   no-room : {t : List ℕ} → mostHulls ≤ s .register .entered → Refuses s (newHull t) full
   open-unknown : {d h : ℕ} → d < desks → s .register .entered ≤ h → Refuses s (openHull d h) noHull
   open-high : {d h : ℕ} → desks ≤ d → Refuses s (openHull d h) noDesk

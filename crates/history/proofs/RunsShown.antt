@@ -4,6 +4,7 @@ use native.Mathlib.Numerals.{add-one}
 use mathlib.Core.Path.{_≡_, refl, sym}
 use mathlib.Core.List.{List, [], _∷_}
 use lib.ListN.{length}
+use borrow.Author.Tests.{eq-eqb, ne-eqb}
 use Rattle.answers.specs.declared.Answer.the-variants.{Refused, Done, Count}
 use Rattle.memory.specs.Layout.{registerWords}
 use Rattle.register.specs.Refusals.{onText}
@@ -22,8 +23,8 @@ use Rattle.history.proofs.Rules.{Way, new-enters, open-done, work-done,
 use Rattle.history.proofs.SomeRule.{by-ways}
 use Rattle.history.proofs.Shown.{Shows, fresh-shows, shown-few, shown-number, shown-holds}
 use Rattle.history.proofs.Worked.{works}
-use Rattle.history.proofs.CallsShown.{Tied, kept, done, asks, holds-desk, idle-desk, room, enters-shown, opens-shown}
-use Rattle.history.proofs.CallsShown.{drops-shown, its-number, saves-shown, save-spends, save-late, save-goes}
+use Rattle.history.proofs.CallsShown.{Tied, kept, done, asks, holds-desk, idle-desk, room, enters-shown}
+use Rattle.history.proofs.CallsShown.{opens-shown, drops-shown, its-number, saves-shown}
 
 -- ---- every rule
 
@@ -35,8 +36,11 @@ module _ {m : List ℕ} {s : State} (S : Shows m s) where
   refused-step (open-high {d} {h} p) = rw (← Refusals.open-high m d h (S .ok) p) refl
   refused-step (work-idle i) = idle-desk S _ i
   refused-step (save-idle i) = idle-desk S _ i
-  refused-step (save-spent x p q e n) = rw (holds-desk S p q, save-spends S x p q e n) refl
-  refused-step (save-stale x p q e) = rw (holds-desk S p q, save-late S x p q e) refl
+  refused-step (save-spent x p q e n) =
+      let number = shown-holds S p q .number in
+      rw (holds-desk S p q, its-number S x p q, number, eq-eqb _ _ n, eq-eqb _ _ e) refl
+  refused-step (save-stale x p q e) =
+      rw (holds-desk S p q, its-number S x p q, shown-holds S p q .number, ne-eqb _ _ e) refl
   refused-step (drop-idle i) = idle-desk S _ i
   refused-step (ask-unknown {h} p) = rw (← hull-absent m h (S .ok) (rw (S .counts) p)) refl
 
@@ -50,8 +54,10 @@ module _ {m : List ℕ} {s : State} (S : Shows m s) where
       (opens-shown S d h q z)
   tied-step (work-done {w} x p q) = works S (shown-holds S p q) w (holds-desk S p q)
   tied-step (save-done {d} x p q e n) =
+      let number = shown-holds S p q .number in
       done S (save d) (Count (suc (editsOf s x)))
-      (rw (holds-desk S p q, save-goes S x p q e n, its-number S x p q, add-one) refl) refl (saves-shown S x p q)
+      (rw (holds-desk S p q, its-number S x p q, number, ne-eqb _ _ n, eq-eqb _ _ e, add-one) refl) refl
+      (saves-shown S x p q)
   tied-step (drop-done {d} x p q) =
       let z = holds-desk S p q in done S (dropDraft d) Done (rw z refl) refl (drops-shown S d z)
   tied-step (ask-done {h} {q} p) = asks S h q p (sym (hull-there m h (S .ok) (rw (S .counts) p)))

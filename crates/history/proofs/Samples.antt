@@ -30,7 +30,7 @@ use Rattle.register.specs.Refusals.{deskRefusal, roomRefusal, openRefusal}
 use Rattle.register.specs.Calls.{Call, newHull, openHull, save}
 use Rattle.history.specs.Replies.{reply, next}
 
--- ---- what a case is of: a sheet, or a run of calls from fresh, each with the number that it answers or is refused with
+-- ---- a case is of a sheet, or of a run of calls from fresh, each with the number that it answers or is refused with
 
 data Turn : Type 0 where
   answers refused : Call → ℕ → Turn

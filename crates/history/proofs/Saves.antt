@@ -22,8 +22,10 @@ use Rattle.history.proofs.ModelStep.{step, stateOf, eventsOf}
 use Rattle.history.proofs.Rules.{Way, save-done, refused}
 use Rattle.history.proofs.SomeRule.{by-ways}
 use Rattle.history.proofs.AllReady.{Drafts, drafts}
-use Rattle.history.proofs.HistoryTells.{draftOf, draftFrom, Tells, From, drawn}
+use Rattle.history.proofs.HistoryTells.{draftOf, draftFrom, Tells, drawn}
 use Rattle.history.proofs.TellsEvery.{history-tells}
+
+-- ---- no save since an open, walked or counted
 
 -- a count that was k is n: it stood still, and it was quiet; or it moved, and it was not
 data Since (quiet : Bool) (n k : ℕ) : Type 0 where
@@ -77,7 +79,7 @@ due : (s : State) (past : List Event) (d : ℕ) {t : State} {r : Reply}
     → accepted r ≡ true
     → Due d past × (saveless (block d past) ≡ true)
 due s past d (save-done y p q u n) f ready few a =
-    let z : From (block d past) (opening d past) y = drawn (block d past) (opening d past) y (sym (f .drafts d) ∙ q) in
+    let z = drawn (block d past) (opening d past) y (sym (f .drafts d) ∙ q) in
     let o : Opening = z .from in
     let h : o .hull ≡ y .hull = ap (λ (x : Draft). x .hull) (z .draft) in
     let k : savesOf (o .hull) (o .before) ≡ y .opening = ap (λ (x : Draft). x .opening) (z .draft) in

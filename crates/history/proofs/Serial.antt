@@ -4,14 +4,13 @@ use mathlib.Core.Path.{_≡_, refl, ap, _∙_}
 use mathlib.Core.List.{List, [], _∷_, _++_, map}
 use Rattle.answers.specs.declared.Answer.the-variants.{Count}
 use Rattle.memory.specs.Formed.{mostEdits}
-use Rattle.register.specs.Calls.{Ask, Call, save, ask}
+use Rattle.register.specs.Calls.{Ask, Call, newHull, openHull, work, save, dropDraft, ask}
 use Rattle.history.specs.Replies.{Reply, says}
 use Rattle.history.specs.Runs.{Event, _⇒_, call}
 use Rattle.history.specs.History.{spot, serial}
 use Rattle.history.proofs.Model.{Draft, Register, State, askSays, refusal, store}
 use Rattle.history.proofs.ModelStep.{stateOf, eventsOf}
-use Rattle.history.proofs.Rules.{Refuses, unread, no-room, open-unknown, open-high}
-use Rattle.history.proofs.Rules.{work-idle, save-idle, save-spent, save-stale, drop-idle, ask-unknown}
+use Rattle.history.proofs.Rules.{Refuses, unread, no-room, ask-unknown}
 use Rattle.history.proofs.Rules.{Way, new-enters, open-done, work-done, save-done, drop-done, ask-done, refused}
 use Rattle.history.proofs.SomeRule.{by-ways}
 use Rattle.history.proofs.Replay.{state-by, events-by, Replays, Ready}
@@ -63,21 +62,18 @@ saves-runs {R} {es} {d} {x} {b} r u l g =
 
 -- ---- every rule. What is asked of a hull changes no register, so the list would run so without it too.
 
-serial-refused : (s : State) (past : List Event) {c : Call} {n : ℕ}
+serial-refused : {s : State} (past : List Event) (c : Call) {n : ℕ}
     → Refuses s c n
     → RunsTo (s .register) (serial past)
     → RunsTo (s .register) (serial ((c ⇒ refusal c n) ∷ past))
 unfolding serial spot
-serial-refused s past (unread n at p e) g = refused-runs g (unread n at (rw (g .register) p) e)
-serial-refused s past (no-room p) g = refused-runs g (no-room (rw (g .register) p))
-serial-refused s past (open-unknown p q) g = g
-serial-refused s past (open-high p) g = g
-serial-refused s past (work-idle i) g = g
-serial-refused s past (save-idle i) g = g
-serial-refused s past (save-spent y p q u l) g = g
-serial-refused s past (save-stale y p q u) g = g
-serial-refused s past (drop-idle i) g = g
-serial-refused s past (ask-unknown {h} {q} p) g =
+serial-refused past (newHull t) (unread n at p e) g = refused-runs g (unread n at (rw (g .register) p) e)
+serial-refused past (newHull t) (no-room p) g = refused-runs g (no-room (rw (g .register) p))
+serial-refused past (openHull d h) p g = g
+serial-refused past (work d w) p g = g
+serial-refused past (save d) p g = g
+serial-refused past (dropDraft d) p g = g
+serial-refused past (ask h q) (ask-unknown p) g =
     search (g, refused-runs g (ask-unknown {h = h} {q = q} (rw (g .register) p)))
 
 serial-step : (s : State) (past : List Event) {c : Call} {t : State} {r : Reply}
@@ -93,7 +89,7 @@ serial-step s past (work-done y p q) f g = g
 serial-step s past (save-done {d} y p q u l) f g = saves-runs (f d y q) u l g
 serial-step s past (drop-done y p q) f g = g
 serial-step s past (ask-done {h} {q} p) f g = search (g, asks-runs g h q p)
-serial-step s past (refused p) f g = serial-refused s past p g
+serial-step s past (refused p) f g = serial-refused past _ p g
 
 -- run from fresh, the serial list gives the same hulls and edit numbers, and the replies that its calls had
 pub serial-runs : (cs : List Call) → RunsTo (stateOf cs .register) (serial (eventsOf cs))

@@ -26,9 +26,9 @@ module _ {s : State} where
   fitted : {c : Call} {t : State} {r : Reply} → Way s c t r → Fits s c
   fitted p = record { state = _; reply = _; rule = p }
 
-  find-new : (t : List ℕ) → s .register .entered < mostHulls → (r : Found (List ℕ)) → readSheet t ≡ r → Fits s (newHull t)
-  find-new t p (took k r) e = fitted (new-enters k r p e)
-  find-new t p (lost n at) e = fitted (refused (unread n at p e))
+  find-new : (t : List ℕ) (r : Found (List ℕ)) → s .register .entered < mostHulls → readSheet t ≡ r → Fits s (newHull t)
+  find-new t (took k r) p e = fitted (new-enters k r p e)
+  find-new t (lost n at) p e = fitted (refused (unread n at p e))
 
   find-draft : (d : ℕ) {c : Call}
       → ((n : ℕ) → Idle s d n → Refuses s c n)
@@ -43,7 +43,7 @@ module _ {s : State} where
 
 some-way : (s : State) (c : Call) → Fits s c
 some-way s (newHull t) =
-    by-less (s .register .entered) mostHulls (λ p. find-new t p (readSheet t) refl) (λ p. fitted (refused (no-room p)))
+    by-less (s .register .entered) mostHulls (λ p. find-new t (readSheet t) p refl) (λ p. fitted (refused (no-room p)))
 some-way s (openHull d h) =
     by-less d desks
     (λ p. by-less h (s .register .entered) (λ q. fitted (open-done p q)) (λ q. fitted (refused (open-unknown p q))))

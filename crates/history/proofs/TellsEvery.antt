@@ -21,8 +21,7 @@ use Rattle.history.proofs.Rules.{Refuses, work-idle}
 use Rattle.history.proofs.Rules.{Way, new-enters, open-done, work-done, save-done, drop-done, ask-done, refused}
 use Rattle.history.proofs.SomeRule.{by-ways}
 use Rattle.history.proofs.AllReady.{Drafts, drafts, idle-none}
-use Rattle.history.proofs.HistoryTells.{toldDraft, Tells, From, drawn, drawn-none, drawn-opened, drawn-worked}
-use Rattle.history.proofs.HistoryTells.{drawn-save}
+use Rattle.history.proofs.HistoryTells.{toldDraft, Tells, drawn, drawn-none, drawn-opened, drawn-worked, drawn-save}
 
 -- ---- every rule
 
@@ -66,7 +65,7 @@ module _ {s : State} {past : List Event} (f : Tells s past) where
       → Tells (afterSave s g y) ((save g ⇒ says (Count n)) ∷ past)
   unfolding block opening savesOf isSaveOf role
   tells-saves g y n q k =
-      let z : From (block g past) (opening g past) y = drawn (block g past) (opening g past) y (sym (f .drafts g) ∙ q) in
+      let z = drawn (block g past) (opening g past) y (sym (f .drafts g) ∙ q) in
       let u : z .from .hull ≡ y .hull = ap (λ (x : Draft). x .hull) (z .draft) in
       record {
         edits = rw (z .is, u) (at-or (y .hull) _ (rw (self, f .edits (y .hull))) (λ h n. rw n (f .edits h)));
