@@ -8,4 +8,5 @@ pub mod TextCalls  -- the calls on texts answer and leave the same
 pub mod Memory  -- the memory's places and changes are the same
 pub mod Calls  -- the calls on the register answer and leave the same
 pub mod EachCall  -- each call on the register
+pub mod EveryReply  -- so the replies and memories of a run are the same
 pub mod Printed  -- the plate program prints the same

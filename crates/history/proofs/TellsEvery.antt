@@ -21,7 +21,8 @@ use Rattle.history.proofs.Rules.{Refuses, work-idle}
 use Rattle.history.proofs.Rules.{Way, new-enters, open-done, work-done, save-done, drop-done, ask-done, refused}
 use Rattle.history.proofs.SomeRule.{by-ways}
 use Rattle.history.proofs.AllReady.{Drafts, drafts, idle-none}
-use Rattle.history.proofs.HistoryTells.{toldDraft, Tells, drawn, drawn-none, drawn-opened, drawn-worked, drawn-save}
+use Rattle.history.proofs.HistoryTells.{toldDraft, Tells, drawn, drawn-none, drawn-opened, drawn-worked}
+use Rattle.history.proofs.HistoryTells.{drawn-save}
 
 -- ---- every rule
 

@@ -80,6 +80,7 @@ on-full : List Must
 on-full =
     (newHull text must Refused 4) ∷ (newHull [] must Refused 4) ∷ (newHull outside must Refused 4)
     ∷ (openHull 7 15 must Count 65535) ∷ (openHull 7 16 must Refused 5)
+    ∷ (ask 15 (write (replicate 238 7)) must Count 238) ∷ (ask 15 (write (replicate 237 7)) must Refused 16)
     ∷ []
 
 on-fifteen : List Must
@@ -102,8 +103,8 @@ on-small =
     ∷ (work 8 (replace []) must Refused 6) ∷ (work 8 (replace outside) must Refused 6)
     -- desks 7 and 8; a hull that is not entered
     ∷ (openHull 7 0 must Count 0) ∷ (openHull 8 0 must Refused 6) ∷ (openHull 7 1 must Refused 5)
-    ∷ (openHull 8 1 must Refused 6)
-    ∷ (dropDraft 7 must Done) ∷ (dropDraft 6 must Refused 7) ∷ (dropDraft 8 must Refused 6)
+    ∷ (openHull 8 1 must Refused 6) ∷ (dropDraft 7 must Done) ∷ (dropDraft 6 must Refused 7)
+    ∷ (dropDraft 8 must Refused 6)
     -- a fitting's line and weight
     ∷ (work 7 (put 1 1) must Done) ∷ (work 7 (put 24 500000) must Done) ∷ (work 7 (put 0 1) must Refused 3)
     ∷ (work 7 (put 25 1) must Refused 3) ∷ (work 7 (put 1 0) must Refused 3) ∷ (work 7 (put 1 500001) must Refused 3)
@@ -136,8 +137,7 @@ unfolding answered on-full on-fifteen on-edited on-small text outside ended smal
 calls-right = (refl, refl, refl, refl)
 
 -- fresh start looks at the size alone
-fresh-right :
-    map (λ (n : ℕ). freshStep (replicate n 99) .answer) (1672 ∷ 1673 ∷ 1674 ∷ [])
+fresh-right : map (λ (n : ℕ). freshStep (replicate n 99) .answer) (1672 ∷ 1673 ∷ 1674 ∷ [])
     ≡ Refused 1 ∷ Done ∷ Refused 1 ∷ []
 fresh-right = refl
 
@@ -145,6 +145,7 @@ fresh-right = refl
 written-right :
     (step small (ask 0 (write (replicate 240 7))) .output ≡ sheetText (0 ∷ sheet) ++ replicate 3 7)
     × (step full (ask 15 (write (replicate 240 7))) .output ≡ sheetText (15 ∷ sheet) ++ replicate 2 7)
+    × (step full (ask 15 (write (replicate 237 7))) .output ≡ replicate 237 7)
 unfolding small full sheet hulls draft idle formed each hullOk draftOk hullRefusal allHold sheetLimits limitsOn
     sheetText sheetForm rowsOn fitRows partsText rowsText kindOf numbersText digitsOf digitsIn
-written-right = (refl, refl)
+written-right = (refl, refl, refl)

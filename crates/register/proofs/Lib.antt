@@ -5,5 +5,6 @@ pub mod Refusals  -- what calls share
 pub mod Own  -- what only one call asks
 pub mod Keeps  -- a well-formed memory stays so
 pub mod Effects  -- a refused call leaves all; what an accepted one makes
+pub mod Makes  -- the change that each accepted call is
 pub mod First  -- what comes first
 pub mod Listed  -- refusals are of the list

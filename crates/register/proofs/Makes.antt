@@ -1,0 +1,50 @@
+-- What the step of each accepted call makes of the memory, by the change that it is; and a refused writing leaves the
+-- lent output.
+use mathlib.Core.Path.{_≡_, refl}
+use mathlib.Core.Bool.{true}
+use mathlib.Core.List.{List}
+use Prim.Native.Nat.{ℕ}
+use Rattle.form.specs.Outcome.{took}
+use Rattle.answers.specs.Values.{isRefusal}
+use Rattle.sheet.specs.SheetText.{readSheet}
+use Rattle.memory.specs.Layout.{draftSheet}
+use Rattle.memory.specs.Updates.{entered, opened, fitted, replaced, dropped, saved}
+use Rattle.register.specs.Refusals.{roomRefusal, openRefusal, deskRefusal, putOwn, takeOwn, saveOwn, sheetOf}
+use Rattle.register.specs.Refusals.{onText}
+use Rattle.register.specs.Calls.{put, takeOff, replace, write, newHull, openHull, work, save, dropDraft, ask}
+use Rattle.register.specs.Calls.{step}
+use Rattle.register.proofs.Effects.{refused-leaves}
+
+module _ (m : List ℕ) (d : ℕ) (z : deskRefusal m d ≡ 0) where
+  pub put-makes : (line w : ℕ) → putOwn line w ≡ 0 → step m (work d (put line w)) .memory ≡ fitted m d line w
+  put-makes line w y = rw (z, y) refl
+
+  pub take-makes : (line : ℕ)
+      → takeOwn (draftSheet m d) line ≡ 0
+      → step m (work d (takeOff line)) .memory ≡ fitted m d line 0
+  take-makes line y = rw (z, y) refl
+
+  pub replace-makes : (t : List ℕ) (k : ℕ) (s : List ℕ)
+      → readSheet t ≡ took k s
+      → step m (work d (replace t)) .memory ≡ replaced m d (sheetOf t)
+  replace-makes t k s e = rw (z, e, onText) refl
+
+  pub save-makes : saveOwn m d ≡ 0 → step m (save d) .memory ≡ saved m d
+  save-makes y = rw (z, y) refl
+
+  pub drop-makes : step m (dropDraft d) .memory ≡ dropped m d
+  drop-makes = rw z refl
+
+pub open-makes : (m : List ℕ) (d h : ℕ) → openRefusal m d h ≡ 0 → step m (openHull d h) .memory ≡ opened m d h
+open-makes m d h z = rw z refl
+
+pub new-makes : (m t : List ℕ) (k : ℕ) (s : List ℕ)
+    → roomRefusal m ≡ 0
+    → readSheet t ≡ took k s
+    → step m (newHull t) .memory ≡ entered m (sheetOf t)
+new-makes m t k s z e = rw (z, e, onText) refl
+
+pub written-kept : (m : List ℕ) (h : ℕ) (out : List ℕ)
+    → isRefusal (step m (ask h (write out)) .answer) ≡ true
+    → step m (ask h (write out)) .output ≡ out
+written-kept m h out e = refused-leaves m (ask h (write out)) e .output-kept
