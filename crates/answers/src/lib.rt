@@ -1,8 +1,8 @@
 // What a call answers: the refusals by name and number, the answer inside the house, and the answer as C reads it.
 // Definitions in specs/, laws in proofs/.
 
-// The refusals: the one table for the code. A test holds it to the definitions', specs/Refusals.antt, to the header's and
-// to the man page's.
+// The refusals: the one table for the code. A test holds it to the definitions' (specs/Refusals.antt), the header's and
+// the man page's.
 pub const BAD_MEMORY: u32 = 1;
 
 pub const BROKEN_LINE: u32 = 2;

@@ -89,7 +89,8 @@ pub extern "C" fn wb_take_off(mem: &mut [u32], desk: u32, line: u32) -> WbAnswer
 // Makes a desk's draft the sheet of a text.
 #[no_mangle]
 pub extern "C" fn wb_replace(mem: &mut [u32], desk: u32, text: &[u8]) -> WbAnswer
-    ensures { λ r. ⌜ WbChanges (step (now (mem .entry)) (work desk (replace (now (text .entry))))) r (now (mem .exit)) ⌝ }
+    ensures { λ r. ⌜ WbChanges (step (now (mem .entry)) (work desk (replace (now (text .entry))))) r
+        (now (mem .exit)) ⌝ }
 {
     face(answering::replace(mem, desk, text))
 }

@@ -86,8 +86,7 @@ on-full =
 on-fifteen : List Must
 on-fifteen = (newHull text must Count 15) ∷ []
 
--- edit numbers 65534 and 65535; a draft that is behind, of a hull that can be saved and of one that cannot; no draft,
--- no desk
+-- edit numbers 65534, 65535; a draft behind, of a hull that can be saved and of one that cannot; no draft; no desk
 on-edited : List Must
 on-edited =
     (save 6 must Count 65535) ∷ (save 7 must Refused 9) ∷ (save 4 must Refused 8) ∷ (save 5 must Refused 8)
