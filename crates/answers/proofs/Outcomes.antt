@@ -4,7 +4,7 @@ use mathlib.Core.Bool.{true}
 use mathlib.Core.Logic.{_⊎_, inl, inr}
 use Prim.Native.Nat.{ℕ}
 use Rattle.answers.specs.declared.Answer.{Answer}
-use Rattle.answers.specs.declared.Answer.the-variants.{Refused}
+use Rattle.answers.specs.declared.Answer.the-variants.{RefusedAt}
 use Rattle.answers.specs.Values.{isListed}
 use Rattle.answers.specs.Settled.{Settled}
 
@@ -19,6 +19,6 @@ abbrev pub OfList : Answer → Type 0
 OfList a = isListed a ≡ true
 
 -- the refusals of a text are
-pub text-listed : {number : ℕ} → (number ≡ 2) ⊎ (number ≡ 3) → OfList (Refused number)
-text-listed (inl e) = rw e refl
-text-listed (inr e) = rw e refl
+pub text-listed : {number : ℕ} (line byte : ℕ) → (number ≡ 2) ⊎ (number ≡ 3) → OfList (RefusedAt number line byte)
+text-listed line byte (inl e) = rw e refl
+text-listed line byte (inr e) = rw e refl

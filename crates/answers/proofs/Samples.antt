@@ -2,7 +2,7 @@
 use mathlib.Core.Path.{_≡_, refl}
 use mathlib.Core.List.{List, [], _∷_, map}
 use Prim.Native.Nat.{ℕ}
-use Rattle.answers.specs.declared.Answer.the-variants.{Refused, Done, Count, Plate}
+use Rattle.answers.specs.declared.Answer.the-variants.{Refused, RefusedAt, Done, Count, Plate}
 use Rattle.answers.specs.Refusals.{badMemory, brokenLine, outsideLimits, full, noHull, noDesk, noDraft}
 use Rattle.answers.specs.Refusals.{editedSince, editsSpent, badRows, noRow, noLoad, noPower, untested, noPersons}
 use Rattle.answers.specs.Refusals.{noRoom, emptyLine}
@@ -18,13 +18,17 @@ refusals-right = refl
 
 -- the list ends at both ends
 listed-right :
-    map isListed (Refused 0 ∷ Refused 1 ∷ Refused 17 ∷ Refused 18 ∷ Done ∷ Count 0 ∷ Plate 0 0 ∷ [])
-    ≡ false ∷ true ∷ true ∷ false ∷ true ∷ true ∷ true ∷ []
+    map isListed (
+    Refused 0 ∷ Refused 1 ∷ Refused 17 ∷ Refused 18
+    ∷ RefusedAt 0 4 5 ∷ RefusedAt 1 4 5 ∷ RefusedAt 17 4 5 ∷ RefusedAt 18 4 5
+    ∷ Done ∷ Count 0 ∷ Plate 0 0 ∷ [])
+    ≡ false ∷ true ∷ true ∷ false ∷ false ∷ true ∷ true ∷ false ∷ true ∷ true ∷ true ∷ []
 listed-right = refl
 
 answers-right :
-    map faced (Refused 12 ∷ Done ∷ Count 718 ∷ Plate 326 20000 ∷ [])
+    map faced (Refused 12 ∷ RefusedAt 2 35 1 ∷ Done ∷ Count 718 ∷ Plate 326 20000 ∷ [])
     ≡ record { refusal = 12; first = 0; second = 0; third = 0 }
+    ∷ record { refusal = 2; first = 35; second = 1; third = 0 }
     ∷ record { refusal = 0; first = 0; second = 0; third = 0 }
     ∷ record { refusal = 0; first = 718; second = 0; third = 0 }
     ∷ record { refusal = 0; first = 326; second = 20000; third = 0 } ∷ []

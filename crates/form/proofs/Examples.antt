@@ -10,8 +10,9 @@ use Rattle.text.specs.Field.{fieldOf, agreed}
 use Rattle.text.specs.Number.{numberOf, restOf, digitsIn, digitsOf}
 use Rattle.text.specs.Limit.{ranging, allHold}
 use Rattle.text.specs.Line.{Line, readEntry, readNumbers, readLine, numbersText}
+use Rattle.text.specs.Place.{feeds, sinceFeed}
 use Rattle.form.specs.Parts.{Form, Rows, lineRow, someLines, risingLines, oneLine, maybeLine, kindOf}
-use Rattle.form.specs.Outcome.{Found, took, lost}
+use Rattle.form.specs.Outcome.{Verdict, says, wrong}
 use Rattle.form.specs.Reading.{readRows, readParts, readForm}
 use Rattle.form.specs.Writing.{rowsOk, partOk, partsOk, rowsText, partsText, formOk, formText}
 
@@ -58,7 +59,7 @@ rows =
 text : List ℕ
 text = bytes "SQUARE\t7\t8\nROUND\t9\nLEVEL\t2\t0\nLEVEL\t4\t5\nEND\n"
 
-text-reads : readForm store text ≡ took 43 rows
+text-reads : readForm store text ≡ says rows
 unfolding store roundLine squareLine shelfLine noteLine endLine text rows
     readForm readParts readRows kindOf readLine readNumbers readEntry agreed fieldOf numberOf restOf
 text-reads = refl
@@ -85,19 +86,19 @@ readings =
     ∷ "ROUND\t1\nROUND\t1\nROUND\t1\nROUND\t1\nROUND\t1\nROUND\t1\nROUND\t1\nROUND\t"
     ∷ []
 
--- how a reading ended, whatever it found
-ended : Found (List Rows) → Found ℕ
-ended (took k v) = took k 0
-ended (lost number at) = lost number at
+-- how a reading ended, whatever was said
+ended : Verdict (List Rows) → Verdict ℕ
+ended (says v) = says 0
+ended (wrong number line byte) = wrong number line byte
 
 readings-right :
     map (λ (s : String). ended (readForm store (bytes s))) readings
-    ≡ lost 2 0 ∷ lost 2 16 ∷ lost 2 0 ∷ lost 2 1
-    ∷ lost 3 24 ∷ lost 3 24 ∷ lost 3 14
-    ∷ lost 2 38
-    ∷ took 17 0 ∷ lost 2 13 ∷ lost 2 8 ∷ lost 2 12 ∷ lost 2 0
-    ∷ lost 2 16 ∷ lost 2 0
+    ≡ wrong 2 1 1 ∷ wrong 2 3 1 ∷ wrong 2 1 1 ∷ wrong 2 1 2
+    ∷ wrong 3 3 7 ∷ wrong 3 3 7 ∷ wrong 3 2 7
+    ∷ wrong 2 5 1
+    ∷ says 0 ∷ wrong 2 3 1 ∷ wrong 2 2 1 ∷ wrong 2 3 1 ∷ wrong 2 1 1
+    ∷ wrong 2 3 1 ∷ wrong 2 0 0
     ∷ []
-unfolding store roundLine squareLine shelfLine noteLine endLine readings ended
+unfolding store roundLine squareLine shelfLine noteLine endLine readings ended feeds sinceFeed
     readForm readParts readRows kindOf readLine readNumbers readEntry agreed fieldOf numberOf restOf
 readings-right = refl

@@ -1,10 +1,11 @@
 -- 01, Refusal numbers: a text of any form is refused with 2 or 3 and with no other number.
-use mathlib.Core.Path.{_≡_, refl}
-use mathlib.Core.Bool.{Bool, true}
-use mathlib.Core.Logic.{_⊎_}
+use mathlib.Core.Path.{_≡_, refl, sym, _∙_}
+use mathlib.Core.Bool.{Bool, true, false}
+use mathlib.Core.Logic.{_⊎_, inl}
 use mathlib.Core.List.{List, [], _∷_}
 use mathlib.Core.Option.{Option, none, some}
 use Prim.Native.Nat.{ℕ, zero, suc, _-_}
+use borrow.Author.Tests.{ltb-true, ltb-false}
 use lib.Dec.{eqb, ltb}
 use lib.ListN.{length, drop}
 use Rattle.text.specs.declared.LineRead.{LineRead}
@@ -13,8 +14,9 @@ use Rattle.text.specs.Line.{Line, Reading, readLine}
 use Rattle.ground.proofs.Booleans.{either}
 use Rattle.text.proofs.Faults.{Textual, twoOrThree, two-or-three, line-textual}
 use Rattle.form.specs.Parts.{Part, Form, Row, Rows, lineRow, letterOf, raised, nextAfter}
-use Rattle.form.specs.Outcome.{Found, took, lost, outcome, mapped, ahead, chained}
+use Rattle.form.specs.Outcome.{Found, took, lost, outcome, mapped, ahead, chained, wrong}
 use Rattle.form.specs.Reading.{kindAt, readRow, noMore, readRows, readParts, readForm}
+use Rattle.form.proofs.Verdict.{form-long, form-wrong}
 
 -- found, or lost with one of the two
 abbrev pub plain : {A : Type 0} → Found A → Bool
@@ -24,7 +26,7 @@ plain (lost number at) = twoOrThree number
 abbrev pub Plain : {A : Type 0} → Found A → Type 0
 Plain q = plain q ≡ true
 
-pub fault : {A : Type 0} (q : Found A) (number at : ℕ) → Plain q → q ≡ lost number at → (number ≡ 2) ⊎ (number ≡ 3)
+fault : {A : Type 0} (q : Found A) (number at : ℕ) → Plain q → q ≡ lost number at → (number ≡ 2) ⊎ (number ≡ 3)
 fault q number at h e = two-or-three number (rw e at h)
 
 ahead-plain : {A : Type 0} (k : ℕ) (a : A) (q : Found (List A)) → Plain q → Plain (ahead k a q)
@@ -37,7 +39,7 @@ chained-plain : {A : Type 0} (q : Found A) (next : A → List ℕ → Found (Lis
 chained-plain (took k a) next t h n = ahead-plain k a (next a (drop k t)) (n a (drop k t))
 chained-plain (lost number at) next t h n = h
 
-pub mapped-plain : {A B : Type 0} (f : A → B) (q : Found A) → Plain q → Plain (mapped f q)
+mapped-plain : {A B : Type 0} (f : A → B) (q : Found A) → Plain q → Plain (mapped f q)
 mapped-plain f (took k a) h = h
 mapped-plain f (lost number at) h = h
 
@@ -80,6 +82,15 @@ parts-plain (p ∷ ps) t =
     (rows-plain p (p .most) (p .least) 0 t)
     (λ (rs : Rows). parts-plain ps)
 
-pub form-plain : (f : Form) (t : List ℕ) → Plain (readForm f t)
-unfolding readForm
-form-plain f t = either (Plain {A = List Rows}) (ltb (f .room) (length t)) refl (parts-plain (f .parts) t)
+-- of a whole text, which may be too long
+pub form-fault : (f : Form) (t : List ℕ) (number line byte : ℕ) → readForm f t ≡ wrong number line byte
+    → (number ≡ 2) ⊎ (number ≡ 3)
+form-fault f t number line byte e = go (ltb (f .room) (length t)) refl
+  where
+    go : (u : Bool) → ltb (f .room) (length t) ≡ u → (number ≡ 2) ⊎ (number ≡ 3)
+    go true d =
+        let c : wrong 2 0 0 ≡ wrong number line byte = sym (form-long f t (ltb-true (f .room) (length t) d)) ∙ e in
+        inl cc
+    go false d =
+        let p = form-wrong f t number line byte (ltb-false (f .room) (length t) d) e in
+        fault (readParts (f .parts) t) number (p .at) (parts-plain (f .parts) t) (p .found)

@@ -10,10 +10,11 @@ use lib.Dec.{leb, ltb}
 use lib.ListN.{length, drop, length-append}
 use Rattle.ground.proofs.Booleans.{both-hold}
 use Rattle.form.specs.Parts.{Part, Form, Rows}
-use Rattle.form.specs.Outcome.{took}
+use Rattle.form.specs.Outcome.{took, says, placed}
 use Rattle.form.specs.Reading.{kindAt, readRows, readStop, readParts, readForm}
 use Rattle.form.specs.Writing.{partOk, partsOk, rowsText, partsText, formOk, formText}
 use Rattle.form.proofs.Chain.{lost-not-found, chain-forth, chain-back}
+use Rattle.form.proofs.Verdict.{form-says}
 use Rattle.form.proofs.Letters.{kindsMade}
 use Rattle.form.proofs.Held.{part-held, held-part}
 use Rattle.form.proofs.Most.{partsMost, parts-most}
@@ -53,17 +54,17 @@ parts-forth (p ∷ ps) (rs ∷ v) m h =
 -- of every well-made form, the text of rows within the limits gives those rows
 pub written-reads : (f : Form) (v : List Rows) → wellMade f ≡ true
     → formOk f v ≡ true
-    → readForm f (formText f v) ≡ took (length (formText f v)) v
+    → readForm f (formText f v) ≡ says v
 unfolding wellMade readForm
 written-reads f v m h =
     let ms = both-hold (partsMade (f .parts)) (leb (partsMost (f .parts)) (f .room)) m in
     let n = leb-true (partsMost (f .parts)) (f .room) (ms .1) in
     let fits = le-ltb (f .room) (length (formText f v)) (omega (arith, parts-most (f .parts) v h)) in
-    rw fits (parts-forth (f .parts) v (ms .0) h)
+    rw fits (ap (placed (formText f v)) (parts-forth (f .parts) v (ms .0) h))
 
 -- ---- what reads is what would be written
 
-pub record Said (ps : List Part) (t : List ℕ) (k : ℕ) (v : List Rows) : Type 0 where
+record Said (ps : List Part) (t : List ℕ) (k : ℕ) (v : List Rows) : Type 0 where
   pub is : t ≡ partsText ps v
   pub within : partsOk ps v ≡ true
   pub count : k ≡ length t
@@ -103,10 +104,9 @@ parts-back (p ∷ ps) t k v e =
     more-back p ps t (c .first) (c .rest) (c .a) (c .more) (c .both) (c .all) rows rest
 
 -- of every form, what reads is what would be written, and is within the limits
-pub reads-written : (f : Form) (t : List ℕ) (k : ℕ) (v : List Rows) → readForm f t ≡ took k v → Said (f .parts) t k v
-unfolding readForm
-reads-written f t k v e = go (ltb (f .room) (length t)) refl
-  where
-    go : (u : Bool) → ltb (f .room) (length t) ≡ u → Said (f .parts) t k v
-    go true d = absurd (lost-not-found (rw d at e))
-    go false d = parts-back (f .parts) t k v (rw d at e)
+pub reads-written : (f : Form) (t : List ℕ) (v : List Rows) → readForm f t ≡ says v
+    → (t ≡ formText f v) × (formOk f v ≡ true)
+reads-written f t v e =
+    let (k, d) = form-says f t v e in
+    let p = parts-back (f .parts) t k v d in
+    (p .is, p .within)

@@ -1,9 +1,11 @@
--- What the start of a text gives: how many bytes and what they say, or a refusal's number and its place.
+-- What the start of a text gives: how many bytes and what they say, or a refusal's number and its place; and what a
+-- whole text gives.
 use Prim.Native.Nat.{ℕ, _+_}
 use mathlib.Core.List.{List, _∷_}
 use lib.ListN.{drop}
 use Rattle.text.specs.declared.LineRead.the-variants.{Taken, Fault}
 use Rattle.text.specs.Line.{Reading}
+use Rattle.text.specs.Place.{lineAt, byteAt}
 
 pub data Found (A : Type 0) : Type 0 where
   took : ℕ → A → Found A
@@ -28,3 +30,21 @@ module _ {A : Type 0} where
   abbrev pub chained : Found A → (A → List ℕ → Found (List A)) → List ℕ → Found (List A)
   chained (took k a) next t = ahead k a (next a (drop k t))
   chained (lost number at) next t = lost number at
+
+-- ---- a whole text
+
+-- what it says; or, 02 (v), a refusal's number with the line and the byte, both from 1, or both 0 for a text too long
+pub data Verdict (A : Type 0) : Type 0 where
+  says : A → Verdict A
+  wrong : ℕ → ℕ → ℕ → Verdict A
+
+module _ {A : Type 0} where
+  -- by what was found from the start of t to its end
+  abbrev pub placed : List ℕ → Found A → Verdict A
+  placed t (took k a) = says a
+  placed t (lost number at) = wrong number (lineAt t at) (byteAt t at)
+
+module _ {A B : Type 0} where
+  abbrev pub saying : (A → B) → Verdict A → Verdict B
+  saying f (says a) = says (f a)
+  saying f (wrong number line byte) = wrong number line byte

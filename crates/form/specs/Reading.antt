@@ -9,7 +9,7 @@ use lib.ListN.{length}
 use Rattle.answers.specs.Refusals.{brokenLine}
 use Rattle.text.specs.Line.{Line, readLine}
 use Rattle.form.specs.Parts.{Part, Form, Row, Rows, lineRow, letterOf, kindOf, raised, nextAfter}
-use Rattle.form.specs.Outcome.{Found, took, lost, outcome, mapped, chained}
+use Rattle.form.specs.Outcome.{Found, took, lost, outcome, mapped, chained, Verdict, wrong, placed}
 
 -- the kind of line that t begins as
 abbrev pub kindAt : List Line → List ℕ → Option Line
@@ -41,6 +41,6 @@ unfoldable pub readParts : List Part → List ℕ → Found (List Rows)
 readParts [] t = readStop t
 readParts (p ∷ ps) t = chained (readRows p (p .most) (p .least) 0 t) (λ (rs : Rows). readParts ps) t
 
--- a text that is too long has no place at fault, and 0 stands for it
-unfoldable pub readForm : Form → List ℕ → Found (List Rows)
-readForm f t = cond (ltb (f .room) (length t)) (lost brokenLine 0) (readParts (f .parts) t)
+-- a text too long is not read: it has no place at fault
+unfoldable pub readForm : Form → List ℕ → Verdict (List Rows)
+readForm f t = cond (ltb (f .room) (length t)) (wrong brokenLine 0 0) (placed t (readParts (f .parts) t))

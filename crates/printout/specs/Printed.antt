@@ -1,5 +1,6 @@
 -- 01, Sample sheets, on what the program prints: a line for plate A and one for plate C, or one line for an input at
 -- fault, of the sheet before the engine rows. As in a sheet, tabs part the fields and a line feed ends the line.
+-- 02 (v): a fault's line and byte come after its number; lines are counted in each of the two texts from 1.
 use Prim.Native.Nat.{ℕ}
 use mathlib.Core.Bool.{cond}
 use mathlib.Core.List.{List, [], _∷_, _++_}
@@ -10,8 +11,8 @@ use Rattle.text.specs.Limit.{ranging}
 use Rattle.text.specs.Line.{Line, lineText}
 use Rattle.answers.specs.Refusals.{brokenLine, noRoom}
 use Rattle.answers.specs.declared.Answer.{Answer}
-use Rattle.answers.specs.declared.Answer.the-variants.{Refused, Done, Count, Plate}
-use Rattle.form.specs.Outcome.{took, lost}
+use Rattle.answers.specs.declared.Answer.the-variants.{Refused, RefusedAt, Done, Count, Plate}
+use Rattle.form.specs.Outcome.{says, wrong}
 use Rattle.sheet.specs.SheetText.{readSheet}
 use Rattle.sheet.specs.EngineText.{readEngines, powersOf, weightsOf}
 use Rattle.ground.specs.Lists.{putFirst}
@@ -23,13 +24,14 @@ use Rattle.printout.specs.Input.{mostInput, sheetPart, enginePart}
 abbrev pub figures : List ℕ → ℕ → Line
 figures tag count = record { tag = tag; limits = replicate count (ranging 0 4294967295) }
 
-abbrev pub inputText : ℕ → List ℕ
-inputText number = lineText (figures (bytes "INPUT\t") 1) (number ∷ [])
+abbrev pub inputText : ℕ → ℕ → ℕ → List ℕ
+inputText number line byte = lineText (figures (bytes "INPUT\t") 3) (number ∷ line ∷ byte ∷ [])
 
 -- a plate's line, by the tags of a marked and of a refused one; plates A and C are one or the other
 abbrev pub plateText : List ℕ → List ℕ → Answer → List ℕ
 plateText marked refused (Plate load figure) = lineText (figures marked 2) (load ∷ figure ∷ [])
 plateText marked refused (Refused number) = lineText (figures refused 1) (number ∷ [])
+plateText marked refused (RefusedAt number line byte) = []
 plateText marked refused Done = []
 plateText marked refused (Count n) = []
 
@@ -42,17 +44,17 @@ platesText s ps ws =
 unfoldable pub rowsPrinted : List ℕ → List ℕ → List ℕ
 rowsPrinted s t =
     elim (readEngines t) [
-      | took k rows ↦ platesText s (powersOf rows) (weightsOf rows)
-      | lost number at ↦ inputText number
+      | says rows ↦ platesText s (powersOf rows) (weightsOf rows)
+      | wrong number line byte ↦ inputText number line byte
     ]
 
 -- what is printed of an input; the HULL number is not used
 unfoldable pub printed : List ℕ → List ℕ
 printed t =
-    cond (ltb mostInput (length t)) (inputText brokenLine)
+    cond (ltb mostInput (length t)) (inputText brokenLine 0 0)
     (elim (readSheet (sheetPart t)) [
-      | took k s ↦ rowsPrinted (drop 1 s) (enginePart t)
-      | lost number at ↦ inputText number
+      | says s ↦ rowsPrinted (drop 1 s) (enginePart t)
+      | wrong number line byte ↦ inputText number line byte
     ])
 
 -- ---- the call, into a lent buffer

@@ -4,7 +4,7 @@ use Prim.Native.Nat.{ℕ, _+_}
 use mathlib.Core.List.{List, [], _∷_}
 use lib.ListN.{length}
 use Rattle.answers.specs.declared.Answer.{Answer}
-use Rattle.answers.specs.declared.Answer.the-variants.{Refused, Done, Count}
+use Rattle.answers.specs.declared.Answer.the-variants.{Done, Count}
 use Rattle.answers.specs.declared.WbAnswer.{WbAnswer}
 use Rattle.answers.specs.Settled.{Settled}
 use Rattle.answers.specs.Values.{faced}
@@ -66,7 +66,7 @@ shared m (ask h q) = hullRefusal m h
 abbrev pub workAnswer : Work → List ℕ → Answer
 workAnswer (put line weight) s = orRefused (putOwn line weight) Done
 workAnswer (takeOff line) s = orRefused (takeOwn s line) Done
-workAnswer (replace t) s = onText t Done Refused
+workAnswer (replace t) s = onText t Done
 workAnswer (tryPlate k) s = plateOf k s
 
 -- what is asked of hull h, whose sheet is s; it is written under the register's number
@@ -76,7 +76,7 @@ askAnswer h (write out) s = writeAnswer (h ∷ s) (length out)
 
 -- a new hull answers its number; open and save answer the edit number
 abbrev pub own : List ℕ → Call → Answer
-own m (newHull t) = onText t (Count (hullCount m)) Refused
+own m (newHull t) = onText t (Count (hullCount m))
 own m (openHull d h) = Count (edit m h)
 own m (work d w) = workAnswer w (draftSheet m d)
 own m (save d) = orRefused (saveOwn m d) (Count (edit m (draftHull m d) + 1))

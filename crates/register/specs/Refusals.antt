@@ -1,15 +1,16 @@
 -- 01, Refusal numbers, the order of the checks: the memory, the desk, the hull, the draft, and then what only this call
--- asks. A refusal is its number, and 0 stands for none. A refused call changes nothing.
+-- asks. A refusal is its number, and 0 stands for none; that of a text has its place too. A refused call changes
+-- nothing.
 use Prim.Native.Nat.{ℕ}
 use mathlib.Core.Bool.{_&&_, cond}
 use mathlib.Core.List.{List, []}
 use lib.Dec.{eqb, leb, ltb}
 use lib.ListN.{length, getD, drop}
-use Rattle.form.specs.Outcome.{took, lost}
+use Rattle.form.specs.Outcome.{says, wrong}
 use Rattle.answers.specs.Refusals.{badMemory, outsideLimits, full, noHull, noDesk, noDraft, editedSince, editsSpent}
 use Rattle.answers.specs.Refusals.{emptyLine}
 use Rattle.answers.specs.declared.Answer.{Answer}
-use Rattle.answers.specs.declared.Answer.the-variants.{Refused, Done, Count, Plate}
+use Rattle.answers.specs.declared.Answer.the-variants.{Refused, RefusedAt, Done, Count, Plate}
 use Rattle.sheet.specs.Places.{fittingWord}
 use Rattle.sheet.specs.Lines.{fittings, fittingHigh}
 use Rattle.sheet.specs.SheetText.{readSheet}
@@ -64,6 +65,7 @@ orRefused refusal a = cond (eqb refusal 0) a (Refused refusal)
 -- what a call that so answers leaves: refused, what was there before it
 abbrev pub leaves : {A : Type 0} → Answer → A → A → A
 leaves (Refused number) after before = before
+leaves (RefusedAt number line byte) after before = before
 leaves Done after before = after
 leaves (Count n) after before = after
 leaves (Plate load figure) after before = after
@@ -72,7 +74,7 @@ leaves (Plate load figure) after before = after
 
 -- the sheet of a text that can be read, without its HULL number, which is judged and then ignored
 abbrev pub sheetOf : List ℕ → List ℕ
-sheetOf t = elim (readSheet t) [ took k s ↦ drop 1 s | lost number at ↦ [] ]
+sheetOf t = elim (readSheet t) [ says s ↦ drop 1 s | wrong number line byte ↦ [] ]
 
-abbrev pub onText : {A : Type 0} → List ℕ → A → (ℕ → A) → A
-onText t read refused = elim (readSheet t) [ took k s ↦ read | lost number at ↦ refused number ]
+abbrev pub onText : List ℕ → Answer → Answer
+onText t read = elim (readSheet t) [ says s ↦ read | wrong number line byte ↦ RefusedAt number line byte ]

@@ -4,7 +4,7 @@ use mathlib.Core.Bool.{Bool}
 use mathlib.Core.List.{List, [], _∷_, map}
 use lib.ListN.{getD}
 use Rattle.form.specs.Parts.{Part, Form, Row, Rows, lineRow, risingLines, letterOf}
-use Rattle.form.specs.Outcome.{Found, mapped}
+use Rattle.form.specs.Outcome.{Verdict, saying}
 use Rattle.form.specs.Reading.{readForm}
 use Rattle.form.specs.Writing.{formOk, formText}
 use Rattle.sheet.specs.Lines.{engineLine, mostRows, mostBytes}
@@ -40,8 +40,8 @@ engineRows (p ∷ ps) (w ∷ ws) = lineRow (letterOf engineLine) (p ∷ w ∷ []
 abbrev pub enginesOk : Rows → Bool
 enginesOk rs = formOk engineForm (rs ∷ [])
 
-unfoldable pub readEngines : List ℕ → Found Rows
-readEngines t = mapped onlyRows (readForm engineForm t)
+unfoldable pub readEngines : List ℕ → Verdict Rows
+readEngines t = saying onlyRows (readForm engineForm t)
 
 unfoldable pub enginesText : List ℕ → List ℕ → List ℕ
 enginesText ps ws = formText engineForm (engineRows ps ws ∷ [])

@@ -7,7 +7,7 @@ use lib.Dec.{eqb}
 use lib.ListN.{length, take, drop, getD, replicate}
 use Rattle.text.specs.Line.{Line}
 use Rattle.form.specs.Parts.{Part, Form, Rows, lineRow, oneLine, risingLines, letterOf, numbersOf}
-use Rattle.form.specs.Outcome.{Found, mapped}
+use Rattle.form.specs.Outcome.{Verdict, saying}
 use Rattle.form.specs.Reading.{readForm}
 use Rattle.form.specs.Writing.{formText}
 use Rattle.sheet.specs.Lines.{lines, fittings, fitLine, endLine, mostBytes}
@@ -72,8 +72,8 @@ rowsOf s = rowsOn lines s
 
 -- ---- reading and writing
 
-unfoldable pub readSheet : List ℕ → Found (List ℕ)
-readSheet t = mapped sheetOf (readForm sheetForm t)
+unfoldable pub readSheet : List ℕ → Verdict (List ℕ)
+readSheet t = saying sheetOf (readForm sheetForm t)
 
 unfoldable pub sheetText : List ℕ → List ℕ
 sheetText s = formText sheetForm (rowsOf s)

@@ -1,0 +1,85 @@
+-- What a whole text gives, by what was found from its start: it is too long, and then has no place; or it was read, and
+-- what is refused has the line and the byte of the place found.
+use mathlib.Core.Path.{_≡_, refl, sym, ap, _∙_}
+use mathlib.Core.Bool.{Bool, true, false}
+use mathlib.Core.List.{List}
+use Prim.Native.Nat.{ℕ, _<_, _≤_}
+use native.Mathlib.Omega.{arith}
+use borrow.Author.Tests.{ltb-true, ltb-false, lt-ltb, le-ltb}
+use lib.Dec.{ltb}
+use lib.ListN.{length}
+use Rattle.answers.specs.Refusals.{brokenLine}
+use Rattle.text.specs.Place.{lineAt, byteAt}
+use Rattle.form.specs.Parts.{Form, Rows}
+use Rattle.form.specs.Outcome.{Found, took, lost, Verdict, says, wrong, placed, saying}
+use Rattle.form.specs.Reading.{readParts, readForm}
+
+pub wrong-not-said : {A : Type 0} {number line byte : ℕ} {a : A} → wrong number line byte ≡ says a → ⊥
+wrong-not-said e = let z : _≡_ {A = ℕ} 0 1 = cc in absurd (omega arith)
+
+-- ---- what was said is said of what was found
+
+pub placed-says : {A : Type 0} (t : List ℕ) (q : Found A) (a : A) → placed t q ≡ says a → (k : ℕ) × (q ≡ took k a)
+placed-says t (took k b) a e = (k, cc)
+placed-says t (lost number at) a e = absurd (wrong-not-said e)
+
+pub saying-says : {A B : Type 0} (f : A → B) (q : Verdict A) (b : B) → saying f q ≡ says b
+    → (a : A) × (q ≡ says a) × (b ≡ f a)
+saying-says f (says a) b e = (a, refl, cc)
+saying-says f (wrong number line byte) b e = absurd (wrong-not-said e)
+
+pub saying-wrong : {A B : Type 0} (f : A → B) (q : Verdict A) (number line byte : ℕ)
+    → saying f q ≡ wrong number line byte
+    → q ≡ wrong number line byte
+saying-wrong f (says a) number line byte e = absurd (wrong-not-said (sym e))
+saying-wrong f (wrong n l b) number line byte e = cc
+
+-- ---- a text of a form
+
+module _ (f : Form) (t : List ℕ) where
+  pub form-long : f .room < length t → readForm f t ≡ wrong brokenLine 0 0
+  unfolding readForm
+  form-long h = rw (lt-ltb (f .room) (length t) h)
+
+  pub form-read : length t ≤ f .room → readForm f t ≡ placed t (readParts (f .parts) t)
+  unfolding readForm
+  form-read h = rw (le-ltb (f .room) (length t) h)
+
+  -- a text that says something was found whole
+  pub form-says : (v : List Rows) → readForm f t ≡ says v → (k : ℕ) × (readParts (f .parts) t ≡ took k v)
+  form-says v e = go (ltb (f .room) (length t)) refl
+    where
+      go : (u : Bool) → ltb (f .room) (length t) ≡ u → (k : ℕ) × (readParts (f .parts) t ≡ took k v)
+      go true d = absurd (wrong-not-said (sym (form-long (ltb-true (f .room) (length t) d)) ∙ e))
+      go false d =
+          placed-says t (readParts (f .parts) t) v (sym (form-read (ltb-false (f .room) (length t) d)) ∙ e)
+
+  -- the refusal of a text that is read, by the place of it
+  pub record FoundAt (number line byte : ℕ) : Type 0 where
+    pub at : ℕ
+    pub found : readParts (f .parts) t ≡ lost number at
+    pub on-line : line ≡ lineAt t at
+    pub on-byte : byte ≡ byteAt t at
+
+  pub form-wrong : (number line byte : ℕ) → length t ≤ f .room
+      → readForm f t ≡ wrong number line byte
+      → FoundAt number line byte
+  form-wrong number line byte h e = go (readParts (f .parts) t) refl (sym (form-read h) ∙ e)
+    where
+      go : (q : Found (List Rows)) → readParts (f .parts) t ≡ q
+          → placed t q ≡ wrong number line byte
+          → FoundAt number line byte
+      go (took k v) d c = absurd (wrong-not-said (sym c))
+      go (lost n at) d c =
+          let same : n ≡ number = cc in
+          record { at = at; found = d ∙ rw same; on-line = cc; on-byte = cc }
+
+  -- line 0 is that of a text too long, and of no other
+  pub no-line : (number byte : ℕ) → readForm f t ≡ wrong number 0 byte → f .room < length t
+  no-line number byte e = go (ltb (f .room) (length t)) refl
+    where
+      go : (u : Bool) → ltb (f .room) (length t) ≡ u → f .room < length t
+      go true d = ltb-true (f .room) (length t) d
+      go false d =
+          let p = form-wrong number 0 byte (ltb-false (f .room) (length t) d) e in
+          absurd (omega (arith, p .on-line))
