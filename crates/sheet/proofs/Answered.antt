@@ -8,10 +8,11 @@ use Rattle.text.specs.Field.{fieldOf, agreed}
 use Rattle.text.specs.Number.{restOf, numberOf, digitsIn, digitsOf}
 use Rattle.text.specs.Limit.{allHold}
 use Rattle.text.specs.Line.{readEntry, readNumbers, readLine, numbersText}
+use Rattle.text.specs.Place.{feeds, sinceFeed}
 use Rattle.answers.specs.declared.Answer.{Answer}
-use Rattle.answers.specs.declared.Answer.the-variants.{Refused, Done, Count}
+use Rattle.answers.specs.declared.Answer.the-variants.{Refused, RefusedAt, Done, Count}
 use Rattle.form.specs.Parts.{kindOf}
-use Rattle.form.specs.Outcome.{took, lost}
+use Rattle.form.specs.Outcome.{says, wrong}
 use Rattle.form.specs.Reading.{readRows, readParts, readForm}
 use Rattle.form.specs.Writing.{rowsText, partsText}
 use Rattle.sheet.specs.Sheet.{limitsOn, sheetLimits}
@@ -19,8 +20,8 @@ use Rattle.sheet.specs.SheetText.{sheetForm, fitRows, rowsOn, sheetText}
 use Rattle.sheet.specs.EngineText.{engineForm, readEngines}
 use Rattle.sheet.specs.TextCalls.{readAnswer, writeAnswer, enginesAnswer}
 
--- a reading's place is not told, its number is
-read-right : map readAnswer (took 237 [] ∷ lost 2 7 ∷ lost 3 9 ∷ []) ≡ Done ∷ Refused 2 ∷ Refused 3 ∷ []
+-- a refusal of a text with its place
+read-right : map readAnswer (says [] ∷ wrong 2 35 1 ∷ wrong 3 10 6 ∷ []) ≡ Done ∷ RefusedAt 2 35 1 ∷ RefusedAt 3 10 6 ∷ []
 read-right = refl
 
 -- the least sheet there is, under a hull number, and its text of 156 bytes
@@ -44,8 +45,8 @@ rows t a b = enginesAnswer (readEngines t) a b
 engines-answered :
     rows (bytes "ENG\t1\t0\nENG\t2\t0\n") 2 2
     ∷ rows (bytes "ENG\t1\t0\nENG\t2\t0\n") 1 2 ∷ rows (bytes "ENG\t1\t0\nENG\t2\t0\n") 2 1
-    ∷ rows [] 0 0 ∷ rows (bytes "ENG\t0\t0\n") 0 0 ∷ []
-    ≡ Count 2 ∷ Refused 16 ∷ Refused 16 ∷ Refused 2 ∷ Refused 3 ∷ []
+    ∷ rows [] 0 0 ∷ rows (bytes "ENG\t1\t0\nENG\t0\t0\n") 0 0 ∷ []
+    ≡ Count 2 ∷ Refused 16 ∷ Refused 16 ∷ RefusedAt 2 1 1 ∷ RefusedAt 3 2 5 ∷ []
 unfolding rows readEngines engineForm readForm readParts readRows kindOf
-    readLine agreed readNumbers readEntry fieldOf numberOf restOf
+    readLine agreed readNumbers readEntry fieldOf numberOf restOf feeds sinceFeed
 engines-answered = refl

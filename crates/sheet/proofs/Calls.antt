@@ -8,7 +8,7 @@ use borrow.Author.Tests.{le-leb}
 use lib.ListN.{length, take, drop}
 use lib.Seq.{take-append-seam}
 use Rattle.answers.specs.declared.Answer.the-variants.{Done, Count}
-use Rattle.form.specs.Outcome.{Found, took, lost}
+use Rattle.form.specs.Outcome.{Verdict, says, wrong}
 use Rattle.sheet.specs.Sheet.{sheetOk}
 use Rattle.sheet.specs.SheetText.{readSheet, sheetText}
 use Rattle.sheet.specs.TextCalls.{readAnswer, readInto, writeAnswer, writeInto}
@@ -32,9 +32,9 @@ pub write-then-read : (s out before : List ℕ) → sheetOk s ≡ true
 write-then-read s out before h r =
     ap (λ (t : List ℕ). readInto (readSheet t) before) (wrote s out h r .bytes) ∙ rw (written-reads s h)
 
-taken-done : (q : Found (List ℕ)) → readAnswer q ≡ Done → (k : ℕ) × (s : List ℕ) × (q ≡ took k s)
-taken-done (took k s) e = (k, s, refl)
-taken-done (lost number at) e = let z : _≡_ {A = ℕ} 0 1 = cc in absurd (omega arith)
+done-says : (q : Verdict (List ℕ)) → readAnswer q ≡ Done → (s : List ℕ) × (q ≡ says s)
+done-says (says s) e = (s, refl)
+done-says (wrong number line byte) e = let z : _≡_ {A = ℕ} 0 1 = cc in absurd (omega arith)
 
 -- writing what was read gives the text
 pub read-then-write : (t before out : List ℕ) → readAnswer (readSheet t) ≡ Done
@@ -42,10 +42,10 @@ pub read-then-write : (t before out : List ℕ) → readAnswer (readSheet t) ≡
     → (writeAnswer (readInto (readSheet t) before) (length out) ≡ Count (length t))
     × (take (length t) (writeInto (readInto (readSheet t) before) out) ≡ t)
 read-then-write t before out d r =
-    let k = taken-done (readSheet t) d in
-    let s : List ℕ = k .1 in
-    let w = reads-written t (k .0) s (k .2) in
+    let k = done-says (readSheet t) d in
+    let s : List ℕ = k .0 in
+    let w = reads-written t s (k .1) in
     let n : length (sheetText s) ≡ length t = ap length (sym (w .text)) in
     let p = wrote s out (w .within) (omega arith) in
-    rw (k .2)
+    rw (k .1)
     (p .answer ∙ ap Count n, ap (λ (j : ℕ). take j (writeInto s out)) (sym n) ∙ p .bytes ∙ sym (w .text))

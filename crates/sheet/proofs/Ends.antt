@@ -14,7 +14,7 @@ use Rattle.text.specs.Number.{restOf, numberOf, digitsIn, digitsOf}
 use Rattle.text.specs.Limit.{allHold}
 use Rattle.text.specs.Line.{readEntry, readNumbers, readLine}
 use Rattle.answers.specs.declared.Answer.{Answer}
-use Rattle.answers.specs.declared.Answer.the-variants.{Refused, Done, Count, Plate}
+use Rattle.answers.specs.declared.Answer.the-variants.{Refused, RefusedAt, Done, Count, Plate}
 use Rattle.sheet.specs.Sheet.{limitsOn, sheetLimits, sheetOk, wordsOk}
 use Rattle.form.specs.Parts.{kindOf}
 use Rattle.form.specs.Reading.{readRows, readParts, readForm}
@@ -84,12 +84,14 @@ text =
 
 is-done : Answer → Bool
 is-done (Refused n) = false
+is-done (RefusedAt n line byte) = false
 is-done Done = true
 is-done (Count n) = false
 is-done (Plate a b) = false
 
 is-outside : Answer → Bool
-is-outside (Refused n) = eqb n 3
+is-outside (Refused n) = false
+is-outside (RefusedAt n line byte) = eqb n 3
 is-outside Done = false
 is-outside (Count n) = false
 is-outside (Plate a b) = false

@@ -7,8 +7,9 @@ use Rattle.text.specs.Quoted.{bytes}
 use Rattle.text.specs.Field.{fieldOf, agreed}
 use Rattle.text.specs.Number.{restOf, numberOf, digitsIn, digitsOf}
 use Rattle.text.specs.Line.{readEntry, readNumbers, readLine, numbersText}
+use Rattle.text.specs.Place.{feeds, sinceFeed}
 use Rattle.form.specs.Parts.{kindOf}
-use Rattle.form.specs.Outcome.{took, lost}
+use Rattle.form.specs.Outcome.{says, wrong}
 use Rattle.form.specs.Reading.{readRows, readParts, readForm}
 use Rattle.form.specs.Writing.{rowsText, partsText}
 use Rattle.sheet.specs.EngineText.{engineForm, engineRows, readEngines, enginesText}
@@ -34,13 +35,13 @@ engineTexts =
 
 engines-right :
     map (λ (t : List ℕ). ended (readEngines t)) engineTexts
-    ≡ lost 2 0 ∷ taken 8 ∷ taken 19 ∷ lost 2 7
-    ∷ lost 3 4 ∷ lost 3 12 ∷ lost 3 4 ∷ lost 3 6
-    ∷ lost 2 10
-    ∷ taken 351 ∷ lost 2 351
-    ∷ lost 2 1 ∷ lost 2 0
+    ≡ wrong 2 1 1 ∷ taken ∷ taken ∷ wrong 2 1 8
+    ∷ wrong 3 1 5 ∷ wrong 3 2 5 ∷ wrong 3 1 5 ∷ wrong 3 1 7
+    ∷ wrong 2 2 3
+    ∷ taken ∷ wrong 2 41 1
+    ∷ wrong 2 1 2 ∷ wrong 2 0 0
     ∷ []
-unfolding ended taken engineTexts rows readEngines engineForm digitsOf digitsIn
+unfolding ended engineTexts rows readEngines engineForm digitsOf digitsIn feeds sinceFeed
     readForm readParts readRows kindOf readLine agreed readNumbers readEntry fieldOf numberOf restOf
 engines-right = refl
 
@@ -59,7 +60,7 @@ weights : List ℕ
 weights =
     15000 ∷ 20000 ∷ 43000 ∷ 84000 ∷ 106000 ∷ 159000 ∷ 208000 ∷ 285000 ∷ 294000 ∷ 328000 ∷ 346000 ∷ 391000 ∷ 415000 ∷ []
 
-table-reads : readEngines table ≡ took 217 (engineRows powers weights)
+table-reads : readEngines table ≡ says (engineRows powers weights)
 unfolding table powers weights engineRows readEngines engineForm
     readForm readParts readRows kindOf readLine agreed readNumbers readEntry fieldOf numberOf restOf
 table-reads = refl

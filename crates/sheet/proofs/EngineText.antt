@@ -9,14 +9,14 @@ use native.Mathlib.Omega.{arith}
 use lib.ListN.{length, length-map}
 use Rattle.ground.proofs.Booleans.{both-hold}
 use Rattle.form.specs.Parts.{Row, Rows, nextAfter}
-use Rattle.form.specs.Outcome.{Found, took, lost, mapped}
+use Rattle.form.specs.Outcome.{says, wrong}
 use Rattle.form.specs.Reading.{readForm}
-use Rattle.form.specs.Writing.{rowOk, rowsOk, partOk, partsOk, formText}
-use Rattle.form.proofs.Chain.{lost-not-found}
+use Rattle.form.specs.Writing.{rowOk, rowsOk, partOk, partsOk, formOk, formText}
+use Rattle.form.proofs.Verdict.{saying-says, saying-wrong}
 use Rattle.form.proofs.Held.{part-held, PartHeld}
 use Rattle.form.proofs.Pairs.{Pair, pairRow, pair}
 use Rattle.form.proofs.Trip as T
-use Rattle.form.proofs.Faults.{fault, mapped-plain, form-plain}
+use Rattle.form.proofs.Faults.{form-fault}
 use Rattle.sheet.specs.Lines.{enginePowerHigh, engineWeightHigh, engineLine, mostRows}
 use Rattle.sheet.specs.EngineText.{enginePart, engineForm, onlyRows, powersOf, weightsOf, engineRows}
 use Rattle.sheet.specs.EngineText.{readEngines, enginesOk, enginesText}
@@ -71,39 +71,35 @@ engines-held rs h = part-held enginePart rs (both-hold (partOk enginePart rs) tr
 
 -- for rows within the limits, reading what their columns are written as gives those rows
 pub written-reads : (ps ws : List ℕ) → enginesOk (engineRows ps ws) ≡ true
-    → readEngines (enginesText ps ws) ≡ took (length (enginesText ps ws)) (engineRows ps ws)
+    → readEngines (enginesText ps ws) ≡ says (engineRows ps ws)
 unfolding readEngines enginesText
 written-reads ps ws h = rw (T.written-reads engineForm (engineRows ps ws ∷ []) engines-made h)
 
 -- what a text that reads as rows is
-pub record Written (t : List ℕ) (k : ℕ) (rs : Rows) : Type 0 where
+pub record Written (t : List ℕ) (rs : Rows) : Type 0 where
   pub text : t ≡ enginesText (powersOf rs) (weightsOf rs)
   pub within : enginesOk rs ≡ true
-  pub count : k ≡ length t
 
 -- for every text that reads as rows, writing those rows gives the same bytes
-pub reads-written : (t : List ℕ) (k : ℕ) (rs : Rows) → readEngines t ≡ took k rs → Written t k rs
+pub reads-written : (t : List ℕ) (rs : Rows) → readEngines t ≡ says rs → Written t rs
 unfolding readEngines enginesText partsOk engineForm
-reads-written t k rs e = go (readForm engineForm t) refl e
+reads-written t rs e =
+    let (v, f, is) = saying-says onlyRows (readForm engineForm t) rs e in
+    let (text, within) = T.reads-written engineForm t v f in
+    rw is (only v text within)
   where
     said : (qs : Rows) → enginesOk qs ≡ true → qs ≡ engineRows (powersOf qs) (weightsOf qs)
     said qs h = sym (rows-columns qs 0 (engines-held qs h .held))
 
-    only : (j : ℕ) (v : List Rows) → took j (onlyRows v) ≡ took k rs → T.Said (engineForm .parts) t j v → Written t k rs
-    only j [] d b = absurd (true≢false (sym (b .within)))
-    only j (qs ∷ q ∷ v) d b = absurd (true≢false (sym (both-hold (partOk enginePart qs) false (b .within) .1)))
-    only j (qs ∷ []) d b =
-        let x : k ≡ j = cc in
-        let y : rs ≡ qs = cc in
-        let r = b .is ∙ ap (λ (z : Rows). formText engineForm (z ∷ [])) (said qs (b .within)) in
-        rw (x, y) (record { text = r; within = b .within; count = b .count })
-
-    go : (q : Found (List Rows)) → readForm engineForm t ≡ q → mapped onlyRows q ≡ took k rs → Written t k rs
-    go (took j v) f d = only j v d (T.reads-written engineForm t j v f)
-    go (lost number at) f d = absurd (lost-not-found d)
+    only : (v : List Rows) → t ≡ formText engineForm v → formOk engineForm v ≡ true → Written t (onlyRows v)
+    only [] d b = absurd (true≢false (sym b))
+    only (qs ∷ q ∷ v) d b = absurd (true≢false (sym (both-hold (partOk enginePart qs) false b .1)))
+    only (qs ∷ []) d b =
+        record { text = d ∙ ap (λ (z : Rows). formText engineForm (z ∷ [])) (said qs b); within = b }
 
 -- a text of engine rows too is refused with 2 or 3 alone
-pub engines-fault : (t : List ℕ) (number at : ℕ) → readEngines t ≡ lost number at → (number ≡ 2) ⊎ (number ≡ 3)
+pub engines-fault : (t : List ℕ) (number line byte : ℕ) → readEngines t ≡ wrong number line byte
+    → (number ≡ 2) ⊎ (number ≡ 3)
 unfolding readEngines
-engines-fault t number at e =
-    fault (readEngines t) number at (mapped-plain onlyRows (readForm engineForm t) (form-plain engineForm t)) e
+engines-fault t number line byte e =
+    form-fault engineForm t number line byte (saying-wrong onlyRows (readForm engineForm t) number line byte e)

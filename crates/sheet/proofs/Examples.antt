@@ -8,8 +8,9 @@ use Rattle.text.specs.Quoted.{bytes}
 use Rattle.text.specs.Field.{fieldOf, agreed}
 use Rattle.text.specs.Number.{restOf, numberOf, digitsIn, digitsOf}
 use Rattle.text.specs.Line.{readEntry, readNumbers, readLine, numbersText}
+use Rattle.text.specs.Place.{feeds, sinceFeed}
 use Rattle.form.specs.Parts.{kindOf, numbersOf}
-use Rattle.form.specs.Outcome.{Found, took, lost}
+use Rattle.form.specs.Outcome.{Verdict, says, wrong}
 use Rattle.form.specs.Reading.{readRows, readParts, readForm}
 use Rattle.form.specs.Writing.{rowsText, partsText}
 use Rattle.sheet.specs.SheetText.{sheetForm, weightsFrom, fitRows, fitsOf, numbersOn, rowsOn}
@@ -26,7 +27,7 @@ numbers =
     0 ∷ 4500 ∷ 4000 ∷ 1200 ∷ 500 ∷ 0 ∷ 1 ∷ (station ++ (station ++ (station ++ (station
     ++ (0 ∷ 0 ∷ 0 ∷ 200000 ∷ 0 ∷ 0 ∷ 1 ∷ 20000 ∷ 5 ∷ 3 ∷ 3334 ∷ replicate 23 0)))))
 
-sample-reads : readSheet sample ≡ took 237 numbers
+sample-reads : readSheet sample ≡ says numbers
 unfolding station numbers readSheet sheetForm numbersOn numbersOf fitsOf weightsFrom
     readForm readParts readRows kindOf readLine agreed readNumbers readEntry fieldOf numberOf restOf
 sample-reads = refl
@@ -38,13 +39,13 @@ sample-written = refl
 
 -- ---- where a reader slips: each text, and how its reading must end
 
--- how a reading ended, whatever it found
-unfoldable pub ended : {A : Type 0} → Found A → Found ℕ
-ended (took k a) = took k 0
-ended (lost number at) = lost number at
+-- how a reading ended, whatever was said
+unfoldable pub ended : {A : Type 0} → Verdict A → Verdict ℕ
+ended (says a) = says 0
+ended (wrong number line byte) = wrong number line byte
 
-unfoldable pub taken : ℕ → Found ℕ
-taken k = took k 0
+abbrev pub taken : Verdict ℕ
+taken = says 0
 
 withHull : String → List ℕ
 withHull line = sheetWith line form mass power seats (bytes "END\n")
@@ -93,17 +94,17 @@ texts =
 
 texts-right :
     map (λ (t : List ℕ). ended (readSheet t)) texts
-    ≡ lost 2 0 ∷ lost 2 233 ∷ lost 2 236 ∷ lost 2 237
-    ∷ lost 3 5 ∷ taken 227
-    ∷ lost 3 12
-    ∷ lost 3 17 ∷ lost 2 21 ∷ lost 2 16
-    ∷ lost 3 220 ∷ taken 226 ∷ lost 2 218
-    ∷ lost 3 207 ∷ lost 3 207 ∷ lost 2 217
-    ∷ taken 226 ∷ lost 3 226 ∷ lost 3 228 ∷ lost 3 234 ∷ lost 3 243 ∷ lost 3 226
-    ∷ taken 433 ∷ lost 2 429 ∷ lost 2 224
-    ∷ lost 2 6 ∷ lost 2 0
+    ≡ wrong 2 1 1 ∷ wrong 2 12 1 ∷ wrong 2 12 4 ∷ wrong 2 13 1
+    ∷ wrong 3 1 6 ∷ taken
+    ∷ wrong 3 2 6
+    ∷ wrong 3 2 11 ∷ wrong 2 2 15 ∷ wrong 2 2 10
+    ∷ wrong 3 10 8 ∷ taken ∷ wrong 2 10 6
+    ∷ wrong 3 9 7 ∷ wrong 3 9 7 ∷ wrong 2 9 17
+    ∷ taken ∷ wrong 3 11 5 ∷ wrong 3 11 7 ∷ wrong 3 12 5 ∷ wrong 3 13 5 ∷ wrong 3 11 5
+    ∷ taken ∷ wrong 2 35 1 ∷ wrong 2 11 3
+    ∷ wrong 2 1 7 ∷ wrong 2 0 0
     ∷ []
-unfolding ended taken texts withHull withForm withPower withSeats withFits fits
-    readSheet sheetForm digitsOf digitsIn
+unfolding ended texts withHull withForm withPower withSeats withFits fits
+    readSheet sheetForm digitsOf digitsIn feeds sinceFeed
     readForm readParts readRows kindOf readLine agreed readNumbers readEntry fieldOf numberOf restOf
 texts-right = refl

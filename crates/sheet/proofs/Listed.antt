@@ -8,7 +8,7 @@ use lib.ListN.{length}
 use Rattle.ground.proofs.Booleans.{either}
 use Rattle.answers.proofs.Outcomes.{OfList, text-listed}
 use Rattle.form.specs.Parts.{Rows}
-use Rattle.form.specs.Outcome.{Found, took, lost}
+use Rattle.form.specs.Outcome.{Verdict, says, wrong}
 use Rattle.sheet.specs.Sheet.{sheetOk}
 use Rattle.sheet.specs.SheetText.{readSheet, sheetText}
 use Rattle.sheet.specs.EngineText.{readEngines}
@@ -19,9 +19,9 @@ use Rattle.sheet.proofs.EngineText.{engines-fault}
 pub read-listed : (t : List ℕ) → OfList (readAnswer (readSheet t))
 read-listed t = go (readSheet t) refl
   where
-    go : (q : Found (List ℕ)) → readSheet t ≡ q → OfList (readAnswer q)
-    go (took k s) e = refl
-    go (lost number at) e = text-listed (sheet-fault t number at e)
+    go : (q : Verdict (List ℕ)) → readSheet t ≡ q → OfList (readAnswer q)
+    go (says s) e = refl
+    go (wrong number line byte) e = text-listed line byte (sheet-fault t number line byte e)
 
 pub write-listed : (s : List ℕ) (room : ℕ) → OfList (writeAnswer s room)
 write-listed s room = go (sheetOk s) (leb (length (sheetText s)) room) refl refl
@@ -35,6 +35,6 @@ write-listed s room = go (sheetOk s) (leb (length (sheetText s)) room) refl refl
 pub engines-listed : (t : List ℕ) (a b : ℕ) → OfList (enginesAnswer (readEngines t) a b)
 engines-listed t a b = go (readEngines t) refl
   where
-    go : (q : Found Rows) → readEngines t ≡ q → OfList (enginesAnswer q a b)
-    go (took k rows) e = either OfList (rowsFit rows a b) refl refl
-    go (lost number at) e = text-listed (engines-fault t number at e)
+    go : (q : Verdict Rows) → readEngines t ≡ q → OfList (enginesAnswer q a b)
+    go (says rows) e = either OfList (rowsFit rows a b) refl refl
+    go (wrong number line byte) e = text-listed line byte (engines-fault t number line byte e)

@@ -9,9 +9,9 @@ use Rattle.ground.specs.Lists.{putFirst}
 use Rattle.ground.proofs.Booleans.{false-true}
 use Rattle.answers.specs.Values.{isRefusal}
 use Rattle.answers.specs.Refusals.{outsideLimits, noRoom}
-use Rattle.answers.specs.declared.Answer.the-variants.{Refused, Count}
+use Rattle.answers.specs.declared.Answer.the-variants.{Refused, RefusedAt, Count}
 use Rattle.form.specs.Parts.{Rows}
-use Rattle.form.specs.Outcome.{Found, took, lost}
+use Rattle.form.specs.Outcome.{Verdict, says, wrong}
 use Rattle.sheet.specs.Sheet.{sheetOk}
 use Rattle.sheet.specs.SheetText.{readSheet, sheetText}
 use Rattle.sheet.specs.EngineText.{readEngines}
@@ -24,9 +24,9 @@ use Rattle.sheet.specs.TextCalls.{rowsFit, enginesAnswer, columnsInto}
 pub outside-first : (s : List ℕ) (room : ℕ) → sheetOk s ≡ false → writeAnswer s room ≡ Refused outsideLimits
 outside-first s room e = rw e refl
 
-pub fault-first : (t : List ℕ) (a b number at : ℕ) → readEngines t ≡ lost number at
-    → enginesAnswer (readEngines t) a b ≡ Refused number
-fault-first t a b number at e = rw e refl
+pub fault-first : (t : List ℕ) (a b number line byte : ℕ) → readEngines t ≡ wrong number line byte
+    → enginesAnswer (readEngines t) a b ≡ RefusedAt number line byte
+fault-first t a b number line byte e = rw e refl
 
 -- ---- a refused call leaves what was lent
 
@@ -34,9 +34,9 @@ pub read-refused : (t before : List ℕ) → isRefusal (readAnswer (readSheet t)
     → readInto (readSheet t) before ≡ before
 read-refused t before = go (readSheet t)
   where
-    go : (q : Found (List ℕ)) → isRefusal (readAnswer q) ≡ true → readInto q before ≡ before
-    go (took k s) e = false-true e
-    go (lost number at) e = refl
+    go : (q : Verdict (List ℕ)) → isRefusal (readAnswer q) ≡ true → readInto q before ≡ before
+    go (says s) e = false-true e
+    go (wrong number line byte) e = refl
 
 pub write-refused : (s out : List ℕ) → isRefusal (writeAnswer s (length out)) ≡ true → writeInto s out ≡ out
 write-refused s out = go (sheetOk s) (leb (length (sheetText s)) (length out))
@@ -59,8 +59,8 @@ engines-refused t powers weights = go (readEngines t)
     fits rows x true e = false-true e
     fits rows x false e = refl
 
-    go : (q : Found Rows) → isRefusal (enginesAnswer q (length powers) (length weights)) ≡ true
+    go : (q : Verdict Rows) → isRefusal (enginesAnswer q (length powers) (length weights)) ≡ true
         → columnsInto q powers weights ≡ (powers, weights)
-    go (took k rows) e =
+    go (says rows) e =
         fits rows _ (rowsFit rows (length powers) (length weights)) e
-    go (lost number at) e = refl
+    go (wrong number line byte) e = refl

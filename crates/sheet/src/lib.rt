@@ -194,9 +194,3 @@ pub const LIMITS: [Limit; TEXT_WORDS] = [
     [1, FITTING_HIGH, OR_NONE],
     [1, FITTING_HIGH, OR_NONE],
 ];
-
-// How many engine rows a text has, or its refusal and the place.
-pub enum RowsRead {
-    Rows(usize),
-    NoRows(u32, usize),
-}
