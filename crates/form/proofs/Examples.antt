@@ -12,7 +12,7 @@ use Rattle.text.specs.Limit.{ranging, allHold}
 use Rattle.text.specs.Line.{Line, readEntry, readNumbers, readLine, numbersText}
 use Rattle.text.specs.Place.{feeds, sinceFeed}
 use Rattle.form.specs.Parts.{Form, Rows, lineRow, someLines, risingLines, oneLine, maybeLine, kindOf}
-use Rattle.form.specs.Outcome.{Verdict, says, wrong}
+use Rattle.form.specs.Outcome.{Verdict, right, wrong}
 use Rattle.form.specs.Reading.{readRows, readParts, readForm}
 use Rattle.form.specs.Writing.{rowsOk, partOk, partsOk, rowsText, partsText, formOk, formText}
 
@@ -59,7 +59,7 @@ rows =
 text : List ℕ
 text = bytes "SQUARE\t7\t8\nROUND\t9\nLEVEL\t2\t0\nLEVEL\t4\t5\nEND\n"
 
-text-reads : readForm store text ≡ says rows
+text-reads : readForm store text ≡ right rows
 unfolding store roundLine squareLine shelfLine noteLine endLine text rows
     readForm readParts readRows kindOf readLine readNumbers readEntry agreed fieldOf numberOf restOf
 text-reads = refl
@@ -88,7 +88,7 @@ readings =
 
 -- how a reading ended, whatever was said
 ended : Verdict (List Rows) → Verdict ℕ
-ended (says v) = says 0
+ended (right v) = right 0
 ended (wrong number line byte) = wrong number line byte
 
 readings-right :
@@ -96,7 +96,7 @@ readings-right :
     ≡ wrong 2 1 1 ∷ wrong 2 3 1 ∷ wrong 2 1 1 ∷ wrong 2 1 2
     ∷ wrong 3 3 7 ∷ wrong 3 3 7 ∷ wrong 3 2 7
     ∷ wrong 2 5 1
-    ∷ says 0 ∷ wrong 2 3 1 ∷ wrong 2 2 1 ∷ wrong 2 3 1 ∷ wrong 2 1 1
+    ∷ right 0 ∷ wrong 2 3 1 ∷ wrong 2 2 1 ∷ wrong 2 3 1 ∷ wrong 2 1 1
     ∷ wrong 2 3 1 ∷ wrong 2 0 0
     ∷ []
 unfolding store roundLine squareLine shelfLine noteLine endLine readings ended feeds sinceFeed

@@ -10,11 +10,11 @@ use lib.Dec.{leb, ltb}
 use lib.ListN.{length, drop, length-append}
 use Rattle.ground.proofs.Booleans.{both-hold}
 use Rattle.form.specs.Parts.{Part, Form, Rows}
-use Rattle.form.specs.Outcome.{took, says, placed}
+use Rattle.form.specs.Outcome.{took, right, placed}
 use Rattle.form.specs.Reading.{kindAt, readRows, readStop, readParts, readForm}
 use Rattle.form.specs.Writing.{partOk, partsOk, rowsText, partsText, formOk, formText}
 use Rattle.form.proofs.Chain.{lost-not-found, chain-forth, chain-back}
-use Rattle.form.proofs.Verdict.{form-says}
+use Rattle.form.proofs.Verdict.{form-right}
 use Rattle.form.proofs.Letters.{kindsMade}
 use Rattle.form.proofs.Held.{part-held, held-part}
 use Rattle.form.proofs.Most.{partsMost, parts-most}
@@ -54,7 +54,7 @@ parts-forth (p ∷ ps) (rs ∷ v) m h =
 -- of every well-made form, the text of rows within the limits gives those rows
 pub written-reads : (f : Form) (v : List Rows) → wellMade f ≡ true
     → formOk f v ≡ true
-    → readForm f (formText f v) ≡ says v
+    → readForm f (formText f v) ≡ right v
 unfolding wellMade readForm
 written-reads f v m h =
     let ms = both-hold (partsMade (f .parts)) (leb (partsMost (f .parts)) (f .room)) m in
@@ -104,9 +104,9 @@ parts-back (p ∷ ps) t k v e =
     more-back p ps t (c .first) (c .rest) (c .a) (c .more) (c .both) (c .all) rows rest
 
 -- of every form, what reads is what would be written, and is within the limits
-pub reads-written : (f : Form) (t : List ℕ) (v : List Rows) → readForm f t ≡ says v
+pub reads-written : (f : Form) (t : List ℕ) (v : List Rows) → readForm f t ≡ right v
     → (t ≡ formText f v) × (formOk f v ≡ true)
 reads-written f t v e =
-    let (k, d) = form-says f t v e in
+    let (k, d) = form-right f t v e in
     let p = parts-back (f .parts) t k v d in
     (p .is, p .within)

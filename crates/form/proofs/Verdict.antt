@@ -11,27 +11,27 @@ use lib.ListN.{length}
 use Rattle.answers.specs.Refusals.{brokenLine}
 use Rattle.text.specs.Place.{lineAt, byteAt}
 use Rattle.form.specs.Parts.{Form, Rows}
-use Rattle.form.specs.Outcome.{Found, took, lost, Verdict, says, wrong, placed, saying}
+use Rattle.form.specs.Outcome.{Found, took, lost, Verdict, right, wrong, placed, saying}
 use Rattle.form.specs.Reading.{readParts, readForm}
 
-pub wrong-not-said : {A : Type 0} {number line byte : ℕ} {a : A} → wrong number line byte ≡ says a → ⊥
-wrong-not-said e = let z : _≡_ {A = ℕ} 0 1 = cc in absurd (omega arith)
+pub wrong-not-right : {A : Type 0} {number line byte : ℕ} {a : A} → wrong number line byte ≡ right a → ⊥
+wrong-not-right e = let z : _≡_ {A = ℕ} 0 1 = cc in absurd (omega arith)
 
 -- ---- what was said is said of what was found
 
-pub placed-says : {A : Type 0} (t : List ℕ) (q : Found A) (a : A) → placed t q ≡ says a → (k : ℕ) × (q ≡ took k a)
-placed-says t (took k b) a e = (k, cc)
-placed-says t (lost number at) a e = absurd (wrong-not-said e)
+pub placed-right : {A : Type 0} (t : List ℕ) (q : Found A) (a : A) → placed t q ≡ right a → (k : ℕ) × (q ≡ took k a)
+placed-right t (took k b) a e = (k, cc)
+placed-right t (lost number at) a e = absurd (wrong-not-right e)
 
-pub saying-says : {A B : Type 0} (f : A → B) (q : Verdict A) (b : B) → saying f q ≡ says b
-    → (a : A) × (q ≡ says a) × (b ≡ f a)
-saying-says f (says a) b e = (a, refl, cc)
-saying-says f (wrong number line byte) b e = absurd (wrong-not-said e)
+pub saying-right : {A B : Type 0} (f : A → B) (q : Verdict A) (b : B) → saying f q ≡ right b
+    → (a : A) × (q ≡ right a) × (b ≡ f a)
+saying-right f (right a) b e = (a, refl, cc)
+saying-right f (wrong number line byte) b e = absurd (wrong-not-right e)
 
 pub saying-wrong : {A B : Type 0} (f : A → B) (q : Verdict A) (number line byte : ℕ)
     → saying f q ≡ wrong number line byte
     → q ≡ wrong number line byte
-saying-wrong f (says a) number line byte e = absurd (wrong-not-said (sym e))
+saying-wrong f (right a) number line byte e = absurd (wrong-not-right (sym e))
 saying-wrong f (wrong n l b) number line byte e = cc
 
 -- ---- a text of a form
@@ -46,13 +46,13 @@ module _ (f : Form) (t : List ℕ) where
   form-read h = rw (le-ltb (f .room) (length t) h)
 
   -- a text that says something was found whole
-  pub form-says : (v : List Rows) → readForm f t ≡ says v → (k : ℕ) × (readParts (f .parts) t ≡ took k v)
-  form-says v e = go (ltb (f .room) (length t)) refl
+  pub form-right : (v : List Rows) → readForm f t ≡ right v → (k : ℕ) × (readParts (f .parts) t ≡ took k v)
+  form-right v e = go (ltb (f .room) (length t)) refl
     where
       go : (u : Bool) → ltb (f .room) (length t) ≡ u → (k : ℕ) × (readParts (f .parts) t ≡ took k v)
-      go true d = absurd (wrong-not-said (sym (form-long (ltb-true (f .room) (length t) d)) ∙ e))
+      go true d = absurd (wrong-not-right (sym (form-long (ltb-true (f .room) (length t) d)) ∙ e))
       go false d =
-          placed-says t (readParts (f .parts) t) v (sym (form-read (ltb-false (f .room) (length t) d)) ∙ e)
+          placed-right t (readParts (f .parts) t) v (sym (form-read (ltb-false (f .room) (length t) d)) ∙ e)
 
   -- the refusal of a text that is read, by the place of it
   pub record FoundAt (number line byte : ℕ) : Type 0 where
@@ -69,7 +69,7 @@ module _ (f : Form) (t : List ℕ) where
       go : (q : Found (List Rows)) → readParts (f .parts) t ≡ q
           → placed t q ≡ wrong number line byte
           → FoundAt number line byte
-      go (took k v) d c = absurd (wrong-not-said (sym c))
+      go (took k v) d c = absurd (wrong-not-right (sym c))
       go (lost n at) d c =
           let same : n ≡ number = cc in
           record { at = at; found = d ∙ rw same; on-line = cc; on-byte = cc }

@@ -35,16 +35,16 @@ module _ {A : Type 0} where
 
 -- what it says; or, 02 (v), a refusal's number with the line and the byte, both from 1, or both 0 for a text too long
 pub data Verdict (A : Type 0) : Type 0 where
-  says : A → Verdict A
+  right : A → Verdict A
   wrong : ℕ → ℕ → ℕ → Verdict A
 
 module _ {A : Type 0} where
   -- by what was found from the start of t to its end
   abbrev pub placed : List ℕ → Found A → Verdict A
-  placed t (took k a) = says a
+  placed t (took k a) = right a
   placed t (lost number at) = wrong number (lineAt t at) (byteAt t at)
 
 module _ {A B : Type 0} where
   abbrev pub saying : (A → B) → Verdict A → Verdict B
-  saying f (says a) = says (f a)
+  saying f (right a) = right (f a)
   saying f (wrong number line byte) = wrong number line byte

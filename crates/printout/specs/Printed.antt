@@ -12,7 +12,7 @@ use Rattle.text.specs.Line.{Line, lineText}
 use Rattle.answers.specs.Refusals.{brokenLine, noRoom}
 use Rattle.answers.specs.declared.Answer.{Answer}
 use Rattle.answers.specs.declared.Answer.the-variants.{Refused, RefusedAt, Done, Count, Plate}
-use Rattle.form.specs.Outcome.{says, wrong}
+use Rattle.form.specs.Outcome.{right, wrong}
 use Rattle.sheet.specs.SheetText.{readSheet}
 use Rattle.sheet.specs.EngineText.{readEngines, powersOf, weightsOf}
 use Rattle.ground.specs.Lists.{putFirst}
@@ -44,7 +44,7 @@ platesText s ps ws =
 unfoldable pub rowsPrinted : List ℕ → List ℕ → List ℕ
 rowsPrinted s t =
     elim (readEngines t) [
-      | says rows ↦ platesText s (powersOf rows) (weightsOf rows)
+      | right rows ↦ platesText s (powersOf rows) (weightsOf rows)
       | wrong number line byte ↦ inputText number line byte
     ]
 
@@ -53,7 +53,7 @@ unfoldable pub printed : List ℕ → List ℕ
 printed t =
     cond (ltb mostInput (length t)) (inputText brokenLine 0 0)
     (elim (readSheet (sheetPart t)) [
-      | says s ↦ rowsPrinted (drop 1 s) (enginePart t)
+      | right s ↦ rowsPrinted (drop 1 s) (enginePart t)
       | wrong number line byte ↦ inputText number line byte
     ])
 

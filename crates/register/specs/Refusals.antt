@@ -6,7 +6,7 @@ use mathlib.Core.Bool.{_&&_, cond}
 use mathlib.Core.List.{List, []}
 use lib.Dec.{eqb, leb, ltb}
 use lib.ListN.{length, getD, drop}
-use Rattle.form.specs.Outcome.{says, wrong}
+use Rattle.form.specs.Outcome.{right, wrong}
 use Rattle.answers.specs.Refusals.{badMemory, outsideLimits, full, noHull, noDesk, noDraft, editedSince, editsSpent}
 use Rattle.answers.specs.Refusals.{emptyLine}
 use Rattle.answers.specs.declared.Answer.{Answer}
@@ -74,7 +74,7 @@ leaves (Plate load figure) after before = after
 
 -- the sheet of a text that can be read, without its HULL number, which is judged and then ignored
 abbrev pub sheetOf : List ℕ → List ℕ
-sheetOf t = elim (readSheet t) [ says s ↦ drop 1 s | wrong number line byte ↦ [] ]
+sheetOf t = elim (readSheet t) [ right s ↦ drop 1 s | wrong number line byte ↦ [] ]
 
 abbrev pub onText : List ℕ → Answer → Answer
-onText t read = elim (readSheet t) [ says s ↦ read | wrong number line byte ↦ RefusedAt number line byte ]
+onText t read = elim (readSheet t) [ right s ↦ read | wrong number line byte ↦ RefusedAt number line byte ]

@@ -12,7 +12,7 @@ use Rattle.text.specs.Place.{feeds, sinceFeed}
 use Rattle.answers.specs.declared.Answer.{Answer}
 use Rattle.answers.specs.declared.Answer.the-variants.{Refused, RefusedAt, Done, Count}
 use Rattle.form.specs.Parts.{kindOf}
-use Rattle.form.specs.Outcome.{says, wrong}
+use Rattle.form.specs.Outcome.{right, wrong}
 use Rattle.form.specs.Reading.{readRows, readParts, readForm}
 use Rattle.form.specs.Writing.{rowsText, partsText}
 use Rattle.sheet.specs.Sheet.{limitsOn, sheetLimits}
@@ -21,7 +21,7 @@ use Rattle.sheet.specs.EngineText.{engineForm, readEngines}
 use Rattle.sheet.specs.TextCalls.{readAnswer, writeAnswer, enginesAnswer}
 
 -- a refusal of a text with its place
-read-right : map readAnswer (says [] ∷ wrong 2 35 1 ∷ wrong 3 10 6 ∷ []) ≡ Done ∷ RefusedAt 2 35 1 ∷ RefusedAt 3 10 6 ∷ []
+read-right : map readAnswer (right [] ∷ wrong 2 35 1 ∷ wrong 3 10 6 ∷ []) ≡ Done ∷ RefusedAt 2 35 1 ∷ RefusedAt 3 10 6 ∷ []
 read-right = refl
 
 -- the least sheet there is, under a hull number, and its text of 156 bytes

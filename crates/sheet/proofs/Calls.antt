@@ -8,7 +8,7 @@ use borrow.Author.Tests.{le-leb}
 use lib.ListN.{length, take, drop}
 use lib.Seq.{take-append-seam}
 use Rattle.answers.specs.declared.Answer.the-variants.{Done, Count}
-use Rattle.form.specs.Outcome.{Verdict, says, wrong}
+use Rattle.form.specs.Outcome.{Verdict, right, wrong}
 use Rattle.sheet.specs.Sheet.{sheetOk}
 use Rattle.sheet.specs.SheetText.{readSheet, sheetText}
 use Rattle.sheet.specs.TextCalls.{readAnswer, readInto, writeAnswer, writeInto}
@@ -32,9 +32,9 @@ pub write-then-read : (s out before : List ℕ) → sheetOk s ≡ true
 write-then-read s out before h r =
     ap (λ (t : List ℕ). readInto (readSheet t) before) (wrote s out h r .bytes) ∙ rw (written-reads s h)
 
-done-says : (q : Verdict (List ℕ)) → readAnswer q ≡ Done → (s : List ℕ) × (q ≡ says s)
-done-says (says s) e = (s, refl)
-done-says (wrong number line byte) e = let z : _≡_ {A = ℕ} 0 1 = cc in absurd (omega arith)
+done-right : (q : Verdict (List ℕ)) → readAnswer q ≡ Done → (s : List ℕ) × (q ≡ right s)
+done-right (right s) e = (s, refl)
+done-right (wrong number line byte) e = let z : _≡_ {A = ℕ} 0 1 = cc in absurd (omega arith)
 
 -- writing what was read gives the text
 pub read-then-write : (t before out : List ℕ) → readAnswer (readSheet t) ≡ Done
@@ -42,7 +42,7 @@ pub read-then-write : (t before out : List ℕ) → readAnswer (readSheet t) ≡
     → (writeAnswer (readInto (readSheet t) before) (length out) ≡ Count (length t))
     × (take (length t) (writeInto (readInto (readSheet t) before) out) ≡ t)
 read-then-write t before out d r =
-    let k = done-says (readSheet t) d in
+    let k = done-right (readSheet t) d in
     let s : List ℕ = k .0 in
     let w = reads-written t s (k .1) in
     let n : length (sheetText s) ≡ length t = ap length (sym (w .text)) in

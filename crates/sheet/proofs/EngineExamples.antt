@@ -9,7 +9,7 @@ use Rattle.text.specs.Number.{restOf, numberOf, digitsIn, digitsOf}
 use Rattle.text.specs.Line.{readEntry, readNumbers, readLine, numbersText}
 use Rattle.text.specs.Place.{feeds, sinceFeed}
 use Rattle.form.specs.Parts.{kindOf}
-use Rattle.form.specs.Outcome.{says, wrong}
+use Rattle.form.specs.Outcome.{right, wrong}
 use Rattle.form.specs.Reading.{readRows, readParts, readForm}
 use Rattle.form.specs.Writing.{rowsText, partsText}
 use Rattle.sheet.specs.EngineText.{engineForm, engineRows, readEngines, enginesText}
@@ -60,7 +60,7 @@ weights : List ℕ
 weights =
     15000 ∷ 20000 ∷ 43000 ∷ 84000 ∷ 106000 ∷ 159000 ∷ 208000 ∷ 285000 ∷ 294000 ∷ 328000 ∷ 346000 ∷ 391000 ∷ 415000 ∷ []
 
-table-reads : readEngines table ≡ says (engineRows powers weights)
+table-reads : readEngines table ≡ right (engineRows powers weights)
 unfolding table powers weights engineRows readEngines engineForm
     readForm readParts readRows kindOf readLine agreed readNumbers readEntry fieldOf numberOf restOf
 table-reads = refl

@@ -9,10 +9,10 @@ use native.Mathlib.Omega.{arith}
 use lib.ListN.{length, length-map}
 use Rattle.ground.proofs.Booleans.{both-hold}
 use Rattle.form.specs.Parts.{Row, Rows, nextAfter}
-use Rattle.form.specs.Outcome.{says, wrong}
+use Rattle.form.specs.Outcome.{right, wrong}
 use Rattle.form.specs.Reading.{readForm}
 use Rattle.form.specs.Writing.{rowOk, rowsOk, partOk, partsOk, formOk, formText}
-use Rattle.form.proofs.Verdict.{saying-says, saying-wrong}
+use Rattle.form.proofs.Verdict.{saying-right, saying-wrong}
 use Rattle.form.proofs.Held.{part-held, PartHeld}
 use Rattle.form.proofs.Pairs.{Pair, pairRow, pair}
 use Rattle.form.proofs.Trip as T
@@ -71,7 +71,7 @@ engines-held rs h = part-held enginePart rs (both-hold (partOk enginePart rs) tr
 
 -- for rows within the limits, reading what their columns are written as gives those rows
 pub written-reads : (ps ws : List ℕ) → enginesOk (engineRows ps ws) ≡ true
-    → readEngines (enginesText ps ws) ≡ says (engineRows ps ws)
+    → readEngines (enginesText ps ws) ≡ right (engineRows ps ws)
 unfolding readEngines enginesText
 written-reads ps ws h = rw (T.written-reads engineForm (engineRows ps ws ∷ []) engines-made h)
 
@@ -81,10 +81,10 @@ pub record Written (t : List ℕ) (rs : Rows) : Type 0 where
   pub within : enginesOk rs ≡ true
 
 -- for every text that reads as rows, writing those rows gives the same bytes
-pub reads-written : (t : List ℕ) (rs : Rows) → readEngines t ≡ says rs → Written t rs
+pub reads-written : (t : List ℕ) (rs : Rows) → readEngines t ≡ right rs → Written t rs
 unfolding readEngines enginesText partsOk engineForm
 reads-written t rs e =
-    let (v, f, is) = saying-says onlyRows (readForm engineForm t) rs e in
+    let (v, f, is) = saying-right onlyRows (readForm engineForm t) rs e in
     let (text, within) = T.reads-written engineForm t v f in
     rw is (only v text within)
   where

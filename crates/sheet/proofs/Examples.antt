@@ -10,7 +10,7 @@ use Rattle.text.specs.Number.{restOf, numberOf, digitsIn, digitsOf}
 use Rattle.text.specs.Line.{readEntry, readNumbers, readLine, numbersText}
 use Rattle.text.specs.Place.{feeds, sinceFeed}
 use Rattle.form.specs.Parts.{kindOf, numbersOf}
-use Rattle.form.specs.Outcome.{Verdict, says, wrong}
+use Rattle.form.specs.Outcome.{Verdict, right, wrong}
 use Rattle.form.specs.Reading.{readRows, readParts, readForm}
 use Rattle.form.specs.Writing.{rowsText, partsText}
 use Rattle.sheet.specs.SheetText.{sheetForm, weightsFrom, fitRows, fitsOf, numbersOn, rowsOn}
@@ -27,7 +27,7 @@ numbers =
     0 ∷ 4500 ∷ 4000 ∷ 1200 ∷ 500 ∷ 0 ∷ 1 ∷ (station ++ (station ++ (station ++ (station
     ++ (0 ∷ 0 ∷ 0 ∷ 200000 ∷ 0 ∷ 0 ∷ 1 ∷ 20000 ∷ 5 ∷ 3 ∷ 3334 ∷ replicate 23 0)))))
 
-sample-reads : readSheet sample ≡ says numbers
+sample-reads : readSheet sample ≡ right numbers
 unfolding station numbers readSheet sheetForm numbersOn numbersOf fitsOf weightsFrom
     readForm readParts readRows kindOf readLine agreed readNumbers readEntry fieldOf numberOf restOf
 sample-reads = refl
@@ -41,11 +41,11 @@ sample-written = refl
 
 -- how a reading ended, whatever was said
 unfoldable pub ended : {A : Type 0} → Verdict A → Verdict ℕ
-ended (says a) = says 0
+ended (right a) = right 0
 ended (wrong number line byte) = wrong number line byte
 
 abbrev pub taken : Verdict ℕ
-taken = says 0
+taken = right 0
 
 withHull : String → List ℕ
 withHull line = sheetWith line form mass power seats (bytes "END\n")

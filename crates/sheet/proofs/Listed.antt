@@ -8,7 +8,7 @@ use lib.ListN.{length}
 use Rattle.ground.proofs.Booleans.{either}
 use Rattle.answers.proofs.Outcomes.{OfList, text-listed}
 use Rattle.form.specs.Parts.{Rows}
-use Rattle.form.specs.Outcome.{Verdict, says, wrong}
+use Rattle.form.specs.Outcome.{Verdict, right, wrong}
 use Rattle.sheet.specs.Sheet.{sheetOk}
 use Rattle.sheet.specs.SheetText.{readSheet, sheetText}
 use Rattle.sheet.specs.EngineText.{readEngines}
@@ -20,7 +20,7 @@ pub read-listed : (t : List ℕ) → OfList (readAnswer (readSheet t))
 read-listed t = go (readSheet t) refl
   where
     go : (q : Verdict (List ℕ)) → readSheet t ≡ q → OfList (readAnswer q)
-    go (says s) e = refl
+    go (right s) e = refl
     go (wrong number line byte) e = text-listed line byte (sheet-fault t number line byte e)
 
 pub write-listed : (s : List ℕ) (room : ℕ) → OfList (writeAnswer s room)
@@ -36,5 +36,5 @@ pub engines-listed : (t : List ℕ) (a b : ℕ) → OfList (enginesAnswer (readE
 engines-listed t a b = go (readEngines t) refl
   where
     go : (q : Verdict Rows) → readEngines t ≡ q → OfList (enginesAnswer q a b)
-    go (says rows) e = either OfList (rowsFit rows a b) refl refl
+    go (right rows) e = either OfList (rowsFit rows a b) refl refl
     go (wrong number line byte) e = text-listed line byte (engines-fault t number line byte e)

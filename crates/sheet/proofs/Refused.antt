@@ -11,7 +11,7 @@ use Rattle.answers.specs.Values.{isRefusal}
 use Rattle.answers.specs.Refusals.{outsideLimits, noRoom}
 use Rattle.answers.specs.declared.Answer.the-variants.{Refused, RefusedAt, Count}
 use Rattle.form.specs.Parts.{Rows}
-use Rattle.form.specs.Outcome.{Verdict, says, wrong}
+use Rattle.form.specs.Outcome.{Verdict, right, wrong}
 use Rattle.sheet.specs.Sheet.{sheetOk}
 use Rattle.sheet.specs.SheetText.{readSheet, sheetText}
 use Rattle.sheet.specs.EngineText.{readEngines}
@@ -35,7 +35,7 @@ pub read-refused : (t before : List ℕ) → isRefusal (readAnswer (readSheet t)
 read-refused t before = go (readSheet t)
   where
     go : (q : Verdict (List ℕ)) → isRefusal (readAnswer q) ≡ true → readInto q before ≡ before
-    go (says s) e = false-true e
+    go (right s) e = false-true e
     go (wrong number line byte) e = refl
 
 pub write-refused : (s out : List ℕ) → isRefusal (writeAnswer s (length out)) ≡ true → writeInto s out ≡ out
@@ -61,6 +61,6 @@ engines-refused t powers weights = go (readEngines t)
 
     go : (q : Verdict Rows) → isRefusal (enginesAnswer q (length powers) (length weights)) ≡ true
         → columnsInto q powers weights ≡ (powers, weights)
-    go (says rows) e =
+    go (right rows) e =
         fits rows _ (rowsFit rows (length powers) (length weights)) e
     go (wrong number line byte) e = refl

@@ -8,10 +8,10 @@ use Prim.Native.Nat.{ℕ}
 use lib.ListN.{length}
 use Rattle.text.proofs.Limit.{hold-length}
 use Rattle.form.specs.Parts.{Rows}
-use Rattle.form.specs.Outcome.{says, wrong}
+use Rattle.form.specs.Outcome.{right, wrong}
 use Rattle.form.specs.Reading.{readForm}
 use Rattle.form.specs.Writing.{formText}
-use Rattle.form.proofs.Verdict.{saying-says, saying-wrong}
+use Rattle.form.proofs.Verdict.{saying-right, saying-wrong}
 use Rattle.form.proofs.Trip as T
 use Rattle.form.proofs.Faults.{form-fault}
 use Rattle.sheet.specs.Places.{textWords}
@@ -21,7 +21,7 @@ use Rattle.sheet.proofs.WellMade.{sheet-made}
 use Rattle.sheet.proofs.SheetRows.{sheet-rows, rows-sheet, rows-ok, sheet-ok}
 
 -- for every sheet within the limits, reading what is written gives that sheet
-pub written-reads : (s : List ℕ) → sheetOk s ≡ true → readSheet (sheetText s) ≡ says s
+pub written-reads : (s : List ℕ) → sheetOk s ≡ true → readSheet (sheetText s) ≡ right s
 unfolding readSheet sheetText
 written-reads s h = rw (T.written-reads sheetForm (rowsOf s) sheet-made (rows-ok s h), sheet-rows s h)
 
@@ -32,10 +32,10 @@ pub record Written (t s : List ℕ) : Type 0 where
 
 -- for every text that reads as a sheet, writing that sheet gives the same bytes; and the sheet is within the limits,
 -- so it can be written
-pub reads-written : (t s : List ℕ) → readSheet t ≡ says s → Written t s
+pub reads-written : (t s : List ℕ) → readSheet t ≡ right s → Written t s
 unfolding readSheet sheetText
 reads-written t s e =
-    let (v, said, is) = saying-says sheetOf (readForm sheetForm t) s e in
+    let (v, said, is) = saying-right sheetOf (readForm sheetForm t) s e in
     let (text, within) = T.reads-written sheetForm t v said in
     rw is
     (record {
@@ -44,7 +44,7 @@ reads-written t s e =
     })
 
 -- a sheet that was read has all its words
-pub sheet-count : (t s : List ℕ) → readSheet t ≡ says s → length s ≡ textWords
+pub sheet-count : (t s : List ℕ) → readSheet t ≡ right s → length s ≡ textWords
 unfolding sheetLimits limitsOn
 sheet-count t s e = hold-length sheetLimits 0 s (reads-written t s e .within)
 

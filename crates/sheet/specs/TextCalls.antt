@@ -11,7 +11,7 @@ use Rattle.answers.specs.Refusals.{outsideLimits, noRoom}
 use Rattle.answers.specs.declared.Answer.{Answer}
 use Rattle.answers.specs.declared.Answer.the-variants.{Refused, RefusedAt, Done, Count}
 use Rattle.form.specs.Parts.{Rows}
-use Rattle.form.specs.Outcome.{Verdict, says, wrong}
+use Rattle.form.specs.Outcome.{Verdict, right, wrong}
 use Rattle.sheet.specs.Sheet.{sheetOk}
 use Rattle.sheet.specs.SheetText.{sheetText}
 use Rattle.sheet.specs.EngineText.{powersOf, weightsOf}
@@ -19,11 +19,11 @@ use Rattle.sheet.specs.EngineText.{powersOf, weightsOf}
 -- ---- read a sheet from a text
 
 abbrev pub readAnswer : Verdict (List ℕ) → Answer
-readAnswer (says s) = Done
+readAnswer (right s) = Done
 readAnswer (wrong number line byte) = RefusedAt number line byte
 
 abbrev pub readInto : Verdict (List ℕ) → List ℕ → List ℕ
-readInto (says s) before = s
+readInto (right s) before = s
 readInto (wrong number line byte) before = before
 
 -- ---- write a sheet to a text
@@ -44,12 +44,12 @@ abbrev pub rowsFit : Rows → ℕ → ℕ → Bool
 rowsFit rows a b = leb (length rows) a && leb (length rows) b
 
 abbrev pub enginesAnswer : Verdict Rows → ℕ → ℕ → Answer
-enginesAnswer (says rows) a b = cond (rowsFit rows a b) (Count (length rows)) (Refused noRoom)
+enginesAnswer (right rows) a b = cond (rowsFit rows a b) (Count (length rows)) (Refused noRoom)
 enginesAnswer (wrong number line byte) a b = RefusedAt number line byte
 
 -- the two lent slices: the rows' columns at their starts, where there is room in both
 abbrev pub columnsInto : Verdict Rows → List ℕ → List ℕ → List ℕ × List ℕ
-columnsInto (says rows) powers weights =
+columnsInto (right rows) powers weights =
     cond (rowsFit rows (length powers) (length weights))
     (putFirst (powersOf rows) powers, putFirst (weightsOf rows) weights)
     (powers, weights)
