@@ -8,7 +8,7 @@ use native.Mathlib.Omega.{arith}
 use borrow.Author.Tests.{le-leb}
 use Rattle.ground.proofs.Booleans.{both-hold}
 use Rattle.form.specs.Parts.{Rows, nextAfter}
-use Rattle.form.specs.Outcome.{took}
+use Rattle.form.specs.Outcome.{right}
 use Rattle.form.specs.Writing.{rowOk, rowsOk}
 use Rattle.sheet.specs.Lines.{enginePowerHigh, engineWeightHigh}
 use Rattle.sheet.specs.EngineText.{enginePart, powersOf, weightsOf, readEngines}
@@ -33,10 +33,10 @@ rows-rise (r ∷ rs) next n m h =
         let high = le-leb (f .n) enginePowerHigh (f .n-high) in
         rw (f .is, low, high, le-leb (f .w) engineWeightHigh (f .w-high), add-one (f .n)) ih'
 
-pub read-right : (t : List ℕ) (k : ℕ) (rs : Rows) → readEngines t ≡ took k rs
+pub read-right : (t : List ℕ) (rs : Rows) → readEngines t ≡ right rs
     → rowsRight (powersOf rs) (weightsOf rs) ≡ true
-read-right t k rs e =
-    let p = engines-held rs (reads-written t k rs e .within) in
+read-right t rs e =
+    let p = engines-held rs (reads-written t rs e .within) in
     let a = powers-length rs in
     let even = a ∙ sym (weights-length rs) in
     sym (rows-judged (powersOf rs) (weightsOf rs) even (omega (arith, p .many)) (omega (arith, p .few)))

@@ -12,7 +12,7 @@ use Rattle.text.specs.Line.{readEntry, readNumbers, readLine}
 use Rattle.text.proofs.Examples.{upFrom}
 use Rattle.answers.specs.declared.Answer.the-variants.{Refused}
 use Rattle.form.specs.Parts.{kindOf, numbersOf}
-use Rattle.form.specs.Outcome.{took}
+use Rattle.form.specs.Outcome.{right}
 use Rattle.form.specs.Reading.{readRows, readParts, readForm}
 use Rattle.sheet.specs.Sheet.{limitsOn, sheetLimits}
 use Rattle.sheet.specs.SheetText.{sheetForm, weightsFrom, fitsOf, numbersOn, readSheet}
@@ -84,7 +84,7 @@ unfolding seated load power inboard massed words
 boats-right = (refl, refl)
 
 -- the base hull is that of 01's printed sheet
-base-right : readSheet sample ≡ took 237 (0 ∷ seated 3 20000 200000 3334)
+base-right : readSheet sample ≡ right (0 ∷ seated 3 20000 200000 3334)
 unfolding seated words readSheet sheetForm numbersOn numbersOf fitsOf weightsFrom
     readForm readParts readRows kindOf readLine agreed readNumbers readEntry fieldOf numberOf restOf
 base-right = refl

@@ -10,7 +10,7 @@ use lib.Dec.{eqb, leb, ltb}
 use lib.ListN.{getD}
 use Rattle.ground.proofs.Booleans.{both-hold, either}
 use Rattle.answers.specs.declared.Answer.{Answer}
-use Rattle.answers.specs.declared.Answer.the-variants.{Refused, Done, Count, Plate}
+use Rattle.answers.specs.declared.Answer.the-variants.{Refused, RefusedAt, Done, Count, Plate}
 use Rattle.answers.specs.Refusals.{noPower}
 use Rattle.capacity.specs.Whole.{isBelow, orZero}
 use Rattle.capacity.specs.Words.{transomHeight, flatBottom, remote, outboard}
@@ -69,6 +69,7 @@ flat-on-the-line s o f p = rw (o, f, p) refl
 
 unfoldable pub wattsOf : Answer → ℕ
 wattsOf (Refused n) = 0
+wattsOf (RefusedAt n line byte) = 0
 wattsOf Done = 0
 wattsOf (Count n) = 0
 wattsOf (Plate load watts) = watts

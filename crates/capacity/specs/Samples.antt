@@ -7,7 +7,7 @@ use lib.Dec.{eqb, leb}
 use lib.IntN.{ℤ, pos, negsuc}
 use lib.ListN.{replicate}
 use Rattle.answers.specs.declared.Answer.{Answer}
-use Rattle.answers.specs.declared.Answer.the-variants.{Refused, Done, Count, Plate}
+use Rattle.answers.specs.declared.Answer.the-variants.{Refused, RefusedAt, Done, Count, Plate}
 use Rattle.answers.specs.Refusals.{noPower}
 use Rattle.sheet.specs.Sheet.{wordsOk}
 use Rattle.capacity.specs.PlateC.{markedC, plateC}
@@ -58,18 +58,21 @@ marks (negsuc m) n = false
 -- the marked load is that of the plate's answer, where the plate is not refused for another reason
 unfoldable pub agrees : Answer → ℕ → Bool
 agrees (Refused m) n = leb noPower m
+agrees (RefusedAt m line byte) n = false
 agrees Done n = false
 agrees (Count m) n = false
 agrees (Plate a b) n = eqb a n
 
 unfoldable pub refuses : Answer → ℕ → Bool
 refuses (Refused m) n = eqb m n
+refuses (RefusedAt m line byte) n = false
 refuses Done n = false
 refuses (Count m) n = false
 refuses (Plate a b) n = false
 
 unfoldable pub second-is : Answer → ℕ → Bool
 second-is (Refused m) n = false
+second-is (RefusedAt m line byte) n = false
 second-is Done n = false
 second-is (Count m) n = false
 second-is (Plate a b) n = eqb b n

@@ -8,8 +8,9 @@ use Rattle.text.specs.Field.{fieldOf, agreed}
 use Rattle.text.specs.Number.{restOf, numberOf, digitsIn, digitsOf}
 use Rattle.text.specs.Limit.{allHold}
 use Rattle.text.specs.Line.{readEntry, readNumbers, readLine, numbersText}
+use Rattle.text.specs.Place.{feeds, sinceFeed}
 use Rattle.answers.specs.declared.Answer.{Answer}
-use Rattle.answers.specs.declared.Answer.the-variants.{Refused, Done, Count, Plate}
+use Rattle.answers.specs.declared.Answer.the-variants.{Refused, RefusedAt, Done, Count, Plate}
 use Rattle.form.specs.Parts.{kindOf, numbersOf}
 use Rattle.form.specs.Reading.{readRows, readParts, readForm}
 use Rattle.form.specs.Writing.{rowsText, partsText}
@@ -96,8 +97,8 @@ on-edited =
 on-small : List Must
 on-small =
     -- texts
-    (newHull [] must Refused 2) ∷ (newHull outside must Refused 3) ∷ (work 7 (replace text) must Done)
-    ∷ (work 7 (replace []) must Refused 2) ∷ (work 7 (replace outside) must Refused 3)
+    (newHull [] must RefusedAt 2 1 1) ∷ (newHull outside must RefusedAt 3 1 6) ∷ (work 7 (replace text) must Done)
+    ∷ (work 7 (replace []) must RefusedAt 2 1 1) ∷ (work 7 (replace outside) must RefusedAt 3 1 6)
     ∷ (work 6 (replace []) must Refused 7) ∷ (work 6 (replace outside) must Refused 7)
     ∷ (work 8 (replace []) must Refused 6) ∷ (work 8 (replace outside) must Refused 6)
     -- desks 7 and 8; a hull that is not entered
@@ -129,8 +130,8 @@ calls-right :
 unfolding answered on-full on-fifteen on-edited on-small text outside ended small fifteen edited full sheet
     hulls draft idle formed each hullOk draftOk hullRefusal deskRefusal roomRefusal openRefusal readSheet
     sheetForm numbersOn numbersOf fitsOf weightsFrom readForm readParts readRows kindOf readLine agreed
-    readNumbers readEntry fieldOf numberOf restOf allHold sheetLimits limitsOn sheetText rowsOn fitRows
-    partsText rowsText numbersText digitsOf digitsIn stationProduct volumeN netZ addedUp boatM exactX markedC
+    readNumbers readEntry fieldOf numberOf restOf feeds sinceFeed allHold sheetLimits limitsOn sheetText rowsOn
+    fitRows partsText rowsText numbersText digitsOf digitsIn stationProduct volumeN netZ addedUp boatM exactX markedC
     rising rowsRight rowFor lacksRow engineWeight liveLoad persons lacksTests plateC inboardX loadX markedA
     formulaWatts powerA plateA ruleU markedU plateU
 calls-right = (refl, refl, refl, refl)

@@ -10,8 +10,9 @@ use Rattle.text.specs.Field.{fieldOf, agreed}
 use Rattle.text.specs.Number.{restOf, numberOf, digitsIn, digitsOf}
 use Rattle.text.specs.Limit.{allHold}
 use Rattle.text.specs.Line.{readEntry, readNumbers, readLine, numbersText}
+use Rattle.text.specs.Place.{feeds, sinceFeed}
 use Rattle.answers.specs.declared.Answer.{Answer}
-use Rattle.answers.specs.declared.Answer.the-variants.{Refused, Done, Count, Plate}
+use Rattle.answers.specs.declared.Answer.the-variants.{Refused, RefusedAt, Done, Count, Plate}
 use Rattle.form.specs.Parts.{kindOf, numbersOf}
 use Rattle.form.specs.Reading.{readRows, readParts, readForm}
 use Rattle.form.specs.Writing.{rowsText, partsText}
@@ -79,7 +80,7 @@ writes h room = ask h (write (replicate room 7))
 day : List Must
 day =
     (newHull (text mass) must Count 0) ∷ (newHull (text heavier) must Count 1)
-    ∷ (newHull (text "MASS\t0\t0\t0\n") must Refused 3)
+    ∷ (newHull (text "MASS\t0\t0\t0\n") must RefusedAt 3 8 6)
     -- no such desk, hull or draft
     ∷ (openHull 8 1 must Refused 6) ∷ (openHull 0 2 must Refused 5) ∷ (save 0 must Refused 7)
     -- desk 0 works on hull 0, where desk 7 has opened it too
@@ -94,7 +95,8 @@ day =
     ∷ (marks 1 byC must Plate 325 3) ∷ (marks 1 kindU must Count 718) ∷ (marks 2 kindA must Refused 5)
     ∷ (marks 2 kindU must Refused 5)
     -- replace, then drop: nothing of it is left
-    ∷ (openHull 3 1 must Count 0) ∷ (work 3 (replace (text mass)) must Done) ∷ (tries 3 kindA must Plate 327 20000)
+    ∷ (openHull 3 1 must Count 0) ∷ (work 3 (replace (bytes "HULL\t9\n")) must RefusedAt 2 2 1)
+    ∷ (work 3 (replace (text mass)) must Done) ∷ (tries 3 kindA must Plate 327 20000)
     ∷ (dropDraft 3 must Done) ∷ (tries 3 kindA must Refused 7) ∷ (tries 3 kindU must Refused 7)
     ∷ (tries 8 kindU must Refused 6) ∷ (work 3 (replace []) must Refused 7) ∷ (marks 1 kindA must Plate 326 20000)
     -- written under the register's number
@@ -105,7 +107,7 @@ a-day : given freshWords day ≡ map wanted day
 unfolding given day text numbered-text rows grams freshWords entered opened fitted replaced dropped
     saved each hullOk draftOk formed hullRefusal deskRefusal roomRefusal openRefusal readSheet sheetForm
     numbersOn numbersOf fitsOf weightsFrom readForm readParts readRows kindOf readLine agreed readNumbers
-    readEntry fieldOf numberOf restOf allHold sheetLimits limitsOn sheetText rowsOn fitRows partsText rowsText
+    readEntry fieldOf numberOf restOf feeds sinceFeed allHold sheetLimits limitsOn sheetText rowsOn fitRows partsText rowsText
     numbersText digitsOf digitsIn stationProduct volumeN netZ addedUp boatM exactX markedC rising rowsRight
     rowFor lacksRow engineWeight liveLoad persons lacksTests plateC inboardX loadX markedA formulaWatts powerA plateA
     ruleU markedU plateU

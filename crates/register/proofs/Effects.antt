@@ -8,10 +8,10 @@ use native.Mathlib.Omega.{arith}
 use borrow.Author.Tests.{ne-eqb}
 use lib.ListN.{length}
 use Rattle.ground.proofs.Booleans.{false-true}
-use Rattle.form.specs.Outcome.{took}
+use Rattle.form.specs.Outcome.{right}
 use Rattle.answers.specs.Refusals.{badMemory}
 use Rattle.answers.specs.declared.Answer.{Answer}
-use Rattle.answers.specs.declared.Answer.the-variants.{Refused, Done, Count, Plate}
+use Rattle.answers.specs.declared.Answer.the-variants.{Refused, RefusedAt, Done, Count, Plate}
 use Rattle.answers.specs.Values.{isRefusal}
 use Rattle.sheet.specs.SheetText.{readSheet}
 use Rattle.memory.specs.Layout.{registerWords, draftSheet}
@@ -32,12 +32,14 @@ use Rattle.register.proofs.Keeps.{text-words}
 
 pub leaves-refused : {A : Type 0} (a : Answer) (x m : A) → isRefusal a ≡ true → leaves a x m ≡ m
 leaves-refused (Refused n) x m e = refl
+leaves-refused (RefusedAt n line byte) x m e = refl
 leaves-refused Done x m e = false-true e
 leaves-refused (Count n) x m e = false-true e
 leaves-refused (Plate a b) x m e = false-true e
 
 pub leaves-accepted : {A : Type 0} (a : Answer) (x m : A) → isRefusal a ≡ false → leaves a x m ≡ x
 leaves-accepted (Refused n) x m e = absurd (true≢false e)
+leaves-accepted (RefusedAt n line byte) x m e = absurd (true≢false e)
 leaves-accepted Done x m e = refl
 leaves-accepted (Count n) x m e = refl
 leaves-accepted (Plate a b) x m e = refl
@@ -45,6 +47,7 @@ leaves-accepted (Plate a b) x m e = refl
 -- where a refusal makes m, what is made is left
 pub leaves-made : {A : Type 0} (a : Answer) (x m : A) → (isRefusal a ≡ true → x ≡ m) → x ≡ leaves a x m
 leaves-made (Refused n) x m f = f refl
+leaves-made (RefusedAt n line byte) x m f = f refl
 leaves-made Done x m f = refl
 leaves-made (Count n) x m f = refl
 leaves-made (Plate a b) x m f = refl
@@ -84,13 +87,13 @@ fresh-right-size m e = (rw e refl, rw e refl)
 
 -- ---- what is made, slot by slot, where nothing refuses the call
 
-pub new-changes : (m t : List ℕ) (k : ℕ) (s : List ℕ)
+pub new-changes : (m t s : List ℕ)
     → roomRefusal m ≡ 0
-    → readSheet t ≡ took k s
+    → readSheet t ≡ right s
     → EnteredChanges m (sheetOf t)
-new-changes m t k s z e =
+new-changes m t s z e =
     let g = room-goes m z in
-    entered-changes m (sheetOf t) (sound m (g .ok) .size) (g .room) (words-length (sheetOf t) (text-words t k s e))
+    entered-changes m (sheetOf t) (sound m (g .ok) .size) (g .room) (words-length (sheetOf t) (text-words t s e))
 
 pub open-changes : (m : List ℕ) (d h : ℕ) → openRefusal m d h ≡ 0 → OpenedChanges m d h
 open-changes m d h z =
@@ -111,10 +114,10 @@ module _ (m : List ℕ) (d : ℕ) (z : deskRefusal m d ≡ 0) where
       let p = take-fits (draftSheet m d) line y in
       fitted-changes m d line 0 (sound m (g .ok) .size) (g .desk) (p .low) (p .high)
 
-  pub replace-changes : (t : List ℕ) (k : ℕ) (s : List ℕ) → readSheet t ≡ took k s → ReplacedChanges m d (sheetOf t)
-  replace-changes t k s e =
+  pub replace-changes : (t s : List ℕ) → readSheet t ≡ right s → ReplacedChanges m d (sheetOf t)
+  replace-changes t s e =
       let g = desk-goes m d z in
-      replaced-changes m d (sheetOf t) (sound m (g .ok) .size) (g .desk) (words-length (sheetOf t) (text-words t k s e))
+      replaced-changes m d (sheetOf t) (sound m (g .ok) .size) (g .desk) (words-length (sheetOf t) (text-words t s e))
 
   pub save-changes : SavedChanges m d
   save-changes =

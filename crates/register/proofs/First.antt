@@ -11,7 +11,7 @@ use lib.Dec.{eqb, leb, ltb}
 use lib.ListN.{length}
 use Rattle.answers.specs.Refusals.{badMemory, outsideLimits, noRoom}
 use Rattle.answers.specs.declared.Answer.{Answer}
-use Rattle.answers.specs.declared.Answer.the-variants.{Refused, Done, Count, Plate}
+use Rattle.answers.specs.declared.Answer.the-variants.{Refused, RefusedAt, Done, Count, Plate}
 use Rattle.ground.proofs.Booleans.{either}
 use Rattle.sheet.specs.Sheet.{sheetOk}
 use Rattle.sheet.specs.SheetText.{sheetText}
@@ -48,6 +48,7 @@ hull-within m h e l = let s = sound m e in numbered h (hullSheet m h) (omega (ar
 
 abbrev isOutside : Answer → Bool
 isOutside (Refused number) = eqb number outsideLimits
+isOutside (RefusedAt number line byte) = eqb number outsideLimits
 isOutside Done = false
 isOutside (Count n) = false
 isOutside (Plate a b) = false

@@ -7,9 +7,9 @@ use native.Mathlib.Omega.{arith}
 use borrow.Author.Tests.{eqb-true}
 use lib.Dec.{eqb}
 use lib.ListN.{length}
-use Rattle.form.specs.Outcome.{Found, took, lost}
+use Rattle.form.specs.Outcome.{Verdict, right, wrong}
 use Rattle.answers.specs.declared.Answer.{Answer}
-use Rattle.answers.specs.declared.Answer.the-variants.{Refused, Done, Count, Plate}
+use Rattle.answers.specs.declared.Answer.the-variants.{Refused, RefusedAt, Done, Count, Plate}
 use Rattle.sheet.specs.Sheet.{wordsOk}
 use Rattle.sheet.specs.SheetText.{readSheet}
 use Rattle.sheet.proofs.Words.{words-of}
@@ -30,6 +30,7 @@ use Rattle.register.proofs.Own.{put-fits, take-fits, save-unspent}
 
 kept-or-made : (a : Answer) (x m : List ℕ) → formed m ≡ true → formed x ≡ true → formed (leaves a x m) ≡ true
 kept-or-made (Refused n) x m ok f = ok
+kept-or-made (RefusedAt n line byte) x m ok f = ok
 kept-or-made Done x m ok f = f
 kept-or-made (Count n) x m ok f = f
 kept-or-made (Plate a b) x m ok f = f
@@ -45,20 +46,20 @@ past-refusal refusal a x m ok f = go (eqb refusal 0) refl
     go false e = ok
 
 -- the sheet of a text that is read is within the limits
-pub text-words : (t : List ℕ) (k : ℕ) (s : List ℕ) → readSheet t ≡ took k s → wordsOk (sheetOf t) ≡ true
-text-words t k s e = rw (e, sheetOf) (words-of s (reads-written t k s e .within))
+pub text-words : (t s : List ℕ) → readSheet t ≡ right s → wordsOk (sheetOf t) ≡ true
+text-words t s e = rw (e, sheetOf) (words-of s (reads-written t s e .within))
 
 past-text : (t : List ℕ) (a : Answer) (x m : List ℕ)
     → formed m ≡ true
     → (wordsOk (sheetOf t) ≡ true → formed (leaves a x m) ≡ true)
-    → formed (leaves (onText t a Refused) x m) ≡ true
+    → formed (leaves (onText t a) x m) ≡ true
 past-text t a x m ok f = go (readSheet t) refl
   where
-    go : (r : Found (List ℕ))
+    go : (r : Verdict (List ℕ))
         → readSheet t ≡ r
-        → formed (leaves (elim r [ took k s ↦ a | lost number at ↦ Refused number ]) x m) ≡ true
-    go (took k s) e = f (text-words t k s e)
-    go (lost number at) e = ok
+        → formed (leaves (elim r [ right s ↦ a | wrong number line byte ↦ RefusedAt number line byte ]) x m) ≡ true
+    go (right s) e = f (text-words t s e)
+    go (wrong number line byte) e = ok
 
 -- ---- the calls
 

@@ -7,11 +7,11 @@ use native.Mathlib.Omega.{arith}
 use borrow.Author.Tests.{eqb-false, le-leb}
 use lib.Dec.{eqb, leb, ltb}
 use lib.ListN.{getD, length}
-use Rattle.form.specs.Outcome.{Found, took, lost}
+use Rattle.form.specs.Outcome.{Verdict, right, wrong}
 use Rattle.ground.proofs.Booleans.{either}
 use Rattle.answers.specs.Refusals.{badMemory, emptyLine}
 use Rattle.answers.specs.declared.Answer.{Answer}
-use Rattle.answers.specs.declared.Answer.the-variants.{Refused, Done, Count}
+use Rattle.answers.specs.declared.Answer.the-variants.{Refused, RefusedAt, Done, Count}
 use Rattle.answers.proofs.Outcomes.{OfList, text-listed}
 use Rattle.sheet.specs.Lines.{fittings, fittingHigh}
 use Rattle.sheet.specs.Places.{fittingWord}
@@ -40,12 +40,13 @@ by-refusal refusal a h k = go (eqb refusal 0) refl
     go true e = k
     go false e = let n = eqb-false refusal 0 e in rw (le-leb badMemory refusal (omega arith), h) refl
 
-by-text : (t : List ℕ) (a : Answer) → OfList a → OfList (onText t a Refused)
+by-text : (t : List ℕ) (a : Answer) → OfList a → OfList (onText t a)
 by-text t a h = go (readSheet t) refl
   where
-    go : (r : Found (List ℕ)) → readSheet t ≡ r → OfList (elim r [ took k s ↦ a | lost number at ↦ Refused number ])
-    go (took k s) e = h
-    go (lost number at) e = text-listed (sheet-fault t number at e)
+    go : (r : Verdict (List ℕ)) → readSheet t ≡ r
+        → OfList (elim r [ right s ↦ a | wrong number line byte ↦ RefusedAt number line byte ])
+    go (right s) e = h
+    go (wrong number line byte) e = text-listed line byte (sheet-fault t number line byte e)
 
 -- ---- what calls share
 

@@ -4,7 +4,7 @@ use mathlib.Core.Path.{_≡_, refl}
 use mathlib.Core.Bool.{true}
 use mathlib.Core.List.{List}
 use Prim.Native.Nat.{ℕ}
-use Rattle.form.specs.Outcome.{took}
+use Rattle.form.specs.Outcome.{right}
 use Rattle.answers.specs.Values.{isRefusal}
 use Rattle.sheet.specs.SheetText.{readSheet}
 use Rattle.memory.specs.Layout.{draftSheet}
@@ -24,10 +24,10 @@ module _ (m : List ℕ) (d : ℕ) (z : deskRefusal m d ≡ 0) where
       → step m (work d (takeOff line)) .memory ≡ fitted m d line 0
   take-makes line y = rw (z, y) refl
 
-  pub replace-makes : (t : List ℕ) (k : ℕ) (s : List ℕ)
-      → readSheet t ≡ took k s
+  pub replace-makes : (t s : List ℕ)
+      → readSheet t ≡ right s
       → step m (work d (replace t)) .memory ≡ replaced m d (sheetOf t)
-  replace-makes t k s e = rw (z, e, onText) refl
+  replace-makes t s e = rw (z, e, onText) refl
 
   pub save-makes : saveOwn m d ≡ 0 → step m (save d) .memory ≡ saved m d
   save-makes y = rw (z, y) refl
@@ -38,11 +38,11 @@ module _ (m : List ℕ) (d : ℕ) (z : deskRefusal m d ≡ 0) where
 pub open-makes : (m : List ℕ) (d h : ℕ) → openRefusal m d h ≡ 0 → step m (openHull d h) .memory ≡ opened m d h
 open-makes m d h z = rw z refl
 
-pub new-makes : (m t : List ℕ) (k : ℕ) (s : List ℕ)
+pub new-makes : (m t s : List ℕ)
     → roomRefusal m ≡ 0
-    → readSheet t ≡ took k s
+    → readSheet t ≡ right s
     → step m (newHull t) .memory ≡ entered m (sheetOf t)
-new-makes m t k s z e = rw (z, e, onText) refl
+new-makes m t s z e = rw (z, e, onText) refl
 
 pub written-kept : (m : List ℕ) (h : ℕ) (out : List ℕ)
     → isRefusal (step m (ask h (write out)) .answer) ≡ true
