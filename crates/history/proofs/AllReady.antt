@@ -15,9 +15,10 @@ use Rattle.history.specs.History.{block, role}
 use Rattle.history.proofs.Tools.{at-or, self, none≢some, some-inj}
 use Rattle.history.proofs.Model.{Draft, State, refusal, opens, edited}
 use Rattle.history.proofs.ModelStep.{fresh, stateOf, eventsOf}
-use Rattle.history.proofs.Rules.{Idle, no-desk, no-draft, Refuses, unread, no-room, open-unknown, open-high}
+use Rattle.history.proofs.Rules.{Idle, no-desk, no-draft, Refuses, no-room, open-unknown, open-high}
 use Rattle.history.proofs.Rules.{work-idle, save-idle, save-spent, save-stale, drop-idle, ask-unknown}
-use Rattle.history.proofs.Rules.{Way, new-enters, open-done, work-done, save-done, drop-done, ask-done, refused}
+use Rattle.history.proofs.Rules.{Way, new-enters, new-unread, open-done, work-done, save-done, drop-done}
+use Rattle.history.proofs.Rules.{ask-done, refused}
 use Rattle.history.proofs.SomeRule.{by-ways}
 use Rattle.history.proofs.Replay.{Ready, IfSavable, kept, lost, opened-ready, worked-ready, store-ready}
 
@@ -58,7 +59,6 @@ module _ (s : State) (past : List Event) (f : Drafts s past) where
 
   ready-refused : {c : Call} {n : ℕ} → Refuses s c n → Drafts s ((c ⇒ refusal c n) ∷ past)
   unfolding block role
-  ready-refused (unread n at p e) = f
   ready-refused (no-room p) = f
   ready-refused (open-unknown {d = g} p q) = λ d x e. rw (and-false (eqb d g), block) (f d x e)
   ready-refused (open-high {d = g} p) = λ d x e. rw (and-false (eqb d g), block) (f d x e)
@@ -71,9 +71,10 @@ module _ (s : State) (past : List Event) (f : Drafts s past) where
 
   ready-step : {c : Call} {t : State} {r : Reply} → Way s c t r → Drafts t ((c ⇒ r) ∷ past)
   unfolding block role
-  ready-step (new-enters k r p e) =
+  ready-step (new-enters r p e) =
       λ d x e. let z = f d x e in
       kept z _ (omega arith) (rw (ne-eqb (x .hull) (s .register .entered) (omega (arith, z .hull))))
+  ready-step (new-unread n line byte p e) = f
   ready-step (open-done {d = g} {h} p q) =
       at-or g _
       (λ x e. let u : opens (s .register) h ≡ x = some-inj (rw self at e) in

@@ -7,7 +7,7 @@ use mathlib.Core.List.{List}
 use mathlib.Core.Bool.{true, false}
 use mathlib.Core.Option.{none, some}
 use borrow.Author.Tests.{eqb-false}
-use Rattle.form.specs.Outcome.{took}
+use Rattle.form.specs.Outcome.{right}
 use Rattle.answers.specs.declared.Answer.{Answer}
 use Rattle.answers.specs.declared.Answer.the-variants.{Refused}
 use Rattle.answers.specs.Values.{isRefusal}
@@ -19,10 +19,10 @@ use Rattle.register.specs.Refusals.{roomRefusal, hullRefusal, openRefusal, desk
 use Rattle.register.specs.Calls.{Ask, Call, ask, lent, makes, fills, step}
 use Rattle.register.proofs.Refusals.{desk-high, desk-idle, desk-holds, room-left}
 use Rattle.register.proofs.Keeps.{keeps-formed}
-use Rattle.register.proofs.Effects.{leaves-accepted, leaves-same, accepted-makes}
+use Rattle.register.proofs.Effects.{leaves-refused, leaves-accepted, leaves-same, refused-leaves, accepted-makes}
 use Rattle.register.proofs.Effects.{new-changes, open-changes, save-changes, drop-changes}
 use Rattle.history.specs.Replies.{Reply, reply, next}
-use Rattle.history.proofs.Model.{Draft, State, askSays, refusal, opens, atDesk, afterEntry, afterSave, editsOf}
+use Rattle.history.proofs.Model.{Draft, State, askSays, opens, atDesk, afterEntry, afterSave, editsOf}
 use Rattle.history.proofs.Rules.{Idle, no-desk, no-draft}
 use Rattle.history.proofs.Tools.{at-or, self}
 use Rattle.history.proofs.Shown.{Shows, holds-none, same-hull-in, same-draft-in, desk-shows, shown-few}
@@ -37,9 +37,14 @@ module _ {m : List ℕ} {s : State} (S : Shows m s) where
   -- ---- any call
 
   -- refused: the memory is as it was
-  pub kept : (c : Call) (n : ℕ) → step m c .answer ≡ Refused n → Tied (next m c) (reply m c) s (refusal c n)
+  pub kept : (c : Call) (a : Answer)
+      → step m c .answer ≡ a
+      → isRefusal a ≡ true
+      → Tied (next m c) (reply m c) s (record { answer = a; output = lent c })
   unfolding next reply
-  kept c n e = record { shows = rw e S; replies = rw e refl }
+  kept c a e f =
+      let is : step m c .memory ≡ m = refused-leaves m c (rw e f) .memory-kept in
+      record { shows = rw is S; replies = rw (e, leaves-refused a (fills m c) (lent c) f) refl }
 
   -- accepted: the memory is what the call makes, and well formed
   pub done : {t : State} (c : Call) (a : Answer)
@@ -79,13 +84,13 @@ module _ {m : List ℕ} {s : State} (S : Shows m s) where
 
   -- ---- what is made shows the state after the call
 
-  pub enters-shown : (t : List ℕ) (k : ℕ) (r : List ℕ)
+  pub enters-shown : (t r : List ℕ)
       → s .register .entered < mostHulls
-      → readSheet t ≡ took k r
+      → readSheet t ≡ right r
       → formed (entered m (sheetOf t)) ≡ true
       → Shows (entered m (sheetOf t)) (afterEntry s t)
-  enters-shown t k r p e ok =
-      let x = new-changes m t k r (room p) e in
+  enters-shown t r p e ok =
+      let x = new-changes m t r (room p) e in
       let after = s .register .entered in
       record {
         ok = ok;

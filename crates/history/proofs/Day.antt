@@ -11,7 +11,8 @@ use Rattle.text.specs.Field.{fieldOf, agreed}
 use Rattle.text.specs.Number.{restOf, numberOf, digitsIn, digitsOf}
 use Rattle.text.specs.Limit.{allHold}
 use Rattle.text.specs.Line.{readEntry, readNumbers, readLine, numbersText}
-use Rattle.answers.specs.declared.Answer.the-variants.{Refused, Done, Count, Plate}
+use Rattle.text.specs.Place.{feeds, sinceFeed}
+use Rattle.answers.specs.declared.Answer.the-variants.{Refused, RefusedAt, Done, Count, Plate}
 use Rattle.sheet.specs.Sheet.{limitsOn, sheetLimits}
 use Rattle.form.specs.Parts.{kindOf, numbersOf}
 use Rattle.form.specs.Reading.{readRows, readParts, readForm}
@@ -46,7 +47,7 @@ abbrev entering : Event
 entering = newHull (text "HULL\t9\n" "") ⇒ says (Count 0)
 
 abbrev faulty : Event
-faulty = newHull (bytes "HULL\t16\n") ⇒ says (Refused 3)
+faulty = newHull (bytes "HULL\t16\n") ⇒ says (RefusedAt 3 1 6)
 
 -- the hull's text, with the fitting that desk 1 saved, into an output of three bytes more
 abbrev writing : Event
@@ -96,7 +97,8 @@ a-day : transcript freshWords (map call day) ≡ day
 unfolding transcript reply next day text freshWords entered opened fitted replaced dropped saved each
     hullOk draftOk formed hullRefusal deskRefusal roomRefusal openRefusal readSheet sheetForm numbersOn
     numbersOf fitsOf weightsFrom readForm readParts readRows kindOf readLine agreed readNumbers readEntry
-    fieldOf numberOf restOf allHold sheetLimits limitsOn sheetText rowsOn fitRows partsText rowsText numbersText
+    fieldOf numberOf restOf feeds sinceFeed allHold sheetLimits limitsOn sheetText rowsOn fitRows partsText rowsText
+    numbersText
     digitsOf digitsIn stationProduct volumeN netZ addedUp boatM exactX markedC rising rowsRight rowFor lacksRow
     engineWeight liveLoad persons lacksTests plateC inboardX loadX markedA formulaWatts powerA plateA ruleU
     markedU plateU

@@ -4,12 +4,13 @@ use mathlib.Core.Bool.{cond}
 use mathlib.Core.List.{List, [], _∷_}
 use mathlib.Core.Option.{Option, none, some}
 use lib.Dec.{eqb, ltb}
+use Rattle.form.specs.Outcome.{right, wrong}
+use Rattle.sheet.specs.SheetText.{readSheet}
 use Rattle.answers.specs.Refusals.{full, noHull, noDesk, noDraft, editedSince, editsSpent}
-use Rattle.answers.specs.declared.Answer.the-variants.{Done, Count}
+use Rattle.answers.specs.declared.Answer.the-variants.{RefusedAt, Done, Count}
 use Rattle.memory.specs.Layout.{mostHulls, desks, hullSheet}
 use Rattle.memory.specs.Formed.{mostEdits}
 use Rattle.memory.specs.Updates.{freshWords}
-use Rattle.register.specs.Refusals.{onText}
 use Rattle.register.specs.Calls.{Call, newHull, openHull, work, save, dropDraft, ask}
 use Rattle.history.specs.Runs.{Event, _⇒_}
 use Rattle.history.proofs.Model.{Draft, State, Outcome, workSays, askSays, refuse, gives, atDesk, afterEntry}
@@ -35,7 +36,10 @@ saveOf s d x =
 unfoldable pub step : State → Call → Outcome
 step s (newHull t) =
     cond (ltb (s .register .entered) mostHulls)
-    (onText t (gives (afterEntry s t) (Count (s .register .entered))) (refuse s (newHull t)))
+    (elim (readSheet t) [
+      | right r ↦ gives (afterEntry s t) (Count (s .register .entered))
+      | wrong n line byte ↦ gives s (RefusedAt n line byte)
+    ])
     (refuse s (newHull t) full)
 step s (openHull d h) =
     cond (ltb d desks)

@@ -1,17 +1,16 @@
--- A step as rules: each has its conditions on the state, and the state and reply that it makes. The refusals are one
--- rule, and each has its reason.
+-- A step as rules: each has its conditions on the state, and the state and reply that it makes. The refusals by a number
+-- alone are one rule, and each has its reason; that of a new hull's text, with its place, is another.
 use Prim.Native.Nat.{ℕ, suc, _≤_, _<_}
 use mathlib.Core.Path.{_≡_}
 use mathlib.Core.List.{List}
 use mathlib.Core.Option.{none, some}
 use borrow.Author.Tests.{lt-ltb, le-ltb, eq-eqb, ne-eqb}
-use Rattle.form.specs.Outcome.{took, lost}
+use Rattle.form.specs.Outcome.{right, wrong}
 use Rattle.answers.specs.Refusals.{full, noHull, noDesk, noDraft, editedSince, editsSpent}
-use Rattle.answers.specs.declared.Answer.the-variants.{Done, Count}
+use Rattle.answers.specs.declared.Answer.the-variants.{RefusedAt, Done, Count}
 use Rattle.sheet.specs.SheetText.{readSheet}
 use Rattle.memory.specs.Layout.{mostHulls, desks}
 use Rattle.memory.specs.Formed.{mostEdits}
-use Rattle.register.specs.Refusals.{onText}
 use Rattle.register.specs.Calls.{Work, Ask, Call, newHull, openHull, work, save, dropDraft, ask}
 use Rattle.history.specs.Replies.{Reply, says}
 use Rattle.history.proofs.Model.{Draft, State, workSays, askSays, refusal, refuse, atDesk, afterEntry, opens}
@@ -25,7 +24,6 @@ pub data Idle (s : State) (d : ℕ) : ℕ → Type 0 where
 
 -- the state refuses the call with that number
 pub data Refuses (s : State) : Call → ℕ → Type 0 where
-  unread : {t : List ℕ} (n k : ℕ) → s .register .entered < mostHulls → readSheet t ≡ lost n k → Refuses s (newHull t) n
   no-room : {t : List ℕ} → mostHulls ≤ s .register .entered → Refuses s (newHull t) full
   open-unknown : {d h : ℕ} → d < desks → s .register .entered ≤ h → Refuses s (openHull d h) noHull
   open-high : {d h : ℕ} → desks ≤ d → Refuses s (openHull d h) noDesk
@@ -46,10 +44,14 @@ pub data Refuses (s : State) : Call → ℕ → Type 0 where
   ask-unknown : {h : ℕ} {q : Ask} → s .register .entered ≤ h → Refuses s (ask h q) noHull
 
 pub data Way (s : State) : Call → State → Reply → Type 0 where
-  new-enters : {t : List ℕ} (k : ℕ) (r : List ℕ)
+  new-enters : {t : List ℕ} (r : List ℕ)
       → s .register .entered < mostHulls
-      → readSheet t ≡ took k r
+      → readSheet t ≡ right r
       → Way s (newHull t) (afterEntry s t) (says (Count (s .register .entered)))
+  new-unread : {t : List ℕ} (n line byte : ℕ)
+      → s .register .entered < mostHulls
+      → readSheet t ≡ wrong n line byte
+      → Way s (newHull t) s (says (RefusedAt n line byte))
   open-done : {d h : ℕ}
       → d < desks
       → h < s .register .entered
@@ -75,7 +77,6 @@ idle-refused s c f (no-draft p q) = rw (lt-ltb _ _ p, q)
 
 refusal-taken : (s : State) {c : Call} {n : ℕ} → Refuses s c n → step s c ≡ refuse s c n
 unfolding step
-refusal-taken s (unread n at p e) = rw (lt-ltb _ _ p, e, onText)
 refusal-taken s (no-room p) = rw (le-ltb _ _ p)
 refusal-taken s (open-unknown p q) = rw (lt-ltb _ _ p, le-ltb _ _ q)
 refusal-taken s (open-high p) = rw (le-ltb _ _ p)
@@ -90,7 +91,8 @@ pub way-taken : (s : State) {c : Call} {t : State} {r : Reply}
     → Way s c t r
     → step s c ≡ record { state = t; reply = r }
 unfolding step
-way-taken s (new-enters k r p e) = rw (lt-ltb _ _ p, e, onText)
+way-taken s (new-enters r p e) = rw (lt-ltb _ _ p, e)
+way-taken s (new-unread n line byte p e) = rw (lt-ltb _ _ p, e)
 way-taken s (open-done p q) = rw (lt-ltb _ _ p, lt-ltb _ _ q)
 way-taken s (work-done x p q) = rw (lt-ltb _ _ p, q)
 way-taken s (save-done x p q e n) = rw (lt-ltb _ _ p, q, ne-eqb _ _ n, eq-eqb _ _ e)

@@ -12,7 +12,7 @@ use Rattle.text.specs.Number.{restOf, numberOf}
 use Rattle.text.specs.Limit.{allHold}
 use Rattle.text.specs.Line.{readEntry, readNumbers, readLine}
 use Rattle.answers.specs.declared.Answer.{Answer}
-use Rattle.answers.specs.declared.Answer.the-variants.{Refused, Done, Count, Plate}
+use Rattle.answers.specs.declared.Answer.the-variants.{Refused, RefusedAt, Done, Count, Plate}
 use Rattle.sheet.specs.Sheet.{limitsOn, sheetLimits}
 use Rattle.form.specs.Parts.{kindOf, numbersOf}
 use Rattle.form.specs.Reading.{readRows, readParts, readForm}
@@ -41,6 +41,7 @@ data Starred : Type 0 where
 
 counts : Answer → ℕ → Bool
 counts (Refused m) n = false
+counts (RefusedAt m line byte) n = false
 counts Done n = false
 counts (Count m) n = eqb m n
 counts (Plate a b) n = false

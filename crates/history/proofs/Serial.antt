@@ -10,8 +10,9 @@ use Rattle.history.specs.Runs.{Event, _⇒_, call}
 use Rattle.history.specs.History.{spot, serial}
 use Rattle.history.proofs.Model.{Draft, Register, State, askSays, refusal, store}
 use Rattle.history.proofs.ModelStep.{stateOf, eventsOf}
-use Rattle.history.proofs.Rules.{Refuses, unread, no-room, ask-unknown}
-use Rattle.history.proofs.Rules.{Way, new-enters, open-done, work-done, save-done, drop-done, ask-done, refused}
+use Rattle.history.proofs.Rules.{Refuses, no-room, ask-unknown}
+use Rattle.history.proofs.Rules.{Way, new-enters, new-unread, open-done, work-done, save-done, drop-done}
+use Rattle.history.proofs.Rules.{ask-done, refused}
 use Rattle.history.proofs.SomeRule.{by-ways}
 use Rattle.history.proofs.Replay.{state-by, events-by, Replays, Ready}
 use Rattle.history.proofs.AllReady.{Drafts, drafts}
@@ -67,7 +68,6 @@ serial-refused : {s : State} (past : List Event) (c : Call) {n : ℕ}
     → RunsTo (s .register) (serial past)
     → RunsTo (s .register) (serial ((c ⇒ refusal c n) ∷ past))
 unfolding serial spot
-serial-refused past (newHull t) (unread n at p e) g = refused-runs g (unread n at (rw (g .register) p) e)
 serial-refused past (newHull t) (no-room p) g = refused-runs g (no-room (rw (g .register) p))
 serial-refused past (openHull d h) p g = g
 serial-refused past (work d w) p g = g
@@ -82,8 +82,10 @@ serial-step : (s : State) (past : List Event) {c : Call} {t : State} {r : Reply}
     → RunsTo (s .register) (serial past)
     → RunsTo (t .register) (serial ((c ⇒ r) ∷ past))
 unfolding serial spot
-serial-step s past (new-enters k r p e) f g =
-    rw (← g .register) (one-more g (new-enters k r (rw (g .register) p) e) refl)
+serial-step s past (new-enters r p e) f g =
+    rw (← g .register) (one-more g (new-enters r (rw (g .register) p) e) refl)
+serial-step s past (new-unread n line byte p e) f g =
+    rw (← g .register) (one-more g (new-unread n line byte (rw (g .register) p) e) refl)
 serial-step s past (open-done p q) f g = g
 serial-step s past (work-done y p q) f g = g
 serial-step s past (save-done {d} y p q u l) f g = saves-runs (f d y q) u l g

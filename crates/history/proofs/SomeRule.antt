@@ -4,7 +4,7 @@ use mathlib.Core.Path.{_≡_, refl}
 use mathlib.Core.List.{List}
 use mathlib.Core.Option.{Option, none, some}
 use Rattle.ground.proofs.Booleans.{by-less, by-equal}
-use Rattle.form.specs.Outcome.{Found, took, lost}
+use Rattle.form.specs.Outcome.{Verdict, right, wrong}
 use Rattle.sheet.specs.SheetText.{readSheet}
 use Rattle.memory.specs.Layout.{mostHulls, desks}
 use Rattle.memory.specs.Formed.{mostEdits}
@@ -12,9 +12,10 @@ use Rattle.register.specs.Calls.{Call, newHull, openHull, work, save, dropDraft
 use Rattle.history.specs.Replies.{Reply}
 use Rattle.history.proofs.Model.{Draft, State, editsOf}
 use Rattle.history.proofs.ModelStep.{step}
-use Rattle.history.proofs.Rules.{Idle, no-desk, no-draft, Refuses, unread, no-room, open-unknown, open-high}
+use Rattle.history.proofs.Rules.{Idle, no-desk, no-draft, Refuses, no-room, open-unknown, open-high}
 use Rattle.history.proofs.Rules.{work-idle, save-idle, save-spent, save-stale, drop-idle, ask-unknown}
-use Rattle.history.proofs.Rules.{Way, new-enters, open-done, work-done, save-done, drop-done, ask-done, refused}
+use Rattle.history.proofs.Rules.{Way, new-enters, new-unread, open-done, work-done, save-done, drop-done}
+use Rattle.history.proofs.Rules.{ask-done, refused}
 use Rattle.history.proofs.Rules.{way-taken}
 
 record Fits (s : State) (c : Call) : Type 0 where
@@ -26,9 +27,9 @@ module _ {s : State} where
   fitted : {c : Call} {t : State} {r : Reply} → Way s c t r → Fits s c
   fitted p = record { state = _; reply = _; rule = p }
 
-  find-new : (t : List ℕ) (r : Found (List ℕ)) → s .register .entered < mostHulls → readSheet t ≡ r → Fits s (newHull t)
-  find-new t (took k r) p e = fitted (new-enters k r p e)
-  find-new t (lost n at) p e = fitted (refused (unread n at p e))
+  find-new : (t : List ℕ) (r : Verdict (List ℕ)) → s .register .entered < mostHulls → readSheet t ≡ r → Fits s (newHull t)
+  find-new t (right r) p e = fitted (new-enters r p e)
+  find-new t (wrong n line byte) p e = fitted (new-unread n line byte p e)
 
   find-draft : (d : ℕ) {c : Call}
       → ((n : ℕ) → Idle s d n → Refuses s c n)

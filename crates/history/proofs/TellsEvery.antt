@@ -18,7 +18,8 @@ use Rattle.history.proofs.Tools.{at-or, self}
 use Rattle.history.proofs.Model.{Draft, State, refusal, atDesk, afterSave}
 use Rattle.history.proofs.ModelStep.{fresh, stateOf, eventsOf}
 use Rattle.history.proofs.Rules.{Refuses, work-idle}
-use Rattle.history.proofs.Rules.{Way, new-enters, open-done, work-done, save-done, drop-done, ask-done, refused}
+use Rattle.history.proofs.Rules.{Way, new-enters, new-unread, open-done, work-done, save-done, drop-done}
+use Rattle.history.proofs.Rules.{ask-done, refused}
 use Rattle.history.proofs.SomeRule.{by-ways}
 use Rattle.history.proofs.AllReady.{Drafts, drafts, idle-none}
 use Rattle.history.proofs.HistoryTells.{toldDraft, Tells, drawn, drawn-none, drawn-opened, drawn-worked}
@@ -97,13 +98,14 @@ module _ {s : State} {past : List Event} (f : Tells s past) where
       → Drafts s past
       → Tells t ((c ⇒ r) ∷ past)
   unfolding block opening savesOf isSaveOf role redo
-  tells-step w (new-enters k r p e) z =
+  tells-step w (new-enters r p e) z =
       let new : ℕ = s .register .entered in
       record {
         edits = at-or new _ (rw (self, f .unentered new (le-refl _))) (λ h n. rw n (f .edits h));
         drafts = f .drafts;
         unentered = λ h l. f .unentered h (omega arith);
       }
+  tells-step w (new-unread n line byte p e) z = same _ (λ h. refl) (λ d. refl)
   tells-step w (open-done {d = g} {h} p q) z =
       one-desk g _ (λ h. refl)
       (rw (self, block, opening) (drawn-opened s past g h (says (Count (s .register .hull h .edits))) w (f .edits h)))

@@ -8,9 +8,9 @@ use mathlib.Core.Option.{some}
 use lib.Dec.{eqb}
 use borrow.Author.Tests.{eqb-true, ne-eqb}
 use Rattle.ground.proofs.Booleans.{by-test}
-use Rattle.form.specs.Outcome.{Found, took, lost}
+use Rattle.form.specs.Outcome.{Verdict, right, wrong}
 use Rattle.answers.specs.declared.Answer.{Answer}
-use Rattle.answers.specs.declared.Answer.the-variants.{Refused, Done}
+use Rattle.answers.specs.declared.Answer.the-variants.{Done}
 use Rattle.answers.specs.Values.{isRefusal}
 use Rattle.sheet.specs.SheetText.{readSheet}
 use Rattle.memory.specs.Layout.{draftSheet}
@@ -33,14 +33,14 @@ no-refusal refusal a e =
     by-test (eqb refusal 0) (eqb-true refusal 0) (λ z. absurd (true≢false (rw z at e)))
 
 on-read : {P : Type 0} (t : List ℕ)
-    → isRefusal (onText t Done Refused) ≡ false
-    → ((k : ℕ) (s : List ℕ) → readSheet t ≡ took k s → P)
+    → isRefusal (onText t Done) ≡ false
+    → ((s : List ℕ) → readSheet t ≡ right s → P)
     → P
 on-read {P} t e f = go (readSheet t) refl
   where
-    go : (r : Found (List ℕ)) → readSheet t ≡ r → P
-    go (took k s) q = f k s q
-    go (lost n at) q = absurd (true≢false (rw (q, onText) at e))
+    go : (r : Verdict (List ℕ)) → readSheet t ≡ r → P
+    go (right s) q = f s q
+    go (wrong n line byte) q = absurd (true≢false (rw (q, onText) at e))
 
 -- ---- the memory
 
