@@ -3,13 +3,15 @@
 use mathlib.Core.Path.{_≡_, refl, sym, ap, _∙_}
 use mathlib.Core.Bool.{Bool, true, false}
 use mathlib.Core.List.{List}
-use Prim.Native.Nat.{ℕ, _<_, _≤_}
+use Prim.Native.Nat.{ℕ, _+_, _<_, _≤_}
 use native.Mathlib.Omega.{arith}
 use borrow.Author.Tests.{ltb-true, ltb-false, lt-ltb, le-ltb}
 use lib.Dec.{ltb}
-use lib.ListN.{length}
+use lib.ListN.{length, take, drop, length-append, take-append-drop}
+use lib.Seq.{take-length}
 use Rattle.answers.specs.Refusals.{brokenLine}
 use Rattle.text.specs.Place.{lineAt, byteAt}
+use Rattle.text.proofs.Place.{line-bounds, byte-bounds}
 use Rattle.form.specs.Parts.{Form, Rows}
 use Rattle.form.specs.Outcome.{Found, took, lost, Verdict, right, wrong, placed, saying}
 use Rattle.form.specs.Reading.{readParts, readForm}
@@ -83,3 +85,31 @@ module _ (f : Form) (t : List ℕ) where
       go false d =
           let p = form-wrong number 0 byte (ltb-false (f .room) (length t) d) e in
           absurd (omega (arith, p .on-line))
+
+-- ---- how great a line and a byte are
+
+place-most : (t : List ℕ) (k : ℕ) → (lineAt t k ≤ length t + 1) × (byteAt t k ≤ length t + 1)
+place-most t k =
+    let x : List ℕ = take k t in
+    let few : length x ≤ length t = omega (arith, ap length (take-append-drop k t), length-append x (drop k t)) in
+    let all : take (length x) x ≡ x = take-length x in
+    let on-line : lineAt t k ≤ length x + 1 = rw all at (line-bounds x (length x) .1) in
+    let on-byte : byteAt t k ≤ length x + 1 = rw all at (byte-bounds x (length x) .1) in
+    (omega arith, omega arith)
+
+pub form-most : (f : Form) (t : List ℕ) (number line byte : ℕ) → readForm f t ≡ wrong number line byte
+    → (line ≤ f .room + 1) × (byte ≤ f .room + 1)
+form-most f t number line byte e = go (ltb (f .room) (length t)) refl
+  where
+    go : (u : Bool) → ltb (f .room) (length t) ≡ u → (line ≤ f .room + 1) × (byte ≤ f .room + 1)
+    go true d =
+        let c : wrong brokenLine 0 0 ≡ wrong number line byte =
+        sym (form-long f t (ltb-true (f .room) (length t) d)) ∙ e in
+        let on-line : 0 ≡ line = cc in
+        let on-byte : 0 ≡ byte = cc in
+        (omega arith, omega arith)
+    go false d =
+        let h = ltb-false (f .room) (length t) d in
+        let p = form-wrong f t number line byte h e in
+        let low = place-most t (p .at) in
+        (omega (arith, p .on-line, low .0), omega (arith, p .on-byte, low .1))
