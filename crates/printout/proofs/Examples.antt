@@ -9,6 +9,7 @@ use Rattle.text.specs.Quoted.{bytes}
 use Rattle.text.specs.Field.{fieldOf, agreed}
 use Rattle.text.specs.Number.{restOf, numberOf, digitsIn, digitsOf}
 use Rattle.text.specs.Line.{readEntry, readNumbers, readLine, numbersText}
+use Rattle.text.specs.Place.{feeds, sinceFeed}
 use Rattle.form.specs.Parts.{kindOf, numbersOf}
 use Rattle.form.specs.Reading.{readRows, readParts, readForm}
 use Rattle.sheet.specs.SheetText.{sheetForm, weightsFrom, fitsOf, numbersOn, readSheet}
@@ -47,10 +48,12 @@ inputs =
     ∷ withBoat boat "ENG\t10000\t45000\n" ∷ withBoat "MASS\t2000000\t0\t0\n" engines
     -- a flat bottom in the first row of the power table: plate A refuses, plate C does not
     ∷ withForm "FORM\t2250\t2250\t1000\t500\t1\t0\n" boat engines
-    -- the sheet is judged before the engine lines
-    ∷ withBoat "MASS\t0\t0\t0\n" "" ∷ withBoat boat "ENG\t0\t0\n"
+    -- the sheet is judged before the engine lines, whose lines are counted from 1 again
+    ∷ withBoat "MASS\t0\t0\t0\n" "" ∷ withBoat boat "ENG\t10000\t45000\nENG\t0\t0\n"
     -- an END that is not at the start of its line does not end the sheet, which has more than 4,096 bytes then
     ∷ (bytes "HULL\t16\nxEND\n" ++ replicate 4096 120) ∷ (bytes "HULL\t16\nEND\n" ++ replicate 4096 120)
+    -- engine lines of 4,096 bytes, and of one more
+    ∷ (withBoat boat "" ++ replicate 4096 69) ∷ (withBoat boat "" ++ replicate 4097 69)
     -- 8,192 bytes are judged, 8,193 are not
     ∷ (bytes "HULL\t16\nEND\n" ++ replicate 8180 120) ∷ (bytes "HULL\t16\nEND\n" ++ replicate 8181 120)
     ∷ []
@@ -58,16 +61,17 @@ inputs =
 inputs-right :
     map printed inputs
     ≡ bytes "PLATE\tA\t326\t20000\nPLATE\tC\t325\t3\n"
-    ∷ bytes "INPUT\t2\n" ∷ bytes "INPUT\t2\n" ∷ bytes "INPUT\t2\n" ∷ bytes "INPUT\t2\n"
+    ∷ bytes "INPUT\t2\t1\t1\n" ∷ bytes "INPUT\t2\t1\t1\n" ∷ bytes "INPUT\t2\t1\t1\n" ∷ bytes "INPUT\t2\t2\t1\n"
     ∷ bytes "PLATE\tA\t326\t20000\nREFUSED\tC\t11\n" ∷ bytes "REFUSED\tA\t12\nREFUSED\tC\t12\n"
     ∷ bytes "REFUSED\tA\t13\nPLATE\tC\t165\t1\n"
-    ∷ bytes "INPUT\t3\n" ∷ bytes "INPUT\t3\n"
-    ∷ bytes "INPUT\t2\n" ∷ bytes "INPUT\t3\n"
-    ∷ bytes "INPUT\t3\n" ∷ bytes "INPUT\t2\n"
+    ∷ bytes "INPUT\t3\t8\t6\n" ∷ bytes "INPUT\t3\t2\t5\n"
+    ∷ bytes "INPUT\t2\t0\t0\n" ∷ bytes "INPUT\t3\t1\t6\n"
+    ∷ bytes "INPUT\t2\t1\t2\n" ∷ bytes "INPUT\t2\t0\t0\n"
+    ∷ bytes "INPUT\t3\t1\t6\n" ∷ bytes "INPUT\t2\t0\t0\n"
     ∷ []
 unfolding inputs withForm withBoat printed rowsPrinted platesText sheetBytes numbersText digitsOf digitsIn
     readSheet sheetForm numbersOn numbersOf fitsOf weightsFrom readEngines engineForm
-    readForm readParts readRows kindOf readLine agreed readNumbers readEntry fieldOf numberOf restOf
+    readForm readParts readRows kindOf readLine agreed readNumbers readEntry fieldOf numberOf restOf feeds sinceFeed
     stationProduct volumeN netZ addedUp boatM exactX markedC rising rowsRight rowFor lacksRow engineWeight liveLoad
     persons
     lacksTests plateC inboardX loadX markedA formulaWatts powerA plateA

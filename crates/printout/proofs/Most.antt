@@ -3,24 +3,25 @@ use mathlib.Core.Path.{_≡_, refl}
 use mathlib.Core.Bool.{Bool, true, false, not}
 use mathlib.Core.Logic.{_⊎_, inl, inr}
 use mathlib.Core.List.{List, [], _∷_, _++_}
-use Prim.Native.Nat.{ℕ, _+_, _≤_, _<_}
+use Prim.Native.Nat.{ℕ, _+_, _*_, _≤_, _<_}
 use native.Mathlib.Omega.{arith}
 use borrow.Author.Tests.{ltb-true, ltb-false}
 use lib.Dec.{ltb}
 use lib.ListN.{length, drop, length-append}
 use Rattle.text.specs.Quoted.{bytes}
 use Rattle.text.specs.Number.{elevenDigits, digitsOf}
-use Rattle.text.specs.Line.{numbersText, lineText}
+use Rattle.text.specs.Line.{ender, numbersText, lineText}
 use Rattle.text.proofs.Number.{length-digits-ten}
 use Rattle.ground.proofs.Booleans.{either}
 use Rattle.answers.specs.declared.Answer.{Answer}
-use Rattle.answers.specs.declared.Answer.the-variants.{Refused, Done, Count, Plate}
+use Rattle.answers.specs.declared.Answer.the-variants.{Refused, RefusedAt, Done, Count, Plate}
 use Rattle.form.specs.Parts.{Rows}
-use Rattle.form.specs.Outcome.{Found, took, lost}
+use Rattle.form.specs.Outcome.{Verdict, right, wrong}
+use Rattle.sheet.specs.Lines.{mostBytes}
 use Rattle.sheet.specs.SheetText.{readSheet}
 use Rattle.sheet.specs.EngineText.{readEngines, powersOf, weightsOf}
-use Rattle.sheet.proofs.SheetText.{sheet-fault}
-use Rattle.sheet.proofs.EngineText.{engines-fault}
+use Rattle.sheet.proofs.SheetText.{sheet-fault, sheet-most}
+use Rattle.sheet.proofs.EngineText.{engines-fault, engines-most}
 use Rattle.capacity.specs.Whole.{isBelow}
 use Rattle.capacity.specs.PlateA.{markedA, lacksPower, plateA}
 use Rattle.capacity.specs.PlateC.{markedC, rowsRight, lacksRow, liveLoad, lacksTests, persons, plateC}
@@ -36,30 +37,40 @@ use Rattle.printout.proofs.Printed.{printed-long, printed-fault, printe
 abbrev pub mostPrinted : ℕ
 mostPrinted = 60
 
-one-length : (tag : List ℕ) (n : ℕ)
-    → length (lineText (figures tag 1) (n ∷ [])) ≡ length tag + (length (digitsOf n) + 1)
-unfolding numbersText
-one-length tag n = omega (arith, length-append tag (digitsOf n ++ (10 ∷ [])), length-append (digitsOf n) (10 ∷ []))
+-- figures that add up to ten digits at most take eleven bytes each, the ending one included
+abbrev together : List ℕ → ℕ
+together [] = 0
+together (n ∷ ns) = n + together ns
 
-two-length : (tag : List ℕ) (a b : ℕ)
-    → length (lineText (figures tag 2) (a ∷ b ∷ [])) ≡ length tag + (length (digitsOf a) + (length (digitsOf b) + 2))
+numbers-most : (ns : List ℕ) → together ns < elevenDigits
+    → length (numbersText (figures [] (length ns) .limits) ns) ≤ 11 * length ns
 unfolding numbersText
-two-length tag a b =
-    let rest : List ℕ = digitsOf b ++ (10 ∷ []) in
-    let inner = length-append (digitsOf b) (10 ∷ []) in
-    omega (arith, length-append tag (digitsOf a ++ (9 ∷ rest)), length-append (digitsOf a) (9 ∷ rest))
+numbers-most [] h = omega arith
+numbers-most (n ∷ ns) h =
+    let rest : List ℕ = numbersText (figures [] (length ns) .limits) ns in
+    let end : ℕ = ender (figures [] (length ns) .limits) in
+    omega (arith, length-append (digitsOf n) (end ∷ rest), length-digits-ten n (omega arith), numbers-most ns (omega arith))
+
+figures-most : (tag ns : List ℕ) → together ns < elevenDigits
+    → length (lineText (figures tag (length ns)) ns) ≤ length tag + 11 * length ns
+figures-most tag ns h =
+    omega (arith, length-append tag (numbersText (figures [] (length ns) .limits) ns), numbers-most ns h)
 
 -- a text's refusal is 2 or 3
 low : {number : ℕ} → (number ≡ 2) ⊎ (number ≡ 3) → number ≤ 3
 low (inl e) = omega arith
 low (inr e) = omega arith
 
-input-most : (number : ℕ) → number ≤ 3 → length (inputText number) ≤ mostPrinted
-input-most number h = omega (arith, one-length (bytes "INPUT\t") number, length-digits-ten number (omega arith))
+input-most : (number line byte : ℕ) → number ≤ 3
+    → (line ≤ mostBytes + 1) × (byte ≤ mostBytes + 1)
+    → length (inputText number line byte) ≤ mostPrinted
+input-most number line byte h (p, q) =
+    omega (arith, figures-most (bytes "INPUT\t") (number ∷ line ∷ byte ∷ []) (omega arith))
 
 -- a plate's figures together, or its refusal
 abbrev sumOf : Answer → ℕ
 sumOf (Refused number) = number
+sumOf (RefusedAt number line byte) = 0
 sumOf Done = 0
 sumOf (Count n) = 0
 sumOf (Plate load figure) = load + figure
@@ -68,12 +79,12 @@ sumOf (Plate load figure) = load + figure
 plate-most : (l k : ℕ) (a : Answer) → sumOf a < elevenDigits
     → length (plateText (bytes "PLATE\t" ++ (l ∷ 9 ∷ [])) (bytes "REFUSED\t" ++ (k ∷ 9 ∷ [])) a) ≤ 30
 plate-most l k (Refused number) h =
-    omega (arith, one-length (bytes "REFUSED\t" ++ (k ∷ 9 ∷ [])) number, length-digits-ten number h)
+    omega (arith, figures-most (bytes "REFUSED\t" ++ (k ∷ 9 ∷ [])) (number ∷ []) (omega arith))
+plate-most l k (RefusedAt number line byte) h = omega arith
 plate-most l k Done h = omega arith
 plate-most l k (Count n) h = omega arith
 plate-most l k (Plate a b) h =
-    let m = length-digits-ten a (omega arith) in
-    omega (arith, two-length (bytes "PLATE\t" ++ (l ∷ 9 ∷ [])) a b, length-digits-ten b (omega arith))
+    omega (arith, figures-most (bytes "PLATE\t" ++ (l ∷ 9 ∷ [])) (a ∷ b ∷ []) (omega arith))
 
 both-most : (a b : ℕ) → a ≤ 30 → b ≤ 30 → a + b ≤ mostPrinted
 both-most a b h k = omega arith
@@ -108,20 +119,27 @@ module _ (s : List ℕ) (b : wordsOk s ≡ true) where
   rows-most : (t : List ℕ) → length (rowsPrinted s t) ≤ mostPrinted
   rows-most t = go (readEngines t) refl
     where
-      go : (q : Found Rows) → readEngines t ≡ q → length (rowsPrinted s t) ≤ mostPrinted
-      go (took k rows) e = rw (rows-plates s t e) (plates-most (powersOf rows) (weightsOf rows))
-      go (lost number at) e = rw (rows-fault s t e) (input-most number (low (engines-fault t number at e)))
+      go : (q : Verdict Rows) → readEngines t ≡ q → length (rowsPrinted s t) ≤ mostPrinted
+      go (right rows) e = rw (rows-plates s t e) (plates-most (powersOf rows) (weightsOf rows))
+      go (wrong number line byte) e =
+          rw (rows-fault s t e)
+          (input-most number line byte (low (engines-fault t number line byte e)) (engines-most t number line byte e))
 
 -- of any input
 pub printed-most : (t : List ℕ) → length (printed t) ≤ mostPrinted
 printed-most t = go (ltb mostInput (length t)) refl
   where
-    sheet : length t ≤ mostInput → (q : Found (List ℕ)) → readSheet (sheetPart t) ≡ q → length (printed t) ≤ mostPrinted
-    sheet h (took k s) e =
-        rw (printed-rows t h e) (rows-most (drop 1 s) (read-ok (sheetPart t) k s e) (enginePart t))
-    sheet h (lost number at) e =
-        rw (printed-fault t h e) (input-most number (low (sheet-fault (sheetPart t) number at e)))
+    sheet : length t ≤ mostInput
+        → (q : Verdict (List ℕ))
+        → readSheet (sheetPart t) ≡ q
+        → length (printed t) ≤ mostPrinted
+    sheet h (right s) e =
+        rw (printed-rows t h e) (rows-most (drop 1 s) (read-ok (sheetPart t) s e) (enginePart t))
+    sheet h (wrong number line byte) e =
+        let u : List ℕ = sheetPart t in
+        rw (printed-fault t h e)
+        (input-most number line byte (low (sheet-fault u number line byte e)) (sheet-most u number line byte e))
 
     go : (u : Bool) → ltb mostInput (length t) ≡ u → length (printed t) ≤ mostPrinted
-    go true e = rw (printed-long t (ltb-true mostInput (length t) e)) (input-most 2 (omega arith))
+    go true e = rw (printed-long t (ltb-true mostInput (length t) e)) (input-most 2 0 0 (omega arith) (omega arith, omega arith))
     go false e = sheet (ltb-false mostInput (length t) e) (readSheet (sheetPart t)) refl

@@ -4,7 +4,7 @@ use mathlib.Core.Path.{_≡_, refl, sym, ap, _∙_}
 use mathlib.Core.Bool.{true, false, true≢false}
 use mathlib.Core.Logic.{_⊎_}
 use mathlib.Core.List.{List, [], _∷_}
-use Prim.Native.Nat.{ℕ, max}
+use Prim.Native.Nat.{ℕ, _+_, _≤_, max}
 use native.Mathlib.Omega.{arith}
 use lib.ListN.{length, length-map}
 use Rattle.ground.proofs.Booleans.{both-hold}
@@ -12,12 +12,12 @@ use Rattle.form.specs.Parts.{Row, Rows, nextAfter}
 use Rattle.form.specs.Outcome.{right, wrong}
 use Rattle.form.specs.Reading.{readForm}
 use Rattle.form.specs.Writing.{rowOk, rowsOk, partOk, partsOk, formOk, formText}
-use Rattle.form.proofs.Verdict.{saying-right, saying-wrong}
+use Rattle.form.proofs.Verdict.{saying-right, saying-wrong, form-most}
 use Rattle.form.proofs.Held.{part-held, PartHeld}
 use Rattle.form.proofs.Pairs.{Pair, pairRow, pair}
 use Rattle.form.proofs.Trip as T
 use Rattle.form.proofs.Faults.{form-fault}
-use Rattle.sheet.specs.Lines.{enginePowerHigh, engineWeightHigh, engineLine, mostRows}
+use Rattle.sheet.specs.Lines.{enginePowerHigh, engineWeightHigh, engineLine, mostRows, mostBytes}
 use Rattle.sheet.specs.EngineText.{enginePart, engineForm, onlyRows, powersOf, weightsOf, engineRows}
 use Rattle.sheet.specs.EngineText.{readEngines, enginesOk, enginesText}
 use Rattle.sheet.proofs.WellMade.{engines-made}
@@ -103,3 +103,9 @@ pub engines-fault : (t : List ℕ) (number line byte : ℕ) → readEngines t �
 unfolding readEngines
 engines-fault t number line byte e =
     form-fault engineForm t number line byte (saying-wrong onlyRows (readForm engineForm t) number line byte e)
+
+pub engines-most : (t : List ℕ) (number line byte : ℕ) → readEngines t ≡ wrong number line byte
+    → (line ≤ mostBytes + 1) × (byte ≤ mostBytes + 1)
+unfolding readEngines engineForm
+engines-most t number line byte e =
+    form-most engineForm t number line byte (saying-wrong onlyRows (readForm engineForm t) number line byte e)

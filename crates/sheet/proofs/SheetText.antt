@@ -4,16 +4,17 @@ use mathlib.Core.Path.{_≡_, refl, sym, ap, _∙_}
 use mathlib.Core.Bool.{true}
 use mathlib.Core.List.{List}
 use mathlib.Core.Logic.{_⊎_}
-use Prim.Native.Nat.{ℕ}
+use Prim.Native.Nat.{ℕ, _+_, _≤_}
 use lib.ListN.{length}
 use Rattle.text.proofs.Limit.{hold-length}
 use Rattle.form.specs.Parts.{Rows}
 use Rattle.form.specs.Outcome.{right, wrong}
 use Rattle.form.specs.Reading.{readForm}
 use Rattle.form.specs.Writing.{formText}
-use Rattle.form.proofs.Verdict.{saying-right, saying-wrong}
+use Rattle.form.proofs.Verdict.{saying-right, saying-wrong, form-most}
 use Rattle.form.proofs.Trip as T
 use Rattle.form.proofs.Faults.{form-fault}
+use Rattle.sheet.specs.Lines.{mostBytes}
 use Rattle.sheet.specs.Places.{textWords}
 use Rattle.sheet.specs.Sheet.{limitsOn, sheetLimits, sheetOk}
 use Rattle.sheet.specs.SheetText.{sheetForm, sheetOf, rowsOf, readSheet, sheetText}
@@ -54,3 +55,9 @@ pub sheet-fault : (t : List ℕ) (number line byte : ℕ) → readSheet t ≡ wr
 unfolding readSheet
 sheet-fault t number line byte e =
     form-fault sheetForm t number line byte (saying-wrong sheetOf (readForm sheetForm t) number line byte e)
+
+pub sheet-most : (t : List ℕ) (number line byte : ℕ) → readSheet t ≡ wrong number line byte
+    → (line ≤ mostBytes + 1) × (byte ≤ mostBytes + 1)
+unfolding readSheet sheetForm
+sheet-most t number line byte e =
+    form-most sheetForm t number line byte (saying-wrong sheetOf (readForm sheetForm t) number line byte e)
