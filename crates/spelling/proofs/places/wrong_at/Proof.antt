@@ -4,7 +4,8 @@ use mathlib.Core.Logic.{⊎-elim}
 use Prim.Native.Nat.{_≤_, _+_, _-_}
 use native.Mathlib.Omega.{arith}
 use Rattle.text.specs.Place.{lineAt, byteAt}
-use Rattle.text.proofs.Place.{line-top, byte-top, line-feed, line-other, byte-feed, byte-other, line-bounds, byte-bounds}
+use Rattle.text.proofs.Place.{line-top, byte-top, line-feed, line-other, byte-feed, byte-other}
+use Rattle.text.proofs.Place.{line-bounds, byte-bounds}
 use Rattle.spelling.proofs.places.wrong_at.Statement.{statement}
 use Rattle.spelling.proofs.places.wrong_at.Tie as tie
 
