@@ -13,7 +13,7 @@ use Rattle.answers.specs.Refusals.{brokenLine}
 use Rattle.text.specs.Place.{lineAt, byteAt}
 use Rattle.text.proofs.Place.{line-bounds, byte-bounds}
 use Rattle.form.specs.Parts.{Form, Rows}
-use Rattle.form.specs.Outcome.{Found, took, lost, Verdict, right, wrong, placed, saying}
+use Rattle.form.specs.Outcome.{Found, took, lost, mapped, Verdict, right, wrong, placed, saying}
 use Rattle.form.specs.Reading.{readParts, readForm}
 
 pub wrong-not-right : {A : Type 0} {number line byte : ℕ} {a : A} → wrong number line byte ≡ right a → ⊥
@@ -46,6 +46,15 @@ module _ (f : Form) (t : List ℕ) where
   pub form-read : length t ≤ f .room → readForm f t ≡ placed t (readParts (f .parts) t)
   unfolding readForm
   form-read h = rw (le-ltb (f .room) (length t) h)
+
+  -- and what is made of what it says
+  pub form-said : {A : Type 0} (g : List Rows → A) → length t ≤ f .room
+      → saying g (readForm f t) ≡ placed t (mapped g (readParts (f .parts) t))
+  form-said {A} g h = rw (form-read h) (go (readParts (f .parts) t))
+    where
+      go : (q : Found (List Rows)) → saying g (placed t q) ≡ placed t (mapped g q)
+      go (took k v) = refl
+      go (lost number at) = refl
 
   -- a text that says something was found whole
   pub form-right : (v : List Rows) → readForm f t ≡ right v → (k : ℕ) × (readParts (f .parts) t ≡ took k v)

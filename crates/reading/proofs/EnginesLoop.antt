@@ -24,7 +24,7 @@ use Rattle.reading.specs.declared.RowRead.the-variants.{Pair, NoPair}
 use Rattle.reading.specs.Rows.{Paired, pairReach, pairFound, Columns}
 use Rattle.reading.proofs.Row.{first-in}
 use Rattle.reading.proofs.RowsLoop.{Upto, part-in}
-use Rattle.sheet.specs.declared.RowsRead.the-variants.{Rows as Many, NoRows}
+use Rattle.reading.specs.declared.RowsRead.the-variants.{Rows as Many, NoRows}
 use Rattle.reading.proofs.RowsLoop as loop
 use Rattle.reading.proofs.Columns.{enginesAt, engineFrom, engineLetter, engines-away}
 use Rattle.reading.proofs.Columns.{rows-last, rows-before, rows-lost, column-snoc, column-first}
@@ -53,10 +53,10 @@ module _ {t a₀ b₀ a b : List ℕ} {rows at next : ℕ} (s : State t a₀ b�
   weights-kept = ap length (s .weights) ∙ length-sets b₀ 0 (weightsOf (s .read))
 
   -- there is more text after as many rows as there may be
-  pub full : mostRows ≤ rows → Columns (enginesAt t) (NoRows 2 at) a b
+  pub full : mostRows ≤ rows → Columns (enginesAt t) t (NoRows 2 at) a b
   full h =
       let e = rows-before t (loop.full (s .upto) (omega arith) h) (s .more (omega arith)) in
-      record { answer = rw e; powers = rw e; weights = rw e }
+      record { answer = rw e; powers = rw e; weights = rw e; within = s .upto .at-in }
 
 -- a turn of the loop, after the row was read as r
 pub record Turn (t a₀ b₀ a b : List ℕ) (rows at next : ℕ) (r : RowRead) : Type 0 where
@@ -80,10 +80,10 @@ module _ {t a₀ b₀ a b : List ℕ} {rows at next : ℕ} {r : RowRead} (p : Tu
   pub place-in : at + pairReach r ≤ length t
   place-in = part-in t (s .upto .at-in) (p .row .within)
 
-  pub fault : {number place : ℕ} → r ≡ NoPair number place → Columns (enginesAt t) (NoRows number (at + place)) a b
+  pub fault : {number place : ℕ} → r ≡ NoPair number place → Columns (enginesAt t) t (NoRows number (at + place)) a b
   fault {number} {place} v =
       let e = go (begins engineLetter (drop at t)) refl in
-      record { answer = rw e; powers = rw e; weights = rw e }
+      record { answer = rw e; powers = rw e; weights = rw e; within = omega (arith, place-in, ap pairReach v) }
     where
       go : (u : Bool) → begins engineLetter (drop at t) ≡ u → enginesAt t ≡ lost number (at + place)
       go true d =
@@ -125,13 +125,18 @@ module _ {t a₀ b₀ a b : List ℕ} {rows at next : ℕ} {r : RowRead} (p : Tu
     weights₁ = column-snoc (λ (q : Row). getD (q .numbers) 1 0) b₀ b (s .read) engine (s .weights) (s .upto .many)
 
     pub last : length a₀ ≡ mostRows → length b₀ ≡ mostRows → length t ≤ at + len
-        → Columns (enginesAt t) (Many (rows + 1)) (set a rows n) (set b rows w)
+        → Columns (enginesAt t) t (Many (rows + 1)) (set a rows n) (set b rows w)
     last k l m =
         let rs : Rows = s .read ++ (engine ∷ []) in
         let e = rows-last t (loop.none-more onto (omega arith) m) m in
         let c = column-first a₀ (powersOf rs) (omega (arith, powers-length rs, onto .many, onto .few)) in
         let d = column-first b₀ (weightsOf rs) (omega (arith, weights-length rs, onto .many, onto .few)) in
-        record { answer = rw (e, onto .many); powers = rw (powers₁, e) c; weights = rw (weights₁, e) d }
+        record {
+          answer = rw (e, onto .many);
+          powers = rw (powers₁, e) c;
+          weights = rw (weights₁, e) d;
+          within = omega arith;
+        }
 
     pub step : at + len < length t → State t a₀ b₀ (set a rows n) (set b rows w) (rows + 1) (at + len) (n + 1)
     step l =

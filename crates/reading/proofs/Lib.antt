@@ -1,4 +1,5 @@
 -- Laws that the proofs of the functions here go by.
+pub mod Heard  -- what a whole text says, by how its reading ended
 pub mod Found  -- what was found, piece after piece
 pub mod Row  -- a line that was read, and a row of two numbers
 pub mod RowsLoop  -- rows of a part, one after another

@@ -16,8 +16,7 @@ use Rattle.form.specs.Outcome.{Found, took, lost, mapped, ahead}
 use Rattle.form.specs.Reading.{readParts}
 use Rattle.sheet.specs.Lines.{endLine}
 use Rattle.sheet.specs.SheetText.{fitPart, weightsFrom, fitsOf, numbersOn}
-use Rattle.sheet.specs.TextCalls.{readInto}
-use Rattle.reading.specs.Filled.{endedAs, reached, Filled}
+use Rattle.reading.specs.Filled.{endedAs, reached, Filled, foundInto}
 use Rattle.reading.specs.Steps.{restOn}
 use Rattle.reading.proofs.Found.{found-taken, found-fault, ended-mapped}
 use Rattle.reading.proofs.RowsLoop.{rowsAt, part-in}
@@ -71,7 +70,7 @@ closed-ended : (at : ℕ) (ws : List ℕ) (f : Found (List Rows)) → shiftBy at
 closed-ended at ws (took k v) = refl
 closed-ended at ws (lost number i) = refl
 
-closed-into : (at : ℕ) (ws : List ℕ) (f : Found (List Rows)) {o : List ℕ} → o ≡ ws → o ≡ readInto (closed at ws f) o
+closed-into : (at : ℕ) (ws : List ℕ) (f : Found (List Rows)) {o : List ℕ} → o ≡ ws → o ≡ foundInto (closed at ws f) o
 closed-into at ws (took k v) e = e
 closed-into at ws (lost number i) e = refl
 

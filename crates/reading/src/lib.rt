@@ -8,15 +8,15 @@ ghost use Rattle.answers.specs.Settled.{Settled};
 ghost use Rattle.form.specs.Parts.{oneLine};
 ghost use Rattle.form.specs.Outcome.{mapped};
 ghost use Rattle.form.specs.Reading.{readRows, readParts};
-ghost use Rattle.sheet.specs.Lines.{endLine, fittings, mostRows};
+ghost use Rattle.sheet.specs.Lines.{lines, endLine, fittings, mostRows};
 ghost use Rattle.sheet.specs.Sheet.{limitRows};
 ghost use Rattle.sheet.specs.Places.{textWords, fittingsAt};
 ghost use Rattle.sheet.specs.SheetText.{fitPart, weightsFrom, readSheet};
 ghost use Rattle.sheet.specs.EngineText.{enginePart, onlyRows, readEngines};
 ghost use Rattle.sheet.specs.TextCalls.{readAnswer, readInto, enginesAnswer, columnsInto};
-ghost use Rattle.reading.specs.Filled.{reached, endedAs, Filled};
+ghost use Rattle.reading.specs.Filled.{reached, endedAs, Filled, Heard};
 ghost use Rattle.reading.specs.Steps.{Due, ReadsOn, restOn, Past};
-ghost use Rattle.reading.specs.Rows.{Paired, Columns};
+ghost use Rattle.reading.specs.Rows.{Paired, Columns, HeardRows};
 use answers::Answer;
 use answers::NO_ROOM;
 use sheet::ENGINE_POWER_HIGH;
@@ -34,7 +34,6 @@ use sheet::MOST_TEXT;
 use sheet::PWR_LINE;
 use sheet::Q_LINE;
 use sheet::R_LINE;
-use sheet::RowsRead;
 use sheet::S_LINE;
 use sheet::SEAT_LINE;
 use sheet::T_LINE;
@@ -43,6 +42,7 @@ use sheet::VOL_LINE;
 use text::Limit;
 use text::LineRead;
 use text::PLAIN;
+use text::TextRead;
 
 // ---- a row of two numbers
 
@@ -180,14 +180,11 @@ fn read_rest(text: &[u8], weights: &mut [u32]) -> LineRead
     }
 }
 
-// Reads a whole sheet. The words are all 0 before it.
-pub fn read_words(text: &[u8], words: &mut [u32]) -> LineRead
+// Reads every part of a sheet. The words are all 0 before it.
+fn read_parts(text: &[u8], words: &mut [u32]) -> LineRead
     requires { ⌜ now words ≡ replicate textWords 0 ⌝ }
-    ensures { λ r. ⌜ Filled (readSheet (now (text .entry))) (now (text .entry)) r (now (words .exit)) ⌝ }
+    ensures { λ r. ⌜ Filled (restOn lines (now (text .entry))) (now (text .entry)) r (now (words .exit)) ⌝ }
 {
-    if text.len() > MOST_TEXT {
-        return LineRead::Fault(answers::BROKEN_LINE, 0);
-    }
     match read_lines(&LIMITS, text, words) {
         LineRead::Fault(refusal, place) => LineRead::Fault(refusal, place),
         LineRead::Taken(at) => match read_rest(&text[at..], &mut words[LINE_WORDS..]) {
@@ -197,16 +194,30 @@ pub fn read_words(text: &[u8], words: &mut [u32]) -> LineRead
     }
 }
 
-// Reads a sheet, its HULL number first, from a text of at most 4,096 bytes. A refusal, 2 or 3, leaves `sheet` as it
-// stood.
+// Reads a sheet from a text of at most 4,096 bytes and answers how many words it has. They are all 0 before it.
+pub fn read_words(text: &[u8], words: &mut [u32]) -> TextRead
+    requires { ⌜ now words ≡ replicate textWords 0 ⌝ }
+    ensures { λ r. ⌜ Heard (readSheet (now (text .entry))) r (now (words .exit)) ⌝ }
+{
+    if text.len() > MOST_TEXT {
+        return TextRead::Wrong(answers::BROKEN_LINE, 0, 0);
+    }
+    match read_parts(text, words) {
+        LineRead::Fault(refusal, at) => spelling::wrong_at(refusal, text, at),
+        LineRead::Taken(_) => TextRead::Whole(words.len()),
+    }
+}
+
+// Reads a sheet, its HULL number first, from a text of at most 4,096 bytes. A refusal, 2 or 3 with its place, leaves
+// `sheet` as it stood.
 pub fn read_sheet(text: &[u8], sheet: &mut [u32; TEXT_WORDS]) -> Answer
     ensures { λ r. ⌜ Settled (readAnswer (readSheet (now (text .entry))))
         (readInto (readSheet (now (text .entry))) (now (sheet .entry))) r (now (sheet .exit)) ⌝ }
 {
     let mut words = [0u32; TEXT_WORDS];
     match read_words(text, &mut words) {
-        LineRead::Fault(refusal, _) => Answer::Refused(refusal),
-        LineRead::Taken(_) => {
+        TextRead::Wrong(refusal, line, byte) => Answer::RefusedAt(refusal, line, byte),
+        TextRead::Whole(_) => {
             *sheet = words;
             Answer::Done
         }
@@ -215,10 +226,16 @@ pub fn read_sheet(text: &[u8], sheet: &mut [u32; TEXT_WORDS]) -> Answer
 
 // ---- engine rows
 
+// How many rows a text has, or a refusal and its place.
+pub enum RowsRead {
+    Rows(usize),
+    NoRows(u32, usize),
+}
+
 // Reads engine rows, the powers and the weights of them apart.
 fn read_rows(text: &[u8], powers: &mut [u32], weights: &mut [u32]) -> RowsRead
     requires { ⌜ (length (now powers) ≡ mostRows) × (length (now weights) ≡ mostRows) ⌝ }
-    ensures { λ r. ⌜ Columns (mapped onlyRows (readParts (enginePart ∷ []) (now (text .entry)))) r
+    ensures { λ r. ⌜ Columns (mapped onlyRows (readParts (enginePart ∷ []) (now (text .entry)))) (now (text .entry)) r
         (now (powers .exit)) (now (weights .exit)) ⌝ }
 {
     let mut rows = 0;
@@ -248,19 +265,23 @@ fn read_rows(text: &[u8], powers: &mut [u32], weights: &mut [u32]) -> RowsRead
     RowsRead::NoRows(answers::BROKEN_LINE, at)
 }
 
-// Reads engine rows from a text of at most 4,096 bytes into room for as many as there may be.
-pub fn read_columns(text: &[u8], powers: &mut [u32], weights: &mut [u32]) -> RowsRead
+// Reads engine rows from a text of at most 4,096 bytes into room for as many as there may be, and answers how many there
+// are.
+pub fn read_columns(text: &[u8], powers: &mut [u32], weights: &mut [u32]) -> TextRead
     requires { ⌜ (length (now powers) ≡ mostRows) × (length (now weights) ≡ mostRows) ⌝ }
-    ensures { λ r. ⌜ Columns (readEngines (now (text .entry))) r (now (powers .exit)) (now (weights .exit)) ⌝ }
+    ensures { λ r. ⌜ HeardRows (readEngines (now (text .entry))) r (now (powers .exit)) (now (weights .exit)) ⌝ }
 {
     if text.len() > MOST_TEXT {
-        return RowsRead::NoRows(answers::BROKEN_LINE, 0);
+        return TextRead::Wrong(answers::BROKEN_LINE, 0, 0);
     }
-    read_rows(text, powers, weights)
+    match read_rows(text, powers, weights) {
+        RowsRead::NoRows(refusal, at) => spelling::wrong_at(refusal, text, at),
+        RowsRead::Rows(rows) => TextRead::Whole(rows),
+    }
 }
 
 // Reads engine rows from a text of at most 4,096 bytes into two lent slices and answers how many there are. A refusal,
-// 2 or 3, or 16 where either slice is shorter than the rows, leaves both as they stood.
+// 2 or 3 with its place, or 16 where either slice is shorter than the rows, leaves both as they stood.
 pub fn read_engines(text: &[u8], powers: &mut [u32], weights: &mut [u32]) -> Answer
     ensures { λ r. ⌜ Settled
         (enginesAnswer (readEngines (now (text .entry))) (length (now (powers .entry))) (length (now (weights .entry))))
@@ -270,8 +291,8 @@ pub fn read_engines(text: &[u8], powers: &mut [u32], weights: &mut [u32]) -> Ans
     let mut read_powers = [0u32; MOST_ROWS];
     let mut read_weights = [0u32; MOST_ROWS];
     match read_columns(text, &mut read_powers, &mut read_weights) {
-        RowsRead::NoRows(refusal, _) => Answer::Refused(refusal),
-        RowsRead::Rows(rows) => {
+        TextRead::Wrong(refusal, line, byte) => Answer::RefusedAt(refusal, line, byte),
+        TextRead::Whole(rows) => {
             if powers.len() < rows {
                 return Answer::Refused(NO_ROOM);
             }

@@ -2,7 +2,7 @@
 use mathlib.Core.Path.{sym}
 use lib.Seq.{length-take-le}
 use Rattle.sheet.specs.EngineText.{readEngines}
-use Rattle.reading.proofs.EnginesCall.{Held, columns-held, first-fit}
+use Rattle.reading.proofs.EnginesCall.{Held, rows-held, first-fit}
 use Rattle.reading.proofs.EnginesCall.{settled-fault, settled-few-powers, settled-few-weights, settled-read}
 use native.Mathlib.Omega.{arith}
 use borrow.Author.Needs.{needs}
@@ -19,7 +19,7 @@ held : (c : tie.After-known-told2)
     (c .before .before .before .before .before .read-columns .last .1 .1 .0)
 held c =
     let read = c .before .before .before .before .before .read-columns .ensures in
-    columns-held _ (rw (c .before .rows .given .1) at read)
+    rows-held _ (rw (c .before .rows .given .1) at read)
 
 returns-2 : tie.Need-returns-2
 returns-2 c = settled-few-weights _ _ _ (held (c .before .before)) (c .before .if1 .left) (c .if2 .taken)
@@ -33,8 +33,8 @@ copy-numbers-requires-2 c κs =
     let at-if2 = c .before .before .before .before .before .before .before in
     first-fit _ _ (held (at-if2 .before .before) .weights-in) (at-if2 .if2 .left)
 
-cast-t25 : tie.Need-cast-t25
-cast-t25 c =
+cast-t27 : tie.Need-cast-t27
+cast-t27 c =
     let at-if2 = c .before .before .before .before .before .before .before .before .before .before in
     omega (arith, held (at-if2 .before .before) .powers-in)
 
@@ -59,4 +59,4 @@ read-engines-spec =
     (λ c. sym (length-take-le _ _ (held (c .before .before .before) .powers-in)))
     (λ c κs. first-fit _ _ (held (c .before .before .before .before) .powers-in) (c .before .before .before .if1 .left))
     (λ c. held (c .before .before .before .before .before .before .before) .weights-in) slice-aggregate-copy-numbers-2
-    copy-numbers-requires-2 cast-t25 returns-3 (λ c. search needs) (λ c. search needs) returns-4)
+    copy-numbers-requires-2 cast-t27 returns-3 (λ c. search needs) (λ c. search needs) returns-4)

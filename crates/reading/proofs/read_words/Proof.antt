@@ -1,101 +1,41 @@
 -- `read_words` meets its contract.
-use Rattle.text.specs.declared.LineRead.{LineRead}
-use mathlib.Core.Path.{_≡_, refl, ap, _∙_}
-use Prim.Native.Nat.{ℕ}
-use lib.ListN.{length, length-replicate}
-use Rattle.text.specs.Line.{shiftBy}
-use Rattle.ground.proofs.Stores.{putBack}
-use Rattle.sheet.specs.Sheet.{limitRows, sheetLimits, limitsOn}
-use Rattle.sheet.specs.Places.{textWords}
-use Rattle.sheet.specs.SheetText.{readSheet}
-use Rattle.reading.specs.Filled.{reached, Filled}
-use Rattle.reading.proofs.SheetCall.{words-long, words-broken, words-zeros, words-read}
+use mathlib.Core.Path.{_≡_, ap}
 use native.Mathlib.Omega.{arith}
-use Rattle.reading.proofs.Found.{filled-as}
+use Rattle.reading.specs.Filled.{reached}
+use Rattle.reading.proofs.SheetCall.{heard-long, heard-wrong, heard-whole}
 use borrow.Author.Needs.{needs}
 use Rattle.reading.proofs.read_words.Statement.{statement}
 use Rattle.reading.proofs.read_words.Tie as tie
 
 returns : tie.Need-returns
-returns c = words-long (c .before .before .before .args .text .now) _ (c .if1 .taken)
+returns c = heard-long (c .before .before .before .args .text .now) _ (c .if1 .taken)
 
-read-lines-requires : tie.Need-read-lines-requires
-unfolding limitRows sheetLimits limitsOn
-read-lines-requires c κs = (refl, c .before .before .before .before .before .pre)
-
-text-from : tie.Need-sub-read-rest
-text-from c =
-    let at-read-lines = c .before .before .before .before .before in
-    omega (arith, at-read-lines .read-lines .ensures .within, ap reached (c .before .at .given .1))
-
-words-from : tie.Need-sub-read-rest-2
-words-from c =
-    let at-read-lines = c .before .before .before .before .before .before in
-    let start = at-read-lines .before .before .before .before .before .before in
-    let zeros = ap length (start .pre) ∙ length-replicate {A = ℕ} textWords 0 in
-    omega (arith, at-read-lines .read-lines .kept .1 .1 .0)
-
-read-rest-requires : tie.Need-read-rest-requires
-read-rest-requires c κs =
-    let at-read-lines = c .before .before .before .before .before .before .before in
-    let start = at-read-lines .before .before .before .before .before .before in
-    words-zeros (start .args .text .now)
-    (rw (c .before .before .before .at .given .1) at (at-read-lines .read-lines .ensures))
-
-abbrev begun : tie.After-read-rest → tie.Start
-begun c =
-    c .before .before .before .before .before .before .before .before .before .before .before .before .before .before
-
--- the lines and what follows them are read
-whole : (c : tie.After-read-rest) {r : LineRead} → c .read-rest .result ≡ r
-    → Filled (readSheet (begun c .args .text .now)) (begun c .args .text .now)
-    (shiftBy (c .before .before .before .before .at .given .0 .0) r)
-    (putBack (c .before .before .before .before .before .before .before .before .read-lines .last .1 .1 .0) 45
-    (c .read-rest .last .1 .0))
-whole c e =
-    let at-at = c .before .before .before .before in
-    let at-read-lines = at-at .before .before .before .before in
-    let lines = rw (at-at .at .given .1) at (at-read-lines .read-lines .ensures) in
-    filled-as (at-at .at .given .0 .0) e (words-read (begun c .args .text .now) lines
-    (at-read-lines .before .before .before .if1 .left) (c .read-rest .ensures))
+wrong-at-requires : tie.Need-wrong-at-requires
+wrong-at-requires c κs =
+    let at-read-parts = c .before .before .before .before .before in
+    let low = at-read-parts .before .before .if1 .left in
+    let place = ap reached (c .before .refusal .given .1) in
+    (omega (arith, at-read-parts .read-parts .ensures .within), omega (arith, at-read-parts .read-parts .ensures .within))
 
 returns-2 : tie.Need-returns-2
 returns-2 c =
-    let at-read-lines = c .before .before .before .before .before in
-    let at-if1 = at-read-lines .before .before .before in
+    let at-read-parts = c .before .before .before .before .before .before in
+    let at-if1 = at-read-parts .before .before in
     let start = at-if1 .before .before .before in
-    words-broken (start .args .text .now) (at-if1 .if1 .left)
-    (rw (c .before .refusal .given .1) at (at-read-lines .read-lines .ensures))
+    rw (c .wrong-at .ensures)
+    (heard-wrong (start .args .text .now) (at-if1 .if1 .left)
+    (rw (c .before .before .refusal .given .1) at (at-read-parts .read-parts .ensures)))
 
 returns-3 : tie.Need-returns-3
-returns-3 c = whole (c .before .before .before .before .before) (c .before .refusal2 .given .1)
-
-returns-4 : tie.Need-returns-4
-returns-4 c = whole (c .before .before .before .before .before) (c .before .len .given .1)
+returns-3 c =
+    let at-read-parts = c .before .before .before .before in
+    let at-if1 = at-read-parts .before .before in
+    let start = at-if1 .before .before .before in
+    heard-whole (start .args .text .now) (at-if1 .if1 .left)
+    (rw (c .enum-told .given .1) at (at-read-parts .read-parts .ensures))
 
 pub read-words-spec : {M : Type 1} → statement M
 read-words-spec =
     tie.close
-    (tie.spec
-    returns
-    (λ c. search needs)
-    read-lines-requires
-    (λ c. search needs)
-    (λ c. search needs)
-    text-from
-    text-from
-    (λ c. search needs)
-    words-from
-    words-from
-    (λ c. search needs)
-    read-rest-requires
-    (λ c. search needs)
-    (λ c. omega (arith, whole (c .before .before .before .before .before) (c .before .refusal2 .given .1) .within))
-    (λ c. search needs)
-    (λ c. omega (arith, whole (c .before .before .before .before .before) (c .before .len .given .1) .within))
-    (λ c. search needs)
-    returns-2
-    (λ c. search needs)
-    returns-3
-    (λ c. search needs)
-    returns-4)
+    (tie.spec returns (λ c κs. search needs) (λ c. search needs) wrong-at-requires (λ c. search needs) (λ c. search needs)
+    returns-2 (λ c. search needs) returns-3)
