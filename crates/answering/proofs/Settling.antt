@@ -1,12 +1,12 @@
--- A call by its refusal: refused, it answers the number alone and leaves what it was lent; passed, it is what comes
--- next. These serve every call.
+-- A call by its refusal: refused, it answers the number, a text's with its place, and leaves what it was lent; passed,
+-- it is what comes next. These serve every call.
 use mathlib.Core.Path.{_≡_, refl, sym}
 use mathlib.Core.List.{List}
 use Prim.Native.Nat.{ℕ}
 use borrow.Author.Tests.{ne-eqb}
-use Rattle.form.specs.Outcome.{took, lost}
+use Rattle.form.specs.Outcome.{right, wrong}
 use Rattle.answers.specs.declared.Answer.{Answer}
-use Rattle.answers.specs.declared.Answer.the-variants.{Refused, Done}
+use Rattle.answers.specs.declared.Answer.the-variants.{Refused, RefusedAt, Done}
 use Rattle.answers.specs.Settled.{Settled}
 use Rattle.sheet.specs.SheetText.{readSheet}
 use Rattle.register.specs.Refusals.{orRefused, leaves, onText}
@@ -38,13 +38,13 @@ done e = record { answered = refl; kept = e }
 -- ---- a text that is read
 
 module _ (t : List ℕ) (a : Answer) (x : List ℕ) where
-  pub text-refused : {m : List ℕ} {number at : ℕ}
-      → readSheet t ≡ lost number at
-      → Left (onText t a Refused) x m (Refused number) m
+  pub text-refused : {m : List ℕ} {number line byte : ℕ}
+      → readSheet t ≡ wrong number line byte
+      → Left (onText t a) x m (RefusedAt number line byte) m
   text-refused e = rw (e, onText) (record { answered = refl; kept = refl })
 
-  pub text-passed : (m : List ℕ) {k : ℕ} {s y : List ℕ} {r : Answer}
-      → readSheet t ≡ took k s
+  pub text-passed : (m : List ℕ) {s y : List ℕ} {r : Answer}
+      → readSheet t ≡ right s
       → Left a x m r y
-      → Left (onText t a Refused) x m r y
+      → Left (onText t a) x m r y
   text-passed m e p = rw (e, onText) p

@@ -6,18 +6,17 @@ use Prim.Native.Nat.{ℕ, _+_, _-_, _≤_, _<_}
 use native.Mathlib.Omega.{arith}
 use lib.ListN.{length, take, drop, replicate, length-drop}
 use lib.Seq.{take-all}
-use Rattle.text.specs.declared.LineRead.the-variants.{Taken, Fault}
-use Rattle.form.specs.Outcome.{Found, took, lost}
+use Rattle.text.specs.declared.TextRead.the-variants.{Whole}
 use Rattle.sheet.specs.Places.{sheetWords}
 use Rattle.sheet.specs.SheetText.{readSheet}
 use Rattle.answers.specs.declared.Answer.{Answer}
 use Rattle.answers.specs.Settled.{Settled}
-use Rattle.sheet.specs.TextCalls.{readInto, writeAnswer, writeInto}
+use Rattle.sheet.specs.TextCalls.{writeAnswer, writeInto}
 use Rattle.ground.specs.Lists.{putFirst}
 use Rattle.sheet.proofs.Refused.{write-refused}
 use Rattle.sheet.proofs.SheetText.{sheet-count}
-use Rattle.reading.specs.Filled.{Filled}
-use Rattle.reading.proofs.Found.{found-taken, found-fault}
+use Rattle.reading.specs.Filled.{Heard}
+use Rattle.reading.proofs.Heard.{heard-right}
 use Rattle.sheet.specs.Lines.{fittings}
 use Rattle.sheet.specs.Sheet.{wordsOk}
 use Rattle.memory.specs.Layout.{mostHulls, hullSheet, draftHull, draftSheet}
@@ -92,24 +91,15 @@ module _ (m : List ℕ) (d : ℕ) (z : deskRefusal m d ≡ 0) where
 
 -- ---- a text's sheet
 
-module _ (t : List ℕ) {o : List ℕ} where
-  pub text-lost : {number at : ℕ} → Filled (readSheet t) t (Fault number at) o → readSheet t ≡ lost number at
-  text-lost p = found-fault (readSheet t) (p .answer)
+module _ (t : List ℕ) {n : ℕ} {o : List ℕ} (p : Heard (readSheet t) (Whole n) o) where
+  sheet-long : length (drop 1 o) ≡ sheetWords
+  sheet-long = length-drop 1 o ∙ ap (λ (n : ℕ). n - 1) (sheet-count t o (heard-right p))
 
-  module _ {k : ℕ} (p : Filled (readSheet t) t (Taken k) o) where
-    pub text-took : readSheet t ≡ took k o
-    text-took =
-        let f = found-taken (readSheet t) (p .answer) in
-        f .1 ∙ ap (took k) (sym (p .stored ∙ ap (λ (q : Found (List ℕ)). readInto q o) (f .1)))
+  pub read-lent : take sheetWords (drop 1 o) ≡ sheetOf t
+  read-lent = take-all sheetWords (drop 1 o) (omega (arith, sheet-long)) ∙ rw (heard-right p, sheetOf)
 
-    sheet-long : length (drop 1 o) ≡ sheetWords
-    sheet-long = length-drop 1 o ∙ ap (λ (n : ℕ). n - 1) (sheet-count t k o text-took)
-
-    pub read-lent : take sheetWords (drop 1 o) ≡ sheetOf t
-    read-lent = take-all sheetWords (drop 1 o) (omega (arith, sheet-long)) ∙ rw (text-took, sheetOf)
-
-    pub read-long : length (take sheetWords (drop 1 o)) ≡ sheetWords
-    read-long = ap length (take-all sheetWords (drop 1 o) (omega (arith, sheet-long))) ∙ sheet-long
+  pub read-long : length (take sheetWords (drop 1 o)) ≡ sheetWords
+  read-long = ap length (take-all sheetWords (drop 1 o) (omega (arith, sheet-long))) ∙ sheet-long
 
 -- ---- a sheet's words under a number
 

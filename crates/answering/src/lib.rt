@@ -29,7 +29,7 @@ use memory::REGISTER_WORDS;
 use sheet::FITTING_HIGH;
 use sheet::FITTING_LINES;
 use sheet::TEXT_WORDS;
-use text::LineRead;
+use text::TextRead;
 
 // ---- the shared checks; 0 where nothing is refused
 
@@ -119,8 +119,8 @@ pub fn new_hull(mem: &mut [u32], text: &[u8]) -> Answer
     }
     let mut words = [0u32; TEXT_WORDS];
     match reading::read_words(text, &mut words) {
-        LineRead::Fault(fault, _) => Answer::Refused(fault),
-        LineRead::Taken(_) => Answer::Count(keeping::enter_hull(mem, &words[1..])),
+        TextRead::Wrong(fault, line, byte) => Answer::RefusedAt(fault, line, byte),
+        TextRead::Whole(_) => Answer::Count(keeping::enter_hull(mem, &words[1..])),
     }
 }
 
@@ -291,8 +291,8 @@ pub fn replace(mem: &mut [u32], desk: u32, text: &[u8]) -> Answer
     }
     let mut words = [0u32; TEXT_WORDS];
     match reading::read_words(text, &mut words) {
-        LineRead::Fault(fault, _) => Answer::Refused(fault),
-        LineRead::Taken(_) => {
+        TextRead::Wrong(fault, line, byte) => Answer::RefusedAt(fault, line, byte),
+        TextRead::Whole(_) => {
             keeping::replace_sheet(mem, desk as usize, &words[1..]);
             Answer::Done
         }

@@ -25,6 +25,12 @@ fn face(answer: Answer) -> WbAnswer
             second: 0,
             third: 0,
         },
+        Answer::RefusedAt(number, line, byte) => WbAnswer {
+            refusal: number,
+            first: line,
+            second: byte,
+            third: 0,
+        },
         Answer::Done => WbAnswer {
             refusal: 0,
             first: 0,

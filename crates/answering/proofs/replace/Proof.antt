@@ -1,7 +1,9 @@
 -- `replace` meets its contract.
 use Rattle.register.proofs.Refusals.{desk-goes}
 use Rattle.memory.specs.Updates.{replaced}
-use Rattle.answering.proofs.Sheets.{text-lost, text-took, read-lent, read-long}
+use Rattle.answering.proofs.Sheets.{read-lent, read-long}
+use Rattle.reading.proofs.Heard.{told-wrong, heard-right}
+use lib.ListN.{length}
 use Rattle.answering.proofs.Settling.{refused, passed, done, text-passed, text-refused}
 use Rattle.memory.proofs.Sound.{sound}
 use mathlib.Core.Path.{sym, ap, _∙_}
@@ -34,8 +36,9 @@ returns-2 : tie.Need-returns-2
 returns-2 c =
     let at-read-words = c .before .before .before .before in
     let at-if1 = at-read-words .before .before in
-    let fault = text-lost _ (rw (c .before .fault .given .1) at (at-read-words .read-words .ensures)) in
-    passed (at-if1 .before .desk-refusal .ensures) _ _ _ (at-if1 .if1 .left) (text-refused _ _ _ fault)
+    let read = rw (c .before .fault .given .1) at (at-read-words .read-words .ensures) in
+    passed (at-if1 .before .desk-refusal .ensures) _ _ _ (at-if1 .if1 .left)
+    (text-refused _ _ _ (told-wrong length _ (read .answer)))
 
 returns-3 : tie.Need-returns-3
 returns-3 c =
@@ -46,7 +49,7 @@ returns-3 c =
     let read = rw (at-enum-told .enum-told .given .1) at (at-read-words .read-words .ensures) in
     let text = start .args .text .now in
     passed (at-if1 .before .desk-refusal .ensures) _ _ _ (at-if1 .if1 .left)
-    (text-passed _ _ _ _ (text-took text read)
+    (text-passed _ _ _ _ (heard-right read)
     (done
     (c .before .before .replace-sheet .ensures
     ∙ ap (replaced (start .args .mem .now) (start .args .desk)) (read-lent text read))))
