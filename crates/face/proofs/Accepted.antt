@@ -7,7 +7,7 @@ use Prim.Native.Nat.{ℕ}
 use lib.Dec.{leb}
 use Rattle.answers.specs.Refusals.{badMemory, emptyLine}
 use Rattle.answers.specs.declared.Answer.{Answer}
-use Rattle.answers.specs.declared.Answer.the-variants.{Refused, Done, Count, Plate}
+use Rattle.answers.specs.declared.Answer.the-variants.{Refused, RefusedAt, Done, Count, Plate}
 use Rattle.sheet.specs.SheetText.{readSheet}
 use Rattle.sheet.specs.EngineText.{readEngines}
 use Rattle.sheet.specs.TextCalls.{readAnswer, writeAnswer, enginesAnswer}
@@ -29,6 +29,7 @@ Told a = (faced a .refusal ≡ 0) ↔ (not (isRefusal a) ≡ true)
 
 zero-taken : (a : Answer) → OfList a → Told a
 zero-taken (Refused n) h = (λ e. absurd (not-none n h e), λ e. absurd (true≢false (sym e)))
+zero-taken (RefusedAt n line byte) h = (λ e. absurd (not-none n h e), λ e. absurd (true≢false (sym e)))
 zero-taken Done h = (λ e. refl, λ e. refl)
 zero-taken (Count n) h = (λ e. refl, λ e. refl)
 zero-taken (Plate a b) h = (λ e. refl, λ e. refl)

@@ -12,10 +12,9 @@ ghost use Rattle.printout.specs.Printed.{rowsPrinted, printed, printAnswer, pri
 use answers::Answer;
 use answers::NO_ROOM;
 use sheet::MOST_ROWS;
-use sheet::RowsRead;
 use sheet::TEXT_WORDS;
 use text::Limit;
-use text::LineRead;
+use text::TextRead;
 
 const MOST_INPUT: usize = 8192;
 
@@ -44,12 +43,12 @@ fn sheet_bytes(input: &[u8]) -> usize
     at
 }
 
-// Lays the line of a faulty input.
-fn lay_fault(number: u32, out: &mut [u8]) -> usize
-    ensures { λ r. ⌜ Laid (inputText number) (now (out .entry)) 0 r (now (out .exit)) ⌝ }
+// Lays the line of a faulty input: the refusal with its line and byte.
+fn lay_fault(number: u32, line: u32, byte: u32, out: &mut [u8]) -> usize
+    ensures { λ r. ⌜ Laid (inputText number line byte) (now (out .entry)) 0 r (now (out .exit)) ⌝ }
 {
-    let limits = [FIGURE];
-    let figures = [number];
+    let limits = [FIGURE, FIGURE, FIGURE];
+    let figures = [number, line, byte];
     spelling::write_line(b"INPUT\t", &limits, &figures, out)
 }
 
@@ -69,6 +68,7 @@ fn lay_plate(marked: &[u8], refused: &[u8], answer: Answer, out: &mut [u8]) -> u
             let figures = [number];
             spelling::write_line(refused, &limits, &figures, out)
         }
+        Answer::RefusedAt(_, _, _) => 0,
         Answer::Done => 0,
         Answer::Count(_) => 0,
     }
@@ -105,8 +105,8 @@ fn lay_rows(sheet: &[u32], engines: &[u8], out: &mut [u8]) -> usize
     let mut powers = [0u32; MOST_ROWS];
     let mut weights = [0u32; MOST_ROWS];
     match reading::read_columns(engines, &mut powers, &mut weights) {
-        RowsRead::NoRows(refusal, _) => lay_fault(refusal, out),
-        RowsRead::Rows(rows) => lay_plates(sheet, &powers[..rows], &weights[..rows], out),
+        TextRead::Wrong(refusal, line, byte) => lay_fault(refusal, line, byte, out),
+        TextRead::Whole(rows) => lay_plates(sheet, &powers[..rows], &weights[..rows], out),
     }
 }
 
@@ -116,13 +116,13 @@ fn lay_printed(input: &[u8], out: &mut [u8]) -> usize
     ensures { λ r. ⌜ Laid (printed (now (input .entry))) (now (out .entry)) 0 r (now (out .exit)) ⌝ }
 {
     if input.len() > MOST_INPUT {
-        return lay_fault(answers::BROKEN_LINE, out);
+        return lay_fault(answers::BROKEN_LINE, 0, 0, out);
     }
     let end = sheet_bytes(input);
     let mut words = [0u32; TEXT_WORDS];
     match reading::read_words(&input[..end], &mut words) {
-        LineRead::Fault(refusal, _) => lay_fault(refusal, out),
-        LineRead::Taken(_) => lay_rows(&words[1..], &input[end..], out),
+        TextRead::Wrong(refusal, line, byte) => lay_fault(refusal, line, byte, out),
+        TextRead::Whole(_) => lay_rows(&words[1..], &input[end..], out),
     }
 }
 

@@ -8,6 +8,7 @@ use Rattle.face.proofs.face.Tie as tie
 pub face-spec : {M : Type 1} → statement M
 face-spec =
     tie.close
-    (tie.spec (λ c. search needs) (λ c. search needs) (λ c. search needs) (λ c. search needs)
-    (λ c. sym (ap faced (c .before .answer .given .1))) (λ c. sym (ap faced (c .enum-told .given .1)))
-    (λ c. sym (ap faced (c .before .answer2 .given .1))) (λ c. sym (ap faced (c .before .answer3 .given .1))))
+    (tie.spec (λ c. search needs) (λ c. search needs) (λ c. search needs) (λ c. search needs) (λ c. search needs)
+    (λ c. sym (ap faced (c .before .answer .given .1))) (λ c. sym (ap faced (c .before .answer2 .given .1)))
+    (λ c. sym (ap faced (c .enum-told .given .1))) (λ c. sym (ap faced (c .before .answer3 .given .1)))
+    (λ c. sym (ap faced (c .before .answer4 .given .1))))

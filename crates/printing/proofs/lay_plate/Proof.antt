@@ -20,6 +20,9 @@ returns-3 c = rw (c .enum-told .given .1) (laid-none (c .before .before .before 
 returns-4 : tie.Need-returns-4
 returns-4 c = rw (c .enum-told2 .given .1) (laid-none (c .before .before .before .before .before .args .out .now) 0)
 
+returns-5 : tie.Need-returns-5
+returns-5 c = rw (c .enum-told3 .given .1) (laid-none (c .before .before .before .before .before .args .out .now) 0)
+
 pub lay-plate-spec : {M : Type 1} → statement M
 lay-plate-spec =
     tie.close
@@ -35,8 +38,10 @@ lay-plate-spec =
     (λ c. search needs)
     (λ c. search needs)
     (λ c. search needs)
+    (λ c. search needs)
     returns
     (λ c. search needs)
     returns-2
     returns-3
-    returns-4)
+    returns-4
+    returns-5)

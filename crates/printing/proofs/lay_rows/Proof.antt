@@ -2,7 +2,7 @@
 use mathlib.Core.Path.{sym}
 use lib.Seq.{length-take-le}
 use Rattle.sheet.specs.EngineText.{readEngines}
-use Rattle.reading.proofs.EnginesCall.{Held, columns-held}
+use Rattle.reading.proofs.EnginesCall.{Held, rows-held}
 use Rattle.printing.proofs.Laying.{fault-printed, columns-printed}
 use borrow.Author.Needs.{needs}
 use Rattle.printing.proofs.lay_rows.Statement.{statement}
@@ -18,7 +18,7 @@ held : (c : tie.After-known-told2)
     (c .before .before .before .before .before .read-columns .last .1 .1 .0)
 held c =
     let read = c .before .before .before .before .before .read-columns .ensures in
-    columns-held _ (rw (c .before .rows .given .1) at read)
+    rows-held _ (rw (c .before .rows .given .1) at read)
 
 lay-plates-requires : tie.Need-lay-plates-requires
 lay-plates-requires c κs =
