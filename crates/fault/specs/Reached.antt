@@ -7,7 +7,7 @@ use mathlib.Core.Bool.{true, false}
 use mathlib.Core.Logic.{_⊎_}
 use mathlib.Core.List.{List, [], _∷_, _++_}
 use mathlib.Core.Option.{some}
-use lib.ListN.{length}
+use lib.ListN.{length, take}
 use Rattle.answers.specs.Refusals.{brokenLine, outsideLimits}
 use Rattle.text.specs.Field.{fieldOf}
 use Rattle.text.specs.Number.{elevenDigits, digitsOf}
@@ -36,8 +36,8 @@ pub record Outside (limits : List Limit) (last : ℕ) (t : List ℕ) : Type 0 wh
   pub text : t ≡ digitsOf value ++ (ender more ∷ rest)
   pub outside : within here last value ≡ false
 
--- the field at the start of t is refused at k: for its form, and then it did not end before k; or for its limit, and then
--- at its first byte
+-- the field at the start of t is refused at k: for its form, and then it did not end before k; or for its limit, and
+-- then at its first byte
 pub data FieldStops (number : ℕ) (limits : List Limit) (last : ℕ) (t : List ℕ) (k : ℕ) : Type 0 where
   inForm : number ≡ brokenLine → k ≤ length (fieldOf t) → FieldStops number limits last t k
   inLimit : number ≡ outsideLimits → k ≡ 0 → Outside limits last t → FieldStops number limits last t k
@@ -62,9 +62,9 @@ pub record NumbersStop (number : ℕ) (ls : List Limit) (last : ℕ) (t : List �
   pub place : k ≡ length (numbersText ls before) + into
   pub stops : FieldStops number later (lastOf last before) rest into
 
--- in the line's tag, or after it
+-- in the line's tag, of which the bytes before k are there; or after it
 pub data LineStops (number : ℕ) (l : Line) (t : List ℕ) (k : ℕ) : Type 0 where
-  inTag : number ≡ brokenLine → k < length (l .tag) → LineStops number l t k
+  inTag : number ≡ brokenLine → k < length (l .tag) → take k t ≡ take k (l .tag) → LineStops number l t k
   inNumbers : (rest : List ℕ) (into : ℕ) → t ≡ l .tag ++ rest → k ≡ length (l .tag) + into
       → NumbersStop number (l .limits) 0 rest into → LineStops number l t k
 
@@ -105,8 +105,8 @@ PartsStop number (p ∷ ps) t k = RowsStop number p 0 t k ⊎ RowsPassed p 0 (Pa
 
 -- ---- a text that is refused
 
--- with 2: t goes wrong at k by the rule; with 2 or 3: what ended before k is within its limits, and with 3 the field at k
--- is not
+-- with 2: t goes wrong at k by the rule; with 2 or 3: what ended before k is within its limits, and with 3 the field at
+-- k is not
 pub record Refusal (R : Rule) (O : ℕ → Spot) (t : List ℕ) (number k : ℕ) : Type 0 where
   pub form : number ≡ brokenLine → Faulty R t k
   pub limits : O number t k

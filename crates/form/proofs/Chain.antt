@@ -1,5 +1,5 @@
 -- One piece of a text, and the rest after it.
-use mathlib.Core.Path.{_≡_, refl}
+use mathlib.Core.Path.{_≡_, refl, sym}
 use mathlib.Core.List.{List, _∷_, _++_}
 use Prim.Native.Nat.{ℕ, _+_}
 use native.Mathlib.Omega.{arith}
@@ -39,3 +39,22 @@ module _ {A : Type 0} where
       go (took i ys) f d =
           record { first = j; rest = i; a = a; more = ys; first-found = refl; rest-found = f; both = cc; all = cc }
       go (lost number at) f d = absurd (lost-not-found d)
+
+  -- where it went wrong: at the first piece, or after it
+  pub data Broken (p : Found A) (next : A → List ℕ → Found (List A)) (t : List ℕ) (number k : ℕ) : Type 0 where
+    atFirst : p ≡ lost number k → Broken p next t number k
+    atRest : (j : ℕ) (a : A) (i : ℕ) → p ≡ took j a → next a (drop j t) ≡ lost number i → k ≡ j + i
+        → Broken p next t number k
+
+  pub chain-lost : (p : Found A) (next : A → List ℕ → Found (List A)) (t : List ℕ) (number k : ℕ)
+      → chained p next t ≡ lost number k
+      → Broken p next t number k
+  chain-lost (lost m j) next t number k e = atFirst cc
+  chain-lost (took j a) next t number k e = go (next a (drop j t)) refl e
+    where
+      go : (q : Found (List A)) → next a (drop j t) ≡ q → ahead j a q ≡ lost number k
+          → Broken (took j a) next t number k
+      go (took i xs) f d = absurd (lost-not-found (sym d))
+      go (lost m i) f d =
+          let z : m ≡ number = cc in
+          atRest j a i refl (rw z at f) cc

@@ -26,7 +26,7 @@ plain (lost number at) = twoOrThree number
 abbrev pub Plain : {A : Type 0} → Found A → Type 0
 Plain q = plain q ≡ true
 
-fault : {A : Type 0} (q : Found A) (number at : ℕ) → Plain q → q ≡ lost number at → (number ≡ 2) ⊎ (number ≡ 3)
+pub fault : {A : Type 0} (q : Found A) (number at : ℕ) → Plain q → q ≡ lost number at → (number ≡ 2) ⊎ (number ≡ 3)
 fault q number at h e = two-or-three number (rw e at h)
 
 ahead-plain : {A : Type 0} (k : ℕ) (a : A) (q : Found (List A)) → Plain q → Plain (ahead k a q)
@@ -73,7 +73,7 @@ rows-plain p (suc left) need next t = go (kindAt (p .kinds) t) (rows-plain p lef
         chained-plain (readRow (p .rising) next l t) rest t (row-plain (p .rising) next l t)
         (λ (r : Row). ih (nextAfter r))
 
-parts-plain : (ps : List Part) (t : List ℕ) → Plain (readParts ps t)
+pub parts-plain : (ps : List Part) (t : List ℕ) → Plain (readParts ps t)
 unfolding readParts
 parts-plain [] [] = refl
 parts-plain [] (b ∷ t) = refl

@@ -40,7 +40,7 @@ wellMade f = partsMade (f .parts) && leb (partsMost (f .parts)) (f .room)
 
 -- ---- parts that are apart
 
-absent-none : (o : Option Line) → absent o ≡ true → o ≡ none
+pub absent-none : (o : Option Line) → absent o ≡ true → o ≡ none
 absent-none none e = refl
 absent-none (some l) e = absurd (true≢false (sym e))
 

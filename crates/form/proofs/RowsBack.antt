@@ -41,11 +41,11 @@ none-back p left need next t k rs e = go (eqb need 0) refl
         rw (a, b) (record { led = led-none t; held = refl; many = omega (arith, eqb-true need 0 d); few = omega arith })
 
 -- a row that was read
-record RowBack (p : Part) (next : ℕ) (t : List ℕ) (j : ℕ) (r : Row) : Type 0 where
-  led : Led (rowText (p .kinds) r) t j
-  held : rowOk p next r ≡ true
+pub record RowBack (p : Part) (next : ℕ) (t : List ℕ) (j : ℕ) (r : Row) : Type 0 where
+  pub led : Led (rowText (p .kinds) r) t j
+  pub held : rowOk p next r ≡ true
 
-row-back : (p : Part) (next : ℕ) (l : Line) (t : List ℕ) (j : ℕ) (r : Row) → kindOf (p .kinds) (letterOf l) ≡ some l
+pub row-back : (p : Part) (next : ℕ) (l : Line) (t : List ℕ) (j : ℕ) (r : Row) → kindOf (p .kinds) (letterOf l) ≡ some l
     → readRow (p .rising) next l t ≡ took j r
     → RowBack p next t j r
 row-back p next l t j r k e = go (readLine (raised (p .rising) next l) t .ended) refl
@@ -75,7 +75,7 @@ more-back p left need next t j i r rs c d a b =
       few = omega (arith, b .few);
     })
 
-kind-at : (kinds : List Line) (t : List ℕ) (l : Line) → kindAt kinds t ≡ some l → kindOf kinds (letterOf l) ≡ some l
+pub kind-at : (kinds : List Line) (t : List ℕ) (l : Line) → kindAt kinds t ≡ some l → kindOf kinds (letterOf l) ≡ some l
 kind-at kinds [] l e = absurd (Option·none-ne-some l e)
 kind-at kinds (b ∷ t) l e = rw (← kind-letter kinds b l e) e
 

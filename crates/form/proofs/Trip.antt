@@ -25,11 +25,11 @@ use Rattle.form.proofs.RowsBack.{RowsBack, rows-back}
 -- ---- what is written reads back
 
 -- where a part has a choice, it is told from what follows
-told-apart : (p : Part) (ps : List Part) → p .least < p .most → told p ps ≡ true → apart (p .kinds) ps ≡ true
+pub told-apart : (p : Part) (ps : List Part) → p .least < p .most → told p ps ≡ true → apart (p .kinds) ps ≡ true
 unfolding told
 told-apart p ps k h = rw (lt-leb (p .most) (p .least) k) at h
 
-parts-forth : (ps : List Part) (v : List Rows) → partsMade ps ≡ true
+pub parts-forth : (ps : List Part) (v : List Rows) → partsMade ps ≡ true
     → partsOk ps v ≡ true
     → readParts ps (partsText ps v) ≡ took (length (partsText ps v)) v
 unfolding partsMade partsOk partsText readParts
@@ -64,7 +64,7 @@ written-reads f v m h =
 
 -- ---- what reads is what would be written
 
-record Said (ps : List Part) (t : List ℕ) (k : ℕ) (v : List Rows) : Type 0 where
+pub record Said (ps : List Part) (t : List ℕ) (k : ℕ) (v : List Rows) : Type 0 where
   pub is : t ≡ partsText ps v
   pub within : partsOk ps v ≡ true
   pub count : k ≡ length t
@@ -94,7 +94,7 @@ more-back p ps t j i rs w c d a b =
       count = omega (arith, a .led .count, b .count);
     })
 
-parts-back : (ps : List Part) (t : List ℕ) (k : ℕ) (v : List Rows) → readParts ps t ≡ took k v → Said ps t k v
+pub parts-back : (ps : List Part) (t : List ℕ) (k : ℕ) (v : List Rows) → readParts ps t ≡ took k v → Said ps t k v
 unfolding readParts
 parts-back [] t k v e = stop-back t k v e
 parts-back (p ∷ ps) t k v e =

@@ -41,8 +41,10 @@ module _ (t o : List ℕ) (room : mostPrinted ≤ length o) where
   -- an answer of another case than Count, by its place among the cases, does not come
   pub no-other : {r : Answer} {P : Type 0}
       → r ≡ printAnswer t (length o)
-      → OneOf (0 ∷ 1 ∷ 3 ∷ []) (declared.tagOf answer.the-type r)
+      → OneOf (0 ∷ 1 ∷ 2 ∷ 4 ∷ []) (declared.tagOf answer.the-type r)
       → P
   no-other e other =
       let place = ap (declared.tagOf answer.the-type) (e ∙ room-enough t (length o) room) in
-      absurd (⊎-elim (λ a. omega (arith, place)) (⊎-elim (λ a. omega (arith, place)) (λ a. omega (arith, place))) other)
+      absurd
+      (⊎-elim (λ a. omega (arith, place))
+      (⊎-elim (λ a. omega (arith, place)) (⊎-elim (λ a. omega (arith, place)) (λ a. omega (arith, place)))) other)

@@ -96,6 +96,15 @@ unfolding agreed
 agreed-self [] t = refl
 agreed-self (a ∷ s) t = rw (eq-eqb a a refl, agreed) (ap suc (agreed-self s t))
 
+-- the bytes that agree are the tag's
+pub agreed-take : (s t : List ℕ) → take (agreed s t) t ≡ take (agreed s t) s
+unfolding agreed
+agreed-take [] t = refl
+agreed-take (a ∷ s) [] = refl
+agreed-take (a ∷ s) (b ∷ t) =
+    by-equal b a (λ q. rw (eq-eqb b a q, agreed, q) (ap (λ (x : List ℕ). a ∷ x) (agreed-take s t)))
+    (λ q. rw (ne-eqb b a q, agreed))
+
 agreed-least : (s t : List ℕ) → agreed s t ≤ min (length s) (length t)
 unfolding agreed
 agreed-least [] t = omega arith

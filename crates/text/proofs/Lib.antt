@@ -22,3 +22,4 @@ pub mod Cut  -- a text cut into its lines, after each line feed
 pub mod PlaceInLine  -- a place is found again in the lines of the text
 pub mod PlaceSamples  -- worked places, computed
 pub mod Examples  -- worked fields and numbers, computed
+pub mod LineExamples  -- worked lines, computed: where each is refused

@@ -25,7 +25,7 @@ use Rattle.text.proofs.Entry.{by-entry}
 use Rattle.text.proofs.EntryTrip.{ender-ends, entry-back, entry-forth}
 
 -- how a reading that went well after k bytes went
-shift-taken : (j : ℕ) (r : LineRead) (k : ℕ) → shiftBy j r ≡ Taken k → (i : ℕ) × (r ≡ Taken i) × (k ≡ j + i)
+pub shift-taken : (j : ℕ) (r : LineRead) (k : ℕ) → shiftBy j r ≡ Taken k → (i : ℕ) × (r ≡ Taken i) × (k ≡ j + i)
 shift-taken j (Taken i) k e = (i, refl, cc)
 shift-taken j (Fault number at) k e = let z : _≡_ {A = ℕ} 0 1 = cc in absurd (omega arith)
 

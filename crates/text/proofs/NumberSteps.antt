@@ -56,16 +56,16 @@ number-rest (b ∷ s) h k =
 
 -- ---- the place of a fault is in the field, or at its end
 
+same-place : {i j : ℕ} → Malformed i ≡ Malformed j → i ≡ j
+same-place e = cc
+
 rest-place : (n i : ℕ) (s : List ℕ) (at : ℕ) → restOf n i s ≡ Malformed at → at ≤ i + length s
 unfolding restOf
 rest-place n i [] at v = false-true (cc)
 rest-place n i (b ∷ s) at v =
     by-test (isDigit b && leb n nineDigits)
     (λ u. omega (arith, rest-place (10 * n + (b - digit0)) (suc i) s at (rw (u, restOf) at v)))
-    (λ u.
-    let w : Malformed i ≡ Malformed at = rw (u, restOf) at v in
-    let z : i ≡ at = cc in
-    omega arith)
+    (λ u. omega (arith, same-place (rw (u, restOf) at v)))
 
 zero-place : (s : List ℕ) (at : ℕ) → zeroAlone s ≡ Malformed at → at ≤ suc (length s)
 zero-place [] at v = false-true (cc)

@@ -37,7 +37,7 @@ rest-back n i [] m h l e =
     let q : n ≡ m = cc in
     (rw (append-nil, q), omega arith)
 rest-back n i (b ∷ s) m h l e =
-    let p = value-past (isDigit b && leb n nineDigits) _ i e in
+    let p = value-past (isDigit b && leb n nineDigits) _ _ e in
     let w = both-hold (isDigit b) (leb n nineDigits) (p .0) in
     let low = digit-low b (w .0) in
     let high = digit-high b (w .0) in
