@@ -7,7 +7,8 @@
 
 It is written from documents 01 and 02 and shares nothing with the crates. Areas, volumes and loads are worked as
 fractions in the order the standards give them, where the crates keep whole sums and divide once: the two agree only if
-both are exact.
+both are exact. A text is cut at its line feeds, and the place of a fault is how far the line can be the beginning of a
+right one, where the crates count bytes from the text's start.
 """
 
 import glob
@@ -21,50 +22,66 @@ BROKEN, OUTSIDE = 2, 3
 MOST_INPUT, MOST_TEXT = 8192, 4096
 MOST_FITS, MOST_ROWS = 24, 40
 
-NUMBER = re.compile(rb"(?:0|[1-9][0-9]{0,9})")
+NUMBER = rb"(0|[1-9][0-9]{0,9})"
+NUMBER_OR_DASH = rb"(0|[1-9][0-9]{0,9}|-)"
+NOT_ABOVE_THE_ONE_BEFORE = None  # in place of a highest number
 
 
 class Refused(Exception):
-    """A refusal by its number."""
+    """A refusal by its number; of a text with the line and the byte in it, 0 and 0 where the text is too long."""
 
-    def __init__(self, number):
-        super().__init__(number)
-        self.number = number
+    def __init__(self, number, *place):
+        super().__init__(number, *place)
+        self.figures = (number, *place)
+
+
+def beginning(parts):
+    """A pattern of everything that a line of these parts can begin with; it takes as much as it can."""
+    pattern = b""
+    for part in reversed(parts):
+        pattern = b"(?:" + part + pattern + b")?"
+    return re.compile(pattern)
 
 
 class Text:
-    """A text that is read from its start, a line's tag and then its numbers."""
+    """A text, a line after the other. After the last line feed comes a line without one, which is to be empty."""
 
     def __init__(self, data):
         if len(data) > MOST_TEXT:
-            raise Refused(BROKEN)
-        self.data, self.at = data, 0
+            raise Refused(BROKEN, 0, 0)
+        *ended, rest = data.split(b"\n")
+        self.lines = [line + b"\n" for line in ended] + [rest]
+        self.passed = 0
 
     def starts(self, tag):
-        return self.data.startswith(tag, self.at)
+        return self.lines[self.passed].startswith(tag)
 
     def ended(self):
-        return self.at == len(self.data)
+        return self.lines[self.passed :] == [b""]
 
-    def tag(self, tag):
-        if not self.starts(tag):
-            raise Refused(BROKEN)
-        self.at += len(tag)
+    def refuse(self, number, at):
+        raise Refused(number, self.passed + 1, at + 1)
 
-    def number(self, low, high, ender):
-        """A number and the byte that ends it: their form is judged first, then the limits."""
-        found = NUMBER.match(self.data, self.at)
-        if not found or self.data[found.end() : found.end() + 1] != ender:
-            raise Refused(BROKEN)
-        value = int(found.group())
-        if not low <= value <= high:
-            raise Refused(OUTSIDE)
-        self.at = found.end() + 1
-        return value
-
-    def numbers(self, *limits):
-        enders = [b"\t"] * (len(limits) - 1) + [b"\n"]
-        return [self.number(low, high, e) for (low, high), e in zip(limits, enders)]
+    def line(self, tag, *limits, last=NUMBER):
+        """The numbers of the next line. Each that its tab or line feed ends is judged by its limits, then the form."""
+        parts = [bytes([byte]) for byte in tag]
+        for _ in limits:
+            parts += [NUMBER, b"\t"]
+        if limits:
+            parts[-2:] = [last, b"\n"]
+        right, numbers = beginning(parts).match(self.lines[self.passed]), []
+        for field, (low, high) in enumerate(limits, 1):
+            if right[field] is None or right.end(field) == right.end():
+                break
+            number = None if right[field] == b"-" else int(right[field])
+            most = numbers[-1] if high is NOT_ABOVE_THE_ONE_BEFORE else high
+            if number is not None and not low <= number <= most:
+                self.refuse(OUTSIDE, right.start(field))
+            numbers.append(number)
+        if not right[0].endswith(b"\n"):
+            self.refuse(BROKEN, right.end())
+        self.passed += 1
+        return numbers
 
 
 class Sheet:
@@ -72,39 +89,23 @@ class Sheet:
 
     def __init__(self, data):
         text = Text(data)
-        text.tag(b"HULL\t")
-        text.numbers((0, 15))
-        text.tag(b"FORM\t")
-        self.length = text.number(2000, 6000, b"\t")
-        self.reference = text.number(2000, min(6000, self.length), b"\t")
-        self.width, self.height, self.flat, self.remote = text.numbers((500, 3000), (200, 900), (0, 1), (0, 1))
-        self.stations = []
-        for letter in (b"Q", b"R", b"S", b"T"):
-            text.tag(b"STN\t" + letter + b"\t")
-            self.stations.append(text.numbers((0, 4000), *[(0, 2500)] * 6))
-        text.tag(b"VOL\t")
-        self.aft, self.well, self.flooding = text.numbers(*[(0, 5000000)] * 3)
-        text.tag(b"MASS\t")
-        self.bare, self.fuel, self.machinery = text.numbers((1, 2000000), (0, 500000), (0, 500000))
-        text.tag(b"PWR\t")
-        self.outboard, self.declared = text.numbers((0, 1), (0, 200000))
-        text.tag(b"SEAT\t")
-        self.positions = text.number(1, 24, b"\t")
-        self.tested = None
-        if text.starts(b"-\n"):
-            text.tag(b"-\n")
-        else:
-            self.tested = text.number(1, 24, b"\n")
+        text.line(b"HULL\t", (0, 15))
+        lengths, sizes, marks = [(2000, 6000), (2000, NOT_ABOVE_THE_ONE_BEFORE)], [(500, 3000), (200, 900)], [(0, 1)] * 2
+        form = text.line(b"FORM\t", *lengths, *sizes, *marks)
+        self.length, self.reference, self.width, self.height, self.flat, self.remote = form
+        station = [(0, 4000)] + [(0, 2500)] * 6
+        self.stations = [text.line(b"STN\t" + letter + b"\t", *station) for letter in (b"Q", b"R", b"S", b"T")]
+        self.aft, self.well, self.flooding = text.line(b"VOL\t", *[(0, 5000000)] * 3)
+        self.bare, self.fuel, self.machinery = text.line(b"MASS\t", (1, 2000000), (0, 500000), (0, 500000))
+        self.outboard, self.declared = text.line(b"PWR\t", (0, 1), (0, 200000))
+        self.positions, self.tested = text.line(b"SEAT\t", (1, 24), (1, 24), last=NUMBER_OR_DASH)
         self.fittings, last = [], 0
-        while text.starts(b"FIT\t"):
-            if len(self.fittings) == MOST_FITS:
-                raise Refused(BROKEN)
-            text.tag(b"FIT\t")
-            last = text.number(last + 1, 24, b"\t")
-            self.fittings.append(text.number(1, 500000, b"\n"))
-        text.tag(b"END\n")
+        while text.starts(b"F") and len(self.fittings) < MOST_FITS:
+            last, weight = text.line(b"FIT\t", (last + 1, 24), (1, 500000))
+            self.fittings.append(weight)
+        text.line(b"END\n")
         if not text.ended():
-            raise Refused(BROKEN)
+            text.refuse(BROKEN, 0)
 
     def water(self):
         """Grams of water that the hull holds, exactly."""
@@ -119,14 +120,11 @@ class Sheet:
 
 def engine_rows(data):
     text, rows, last = Text(data), [], 0
-    while not text.ended():
+    while not rows or not text.ended():
         if len(rows) == MOST_ROWS:
-            raise Refused(BROKEN)
-        text.tag(b"ENG\t")
-        last = text.number(last + 1, 200000, b"\t")
-        rows.append((last, text.number(0, 1000000, b"\n")))
-    if not rows:
-        raise Refused(BROKEN)
+            text.refuse(BROKEN, 0)
+        last, weight = text.line(b"ENG\t", (last + 1, 200000), (0, 1000000))
+        rows.append((last, weight))
     return rows
 
 
@@ -216,23 +214,27 @@ def split(data):
     return data[:at], data[at:]
 
 
-def line(letter, plate, *given):
+def line(*words):
+    return "\t".join(map(str, words)) + "\n"
+
+
+def plate_line(letter, plate, *given):
     try:
-        return "PLATE\t%s\t%s\n" % (letter, "\t".join("%d" % figure for figure in plate(*given)))
+        return line("PLATE", letter, *plate(*given))
     except Refused as refusal:
-        return "REFUSED\t%s\t%d\n" % (letter, refusal.number)
+        return line("REFUSED", letter, *refusal.figures)
 
 
 def printed(data):
     try:
         if len(data) > MOST_INPUT:
-            raise Refused(BROKEN)
+            raise Refused(BROKEN, 0, 0)
         first, rest = split(data)
         sheet = Sheet(first)
         rows = engine_rows(rest)
     except Refused as refusal:
-        return "INPUT\t%d\n" % refusal.number
-    return line("A", plate_a, sheet) + line("C", plate_c, sheet, rows)
+        return line("INPUT", *refusal.figures)
+    return plate_line("A", plate_a, sheet) + plate_line("C", plate_c, sheet, rows)
 
 
 def sheets(folder):
@@ -249,7 +251,7 @@ def plates_u(folder):
             sheet = Sheet(split(data)[0])
         except Refused:
             continue
-        lines.append(os.path.basename(name) + "\t" + line("U", plate_u, sheet))
+        lines.append(os.path.basename(name) + "\t" + plate_line("U", plate_u, sheet))
     return "".join(sorted(lines))
 
 

@@ -70,33 +70,70 @@ static wb_answer accepted(uint32_t first, uint32_t second)
 #define LONGEST_TEXT 4096
 #define MOST_DIGITS 10
 
+/* A text that is read from its start, and the line that it is read to. Where the text is at fault, it stays at the place of the fault. */
 struct reader {
     const uint8_t *at, *end;
+    const uint8_t *line_start;
+    uint32_t line;
 };
+
+static struct reader start_of(const uint8_t *bytes, size_t size)
+{
+    struct reader text = {bytes, bytes + size, bytes, 1};
+    return text;
+}
+
+static wb_answer refused_at(uint32_t number, const struct reader *text)
+{
+    wb_answer answer = {number, text->line, (uint32_t)(text->at - text->line_start) + 1, 0};
+    return answer;
+}
+
+static int next_is(const struct reader *text, uint8_t byte)
+{
+    return text->at < text->end && *text->at == byte;
+}
+
+static int next_is_digit(const struct reader *text)
+{
+    return text->at < text->end && *text->at >= '0' && *text->at <= '9';
+}
+
+static void pass(struct reader *text)
+{
+    if (*text->at++ == '\n') {
+        text->line_start = text->at;
+        text->line++;
+    }
+}
 
 static int read_tag(struct reader *text, const char *tag)
 {
-    size_t size = strlen(tag);
-    if ((size_t)(text->end - text->at) < size || memcmp(text->at, tag, size) != 0)
-        return 0;
-    text->at += size;
+    for (; *tag; tag++) {
+        if (!next_is(text, (uint8_t)*tag))
+            return 0;
+        pass(text);
+    }
     return 1;
 }
 
-/* A number with the byte that must end it: its form is judged before its limits. */
+/* A number with the byte that must end it: its form is judged before its limits. After a 0 or ten digits there is only that byte. */
 static uint32_t read_number(struct reader *text, uint8_t ender, uint32_t low, uint32_t high, uint32_t *number)
 {
-    const uint8_t *start = text->at, *at = start;
+    const uint8_t *first = text->at;
     uint64_t value = 0;
-    while (at < text->end && at - start <= MOST_DIGITS && *at >= '0' && *at <= '9')
-        value = 10 * value + (uint64_t)(*at++ - '0');
-    if (at == start || at - start > MOST_DIGITS || (*start == '0' && at - start > 1))
+    if (!next_is_digit(text))
         return WB_BROKEN_LINE;
-    if (at == text->end || *at != ender)
+    do
+        value = 10 * value + (uint64_t)(*text->at++ - '0');
+    while (next_is_digit(text) && value > 0 && text->at - first < MOST_DIGITS);
+    if (!next_is(text, ender))
         return WB_BROKEN_LINE;
-    if (value < low || value > high)
+    if (value < low || value > high) {
+        text->at = first;
         return WB_OUTSIDE_LIMITS;
-    text->at = at + 1;
+    }
+    pass(text);
     *number = (uint32_t)value;
     return WB_ACCEPTED;
 }
@@ -112,9 +149,9 @@ static uint32_t read_lines(struct reader *text, uint32_t *sheet)
             uint8_t ender = field == lines[line].fields ? '\n' : '\t';
             uint32_t low = word == TESTED ? 1 : sheet_limits[word].low;
             uint32_t high = word == REFERENCE ? sheet[LENGTH] : sheet_limits[word].high;
-            if (word == TESTED && read_tag(text, "-\n")) {
+            if (word == TESTED && next_is(text, '-')) {
                 sheet[TESTED] = 0;
-                continue;
+                return read_tag(text, "-\n") ? WB_ACCEPTED : WB_BROKEN_LINE;
             }
             uint32_t fault = read_number(text, ender, low, high, &sheet[word]);
             if (fault)
@@ -124,13 +161,13 @@ static uint32_t read_lines(struct reader *text, uint32_t *sheet)
     return WB_ACCEPTED;
 }
 
-/* The FIT lines, their numbers rising, and END. */
+/* The FIT lines, their numbers rising, then END and nothing more. */
 static uint32_t read_fittings(struct reader *text, uint32_t *fittings)
 {
     uint32_t line = 0;
     memset(fittings, 0, WB_FITTINGS * sizeof *fittings);
-    for (int count = 0; !read_tag(text, "END\n"); count++) {
-        if (count == WB_FITTINGS || !read_tag(text, "FIT\t"))
+    for (int count = 0; count < WB_FITTINGS && next_is(text, 'F'); count++) {
+        if (!read_tag(text, "FIT\t"))
             return WB_BROKEN_LINE;
         uint32_t fault = read_number(text, '\t', line + 1, WB_FITTINGS, &line);
         if (!fault)
@@ -138,25 +175,41 @@ static uint32_t read_fittings(struct reader *text, uint32_t *fittings)
         if (fault)
             return fault;
     }
-    return WB_ACCEPTED;
+    return read_tag(text, "END\n") && text->at == text->end ? WB_ACCEPTED : WB_BROKEN_LINE;
 }
 
 /* A whole text into the HULL number and the 68 words after it. */
-static uint32_t read_text(const uint8_t *bytes, size_t size, uint32_t *numbers)
+static wb_answer read_text(const uint8_t *bytes, size_t size, uint32_t *numbers)
 {
     if (size > LONGEST_TEXT)
-        return WB_BROKEN_LINE;
-    struct reader text = {bytes, bytes + size};
-    if (!read_tag(&text, "HULL\t"))
-        return WB_BROKEN_LINE;
-    uint32_t fault = read_number(&text, '\n', 0, HIGHEST_HULL, &numbers[0]);
+        return refused(WB_BROKEN_LINE);
+    struct reader text = start_of(bytes, size);
+    uint32_t fault = WB_BROKEN_LINE;
+    if (read_tag(&text, "HULL\t"))
+        fault = read_number(&text, '\n', 0, HIGHEST_HULL, &numbers[0]);
     if (!fault)
         fault = read_lines(&text, numbers + 1);
     if (!fault)
         fault = read_fittings(&text, numbers + 1 + FITTINGS);
-    if (!fault && text.at != text.end)
-        fault = WB_BROKEN_LINE;
-    return fault;
+    return fault ? refused_at(fault, &text) : accepted(0, 0);
+}
+
+/* Engine rows, to the end of their text. */
+static uint32_t read_rows(struct reader *text, uint32_t *powers, uint32_t *weights, size_t *rows)
+{
+    uint32_t before = 0;
+    *rows = 0;
+    do {
+        if (*rows == WB_ENGINE_ROWS || !read_tag(text, "ENG\t"))
+            return WB_BROKEN_LINE;
+        uint32_t fault = read_number(text, '\t', before + 1, 200000, &powers[*rows]);
+        if (!fault)
+            fault = read_number(text, '\n', 0, 1000000, &weights[*rows]);
+        if (fault)
+            return fault;
+        before = powers[(*rows)++];
+    } while (text->at < text->end);
+    return WB_ACCEPTED;
 }
 
 /* ---- writing texts ---- */
@@ -465,9 +518,10 @@ wb_answer ref_new_hull(uint32_t *mem, size_t mem_len, const uint8_t *text, size_
         return refused(WB_BAD_MEMORY);
     if (mem[0] == WB_HULLS)
         return refused(WB_FULL);
-    uint32_t numbers[1 + SHEET_WORDS], fault = read_text(text, text_len, numbers);
-    if (fault)
-        return refused(fault);
+    uint32_t numbers[1 + SHEET_WORDS];
+    wb_answer read = read_text(text, text_len, numbers);
+    if (read.refusal)
+        return read;
     uint32_t hull = mem[0]++, *slot = mem + hull_at(hull);
     slot[EDIT] = 0;
     memcpy(slot + HULL_SHEET, numbers + 1, SHEET_WORDS * sizeof *mem);
@@ -519,12 +573,10 @@ wb_answer ref_take_off(uint32_t *mem, size_t mem_len, uint32_t desk, uint32_t li
 wb_answer ref_replace(uint32_t *mem, size_t mem_len, uint32_t desk, const uint8_t *text, size_t text_len)
 {
     uint32_t numbers[1 + SHEET_WORDS], fault = judge_draft(mem, mem_len, desk);
-    if (!fault)
-        fault = read_text(text, text_len, numbers);
-    if (fault)
-        return refused(fault);
-    memcpy(mem + desk_at(desk) + DRAFT_SHEET, numbers + 1, SHEET_WORDS * sizeof *mem);
-    return accepted(0, 0);
+    wb_answer read = fault ? refused(fault) : read_text(text, text_len, numbers);
+    if (!read.refusal)
+        memcpy(mem + desk_at(desk) + DRAFT_SHEET, numbers + 1, SHEET_WORDS * sizeof *mem);
+    return read;
 }
 
 wb_answer ref_trial_a(const uint32_t *mem, size_t mem_len, uint32_t desk)
@@ -598,11 +650,11 @@ wb_answer ref_write_hull(const uint32_t *mem, size_t mem_len, uint32_t hull, uin
 
 wb_answer ref_read_sheet(const uint8_t *text, size_t text_len, wb_sheet *sheet)
 {
-    uint32_t numbers[1 + SHEET_WORDS], fault = read_text(text, text_len, numbers);
-    if (fault)
-        return refused(fault);
-    memcpy(sheet, numbers, sizeof *sheet);
-    return accepted(0, 0);
+    uint32_t numbers[1 + SHEET_WORDS];
+    wb_answer read = read_text(text, text_len, numbers);
+    if (!read.refusal)
+        memcpy(sheet, numbers, sizeof *sheet);
+    return read;
 }
 
 wb_answer ref_write_sheet(const wb_sheet *sheet, uint8_t *out, size_t out_len)
@@ -615,20 +667,14 @@ wb_answer ref_write_sheet(const wb_sheet *sheet, uint8_t *out, size_t out_len)
 
 wb_answer ref_read_engines(const uint8_t *text, size_t text_len, uint32_t *powers, size_t powers_len, uint32_t *weights, size_t weights_len)
 {
-    uint32_t power[WB_ENGINE_ROWS], weight[WB_ENGINE_ROWS], before = 0;
-    size_t rows = 0;
-    if (text_len > LONGEST_TEXT || text_len == 0)
+    uint32_t power[WB_ENGINE_ROWS], weight[WB_ENGINE_ROWS];
+    size_t rows;
+    if (text_len > LONGEST_TEXT)
         return refused(WB_BROKEN_LINE);
-    for (struct reader at = {text, text + text_len}; at.at < at.end; rows++) {
-        if (rows == WB_ENGINE_ROWS || !read_tag(&at, "ENG\t"))
-            return refused(WB_BROKEN_LINE);
-        uint32_t fault = read_number(&at, '\t', before + 1, 200000, &power[rows]);
-        if (!fault)
-            fault = read_number(&at, '\n', 0, 1000000, &weight[rows]);
-        if (fault)
-            return refused(fault);
-        before = power[rows];
-    }
+    struct reader from = start_of(text, text_len);
+    uint32_t fault = read_rows(&from, power, weight, &rows);
+    if (fault)
+        return refused_at(fault, &from);
     if (powers_len < rows || weights_len < rows)
         return refused(WB_NO_ROOM);
     memcpy(powers, power, rows * sizeof *power);
