@@ -36,7 +36,7 @@ extern "C" {
 #define WB_ENGINE_ROWS 40
 #define WB_SHEET_TEXT 610
 
-/* A text of more bytes, of a sheet or of engine rows, is refused with 2 before any of it is read. */
+/* A text of more bytes, of a sheet or of engine rows, is refused with 2 before any of it is read, and its place is 0 and 0. */
 #define WB_MOST_TEXT 4096
 
 /*
@@ -55,14 +55,22 @@ extern "C" {
  *
  * Engine rows are a text of their own: 1 to 40 lines ENG power weight, the powers rising, power 1..200000, weight 0..1000000. A number is 1 to 10
  * digits, and 0 is the only one that starts with 0.
+ *
+ * The first fault from the left and top is answered with its place: the line, and the byte in that line, both counted from 1. Line feeds alone end
+ * lines, and each belongs to the line that it ends. At a number the form, with the tab or line feed that must end it, is judged before the limits.
+ *
+ *     2    the first byte up to and with which no text of such lines begins, whatever its numbers: a digit after a leading 0, an eleventh digit, a
+ *          carriage return, the F of a 25th FIT line, whatever follows END's line. Where the text stops early, the place after its last byte, which
+ *          after a line feed is byte 1 of the next line
+ *     3    the first byte of the number that is outside its limits, or not above the one before
  */
 
 /* Why a call was refused. */
 typedef enum wb_refusal {
     WB_ACCEPTED = 0,
     WB_BAD_MEMORY = 1,      /* the register's memory is not WB_REGISTER_WORDS long, or a number in it is not one that a register has */
-    WB_BROKEN_LINE = 2,     /* a text breaks the line rules */
-    WB_OUTSIDE_LIMITS = 3,  /* a number is outside its limits */
+    WB_BROKEN_LINE = 2,     /* a text breaks the line rules; first and second are the place, or 0 and 0 where it is too long */
+    WB_OUTSIDE_LIMITS = 3,  /* a number is outside its limits; of a text's number first and second are the place */
     WB_FULL = 4,            /* sixteen hulls are entered */
     WB_NO_HULL = 5,         /* no such hull */
     WB_NO_DESK = 6,         /* a desk above 7 */
@@ -80,8 +88,8 @@ typedef enum wb_refusal {
 } wb_refusal;
 
 /*
- * What a call answers: a refusal and figures of 0, or WB_ACCEPTED and the figures that the call names; those that it does not name are 0. "Done" names
- * none.
+ * What a call answers: WB_ACCEPTED and the figures that the call names, or a refusal. A refusal 2 or 3 of a text has its place, the line in first and the
+ * byte in second. Figures that are not named are 0, and so are those of every other refusal. "Done" names none.
  */
 typedef struct wb_answer {
     uint32_t refusal; /* a wb_refusal */
@@ -134,7 +142,7 @@ wb_answer wb_fresh(uint32_t *mem, size_t mem_len);
 /*
  * Enters a hull from the text of a sheet, with edit number 0. The text's HULL number is judged and then ignored. The other hulls and all drafts are
  * left alone.
- * Answers: first is the hull's number. Refuses: 1; 4; 2 or 3 for the first fault of the text.
+ * Answers: first is the hull's number. Refuses: 1; 4; 2 or 3 with the place of the text's first fault.
  */
 wb_answer wb_new_hull(uint32_t *mem, size_t mem_len, const uint8_t *text, size_t text_len);
 
@@ -161,7 +169,7 @@ wb_answer wb_take_off(uint32_t *mem, size_t mem_len, uint32_t desk, uint32_t lin
 /*
  * Makes the desk's draft the sheet of a text. The text's HULL number is judged and then ignored: the draft is of the hull that it was of, opened at the
  * edit number that it was. The hulls and the other drafts are left alone.
- * Answers: done. Refuses: 1, 6, 7; 2 or 3 for the first fault of the text.
+ * Answers: done. Refuses: 1, 6, 7; 2 or 3 with the place of the text's first fault.
  */
 wb_answer wb_replace(uint32_t *mem, size_t mem_len, uint32_t desk, const uint8_t *text, size_t text_len);
 
@@ -229,7 +237,7 @@ wb_answer wb_write_hull(const uint32_t *mem, size_t mem_len, uint32_t hull, uint
 
 /*
  * Reads a sheet from its text, the HULL number too. All 69 numbers of sheet are written; the text is only read.
- * Answers: done. Refuses: 2 or 3 for the first fault from the left and top.
+ * Answers: done. Refuses: 2 or 3 with the place of the text's first fault.
  */
 wb_answer wb_read_sheet(const uint8_t *text, size_t text_len, wb_sheet *sheet);
 
@@ -243,7 +251,8 @@ wb_answer wb_write_sheet(const wb_sheet *sheet, uint8_t *out, size_t out_len);
 /*
  * Reads engine rows from their text into the starts of two slices. Elements after the rows are left alone; WB_ENGINE_ROWS are always room enough. The
  * text is only read.
- * Answers: first is how many rows there are. Refuses: 2 or 3 for the first fault of the text; 16 where either slice is shorter than the rows.
+ * Answers: first is how many rows there are. Refuses: 2 or 3 with the place of the text's first fault; 16 where either slice is shorter than
+ * the rows.
  */
 wb_answer wb_read_engines(const uint8_t *text, size_t text_len, uint32_t *powers, size_t powers_len, uint32_t *weights, size_t weights_len);
 
