@@ -239,10 +239,12 @@ int main(int argc, char **argv)
     try_plate_edges();
     try_plate_u_edges();
     try_text_edges();
+    try_fault_places();
     try_register_edges();
     printf("c tests: %lu chosen calls\n", calls_made());
     try_random_calls(count);
     print_answers_seen();
+    print_lines_at_fault();
     printf("c tests: %.0f calls a second\n", (double)calls_made() / (seconds() - start + 1e-9));
     printf("c tests: %lu calls, 0 differences\n", calls_made());
     return 0;

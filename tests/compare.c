@@ -2,6 +2,7 @@
 #define _DEFAULT_SOURCE
 #include "compare.h"
 
+#include "material.h"
 #include "offices.h"
 #include "painted.h"
 #include "random.h"
@@ -46,13 +47,21 @@ static const struct {
     [READ_ENGINES] = {"read_engines", BIT(TEXT), BIT(POWERS) | BIT(WEIGHTS), BIT(0) | BIT(2) | BIT(3) | BIT(16)},
 };
 
+/* The calls that read a text, and the lines of it that can be at fault: with 2 one more than it may have, and with 3 all that have numbers. */
+static const struct {
+    enum kind kind;
+    uint32_t broken, outside;
+} texts[] = {{NEW_HULL, 36, 34}, {REPLACE, 36, 34}, {READ_SHEET, 36, 34}, {READ_ENGINES, 41, 40}};
+
 static const char *const buffer_names[BUFFERS] = {"memory", "text", "output", "powers", "weights", "sheet"};
 
 /* ---- the progress, and the report of a difference ---- */
 
 #define REFUSALS 18
+#define TEXT_LINES 41
 
 static unsigned long made, seen[KINDS][REFUSALS];
+static unsigned long broken_at[KINDS][TEXT_LINES + 1], outside_at[KINDS][TEXT_LINES + 1]; /* by the line at fault; 0 for a text too long */
 static long deepest[KINDS];
 static uint64_t seed;
 static const char *part = "start";
@@ -339,6 +348,20 @@ void begin_compare(uint64_t the_seed)
 
 /* ---- holding the one to the other ---- */
 
+/* Of refusals only a text's 2 and 3 have figures: a place that the text has, or where it ends; none where the text is too long. */
+static void judge_figures(wb_answer got)
+{
+    int of_text = kinds[current.kind].reads & BIT(TEXT) && (got.refusal == 2 || got.refusal == 3);
+    int none = got.first == 0 && got.second == 0;
+    insist(got.third == 0 && (got.refusal == 0 || of_text || none), "a figure that the call does not name");
+    if (!of_text)
+        return;
+    insist(none == (told(TEXT, 1) > WB_MOST_TEXT), "a text that is too long has a place, or one that is not has none");
+    insist(none || offset_of(lent_bytes(TEXT), lent[TEXT].size, got.first, got.second) != NOWHERE, "a place that the text does not have");
+    insist(got.first <= TEXT_LINES, "a line that no text can have");
+    (got.refusal == 2 ? broken_at : outside_at)[current.kind][got.first]++;
+}
+
 static void compare_answers(wb_answer got, wb_answer wanted)
 {
     if (memcmp(&got, &wanted, sizeof got) != 0) {
@@ -347,7 +370,7 @@ static void compare_answers(wb_answer got, wb_answer wanted)
                (unsigned long)wanted.second, (unsigned long)wanted.third);
         give_up("the answers");
     }
-    insist(got.third == 0 && (got.refusal == 0 || (got.first == 0 && got.second == 0)), "a figure that the call does not name");
+    judge_figures(got);
 }
 
 static void compare_bytes(enum buffer buffer, const uint8_t *got, const void *wanted, const char *what)
@@ -426,6 +449,32 @@ void expect(wb_answer answer, uint32_t refusal, uint32_t first, uint32_t second)
     printf("the library answers %lu %lu %lu, the rules say %lu %lu %lu\n", (unsigned long)answer.refusal, (unsigned long)answer.first,
            (unsigned long)answer.second, (unsigned long)refusal, (unsigned long)first, (unsigned long)second);
     give_up("an answer that the test has in figures");
+}
+
+static uint32_t lines_seen(const unsigned long *counts, uint32_t lines)
+{
+    uint32_t met = 0;
+    for (uint32_t line = 1; line <= lines; line++)
+        met += counts[line] > 0;
+    return met;
+}
+
+void print_lines_at_fault(void)
+{
+    int missing = 0;
+    printf("%-14s %8s %8s %8s\n", "lines at fault", "with 2", "with 3", "too long");
+    for (size_t i = 0; i < sizeof texts / sizeof *texts; i++) {
+        enum kind kind = texts[i].kind;
+        uint32_t broken = lines_seen(broken_at[kind], texts[i].broken), outside = lines_seen(outside_at[kind], texts[i].outside);
+        printf("%-14s %5lu/%lu %5lu/%lu %8lu\n", kinds[kind].name, (unsigned long)broken, (unsigned long)texts[i].broken, (unsigned long)outside,
+               (unsigned long)texts[i].outside, broken_at[kind][0]);
+        missing += broken < texts[i].broken || outside < texts[i].outside || broken_at[kind][0] == 0;
+    }
+    if (missing > 0) {
+        printf("c tests: %lu calls, %d of those that read texts never met some line at fault\n", made, missing);
+        fflush(stdout);
+        exit(1);
+    }
 }
 
 void print_answers_seen(void)

@@ -47,6 +47,12 @@ unsigned long calls_made(void);
 /* The table of answers seen for every call, and the most stack that it took. Ends the program if an answer that the header names was never seen. */
 void print_answers_seen(void);
 
+/*
+ * Of every call that reads a text, how many of its lines were at fault, with 2 and with 3, and how often it was too long. Ends the program if a line
+ * that can be at fault never was.
+ */
+void print_lines_at_fault(void);
+
 uint8_t *lent_bytes(enum buffer buffer);
 uint8_t *lend(enum buffer buffer, size_t size);
 

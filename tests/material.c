@@ -211,8 +211,7 @@ size_t count_fields(const uint8_t *text, size_t size)
     return fields;
 }
 
-/* Where a field starts, tags counted too; its end is the next tab or line feed. */
-static size_t field_start(const uint8_t *text, size_t size, size_t field)
+size_t field_start(const uint8_t *text, size_t size, size_t field)
 {
     size_t at = 0;
     while (field > 0 && at < size)
@@ -226,6 +225,16 @@ size_t replace_field(uint8_t *text, size_t size, size_t field, const char *by)
     while (end < size && !ends_field(text[end]))
         end++;
     return insert_bytes(text, delete_bytes(text, size, start, end - start), start, by);
+}
+
+size_t offset_of(const uint8_t *text, size_t size, uint32_t line, uint32_t byte)
+{
+    size_t at = 0;
+    while (line > 1 && at < size)
+        line -= text[at++] == '\n';
+    for (; byte > 1 && at < size && text[at] != '\n'; at++)
+        byte--;
+    return line == 1 && byte == 1 ? at : NOWHERE;
 }
 
 static size_t random_field_start(const uint8_t *text, size_t size)
@@ -282,7 +291,8 @@ static size_t damage_line(uint8_t *text, size_t size)
 
 static size_t damage_byte(uint8_t *text, size_t size)
 {
-    static const char *const bytes[] = {"\t", "\n", "\r", "\r\n", "0", "9", "-", " ", "/", ":", "\x7F", "\xFF", "\xB0", "END\n", "\t\t", "A"};
+    static const char *const bytes[] = {"\t", "\n", "\r", "\r\n", "0", "9", "-", " ", "/", ":", "\x7F", "\xFF", "\xB0", "END\n", "\t\t", "A",
+                                        "\xEF\xBB\xBF"};
     size_t at = size ? random_between(0, (uint32_t)size - 1) : 0;
     const char *chosen = ONE_OF(bytes);
     switch (random_between(0, 3)) {
@@ -350,7 +360,7 @@ size_t random_sheet_text(uint8_t *text)
 {
     wb_sheet sheet = random_sheet();
     if (one_in(8)) {
-        int number = (int)random_between(0, SHEET_NUMBERS - 1);
+        int number = (int)random_between(one_in(2) ? 0 : FIRST_FITTING, SHEET_NUMBERS - 1);
         numbers_of(&sheet)[number] = one_in(2) ? highest(number) + 1 : lowest(number) - (lowest(number) > 0);
     }
     return perhaps_damaged(text, text_of(&sheet, text));
@@ -362,8 +372,10 @@ size_t random_engine_text(uint8_t *text)
     static const uint32_t sizes[] = {1, 2, 3, 39, 40, 41, 0};
     size_t rows = one_in(2) ? random_between(1, 40) : ONE_OF(sizes);
     random_rows(powers, weights, rows);
-    if (rows > 1 && one_in(6))
-        powers[rows - 1] = one_in(2) ? powers[rows - 2] : powers[rows - 1] + 200000;
+    if (rows > 1 && one_in(6)) {
+        size_t row = random_between(1, (uint32_t)rows - 1);
+        powers[row] = one_in(2) ? powers[row - 1] : powers[row] + 200000;
+    }
     return perhaps_damaged(text, text_of_rows(powers, weights, rows, text));
 }
 

@@ -42,6 +42,13 @@ size_t count_fields(const uint8_t *text, size_t size);
 size_t insert_bytes(uint8_t *text, size_t size, size_t at, const char *bytes);
 size_t delete_bytes(uint8_t *text, size_t size, size_t at, size_t count);
 
+/* Where a field starts, tags counted too; its end is the next tab or line feed. */
+size_t field_start(const uint8_t *text, size_t size, size_t field);
+
+/* How many bytes of a text come before a line and a byte in it, both from 1; NOWHERE if the text has no such byte and does not end there. */
+#define NOWHERE ((size_t)-1)
+size_t offset_of(const uint8_t *text, size_t size, uint32_t line, uint32_t byte);
+
 /* Numbers at and beside every limit, the highest ones, and ones with a single bit too many. */
 uint32_t hostile_number(void);
 

@@ -6,6 +6,7 @@ void try_samples(void);
 void try_plate_edges(void);
 void try_plate_u_edges(void);
 void try_text_edges(void);
+void try_fault_places(void);
 void try_register_edges(void);
 
 #endif

@@ -229,10 +229,11 @@ static void try_ended_drafts(void)
 
 /* ---- the order of refusals ---- */
 
+/* The text is empty: where it is refused with 2, that is at line 1, byte 1. */
 static void expect_all(const struct call *calls, const uint32_t *refusals, size_t count)
 {
     for (size_t i = 0; i < count; i++)
-        expect(attempt(calls[i]), refusals[i], 0, 0);
+        expect(attempt(calls[i]), refusals[i], refusals[i] == 2, refusals[i] == 2);
 }
 
 /* Several things are wrong at once; texts, rows and outputs are all bad. */
@@ -301,9 +302,9 @@ static void try_texts(void)
         wb_sheet sheet = base_hull();
         enter_alone(&sheet);
         lend_text("HULL\t16\n");
-        expect(attempt(calls[i]), 3, 0, 0);
+        expect(attempt(calls[i]), 3, 1, 6);
         lend_text("HULL\t15\n");
-        expect(attempt(calls[i]), 2, 0, 0);
+        expect(attempt(calls[i]), 2, 2, 1);
         sheet.hull = 15;
         sheet.fitting[23] = 7;
         lend_text_of(&sheet);

@@ -1,6 +1,7 @@
 /* steps.c: see steps.h. */
 #include "steps.h"
 
+#include "layout.h"
 #include "material.h"
 
 #include <string.h>
@@ -42,6 +43,46 @@ void expect_beyond(struct call call, enum buffer one, enum buffer other, uint32_
             expect(attempt(call), refusal, first, 0);
             lent[one].beyond = lent[other].beyond = 0;
         }
+}
+
+/* A register with the base hull alone, open at desk 3. */
+static void lend_register(void)
+{
+    wb_sheet sheet = base_hull();
+    uint32_t *mem = memset(lend(MEMORY, 4 * WB_REGISTER_WORDS), 0, 4 * WB_REGISTER_WORDS);
+    mem[0] = 1;
+    memcpy(mem + HULL_AT(0) + 1, numbers_of(&sheet) + 1, sizeof sheet - 4);
+    mem[DESK_AT(3)] = 1;
+    memcpy(mem + DESK_AT(3) + 3, numbers_of(&sheet) + 1, sizeof sheet - 4);
+}
+
+wb_answer read_sheet(void)
+{
+    memset(lend(SHEET, sizeof(wb_sheet)), 0xD7, sizeof(wb_sheet));
+    wb_answer answer = attempt((struct call){.kind = READ_SHEET});
+    uint32_t hull = 1; /* the register's second */
+    lend_register();
+    expect(attempt((struct call){.kind = NEW_HULL}), answer.refusal, answer.refusal ? answer.first : hull, answer.second);
+    lend_register();
+    expect(attempt((struct call){.kind = REPLACE, .desk = 3}), answer.refusal, answer.first, answer.second);
+    return answer;
+}
+
+wb_answer read_engines(size_t powers, size_t weights)
+{
+    lend_slices(powers, weights);
+    return attempt((struct call){.kind = READ_ENGINES});
+}
+
+void expect_at_field(wb_answer answer, uint32_t refusal, size_t field, uint32_t bytes)
+{
+    uint32_t line = 1, byte = 1 + bytes;
+    const uint8_t *at = lent_bytes(TEXT), *start = at + field_start(at, lent[TEXT].size, field);
+    for (; at < start; at++) {
+        byte = *at == '\n' ? 1 + bytes : byte + 1;
+        line += *at == '\n';
+    }
+    expect(answer, refusal, line, byte);
 }
 
 void lend_rows(const uint32_t *powers, const uint32_t *weights, size_t rows)

@@ -26,6 +26,15 @@ void insist_untouched(enum buffer buffer, size_t from);
  */
 void expect_beyond(struct call call, enum buffer one, enum buffer other, uint32_t refusal, uint32_t first);
 
+/* Reads the text that is lent as a sheet: into a wb_sheet, as a new hull and into a draft, which must all say the same of it. */
+wb_answer read_sheet(void);
+
+/* Reads it as engine rows, into slices of so many words. */
+wb_answer read_engines(size_t powers, size_t weights);
+
+/* The text that is lent has been refused so, or is accepted, and its fault is so many bytes after the start of a field; tags count as fields too. */
+void expect_at_field(wb_answer answer, uint32_t refusal, size_t field, uint32_t bytes);
+
 /* Lends engine rows as the plate calls take them. */
 void lend_rows(const uint32_t *powers, const uint32_t *weights, size_t rows);
 

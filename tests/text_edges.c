@@ -1,10 +1,9 @@
-/* text_edges.c: texts at the bounds of the rules, texts with one fault at every place, and outputs that just do or just do not have room. */
+/* text_edges.c: texts at the bounds of the rules, texts whose answer the rules give in figures, and outputs that just do or just do not have room. */
 #include "material.h"
 #include "parts.h"
 #include "random.h"
 #include "steps.h"
 
-#include <stdio.h>
 #include <string.h>
 
 #define LONGEST_TEXT 4096
@@ -14,33 +13,43 @@ static void lend_sheet(const wb_sheet *sheet)
     memcpy(lend(SHEET, sizeof *sheet), sheet, sizeof *sheet);
 }
 
-static wb_answer read_sheet(void)
+static void expect_read(uint32_t refusal, uint32_t line, uint32_t byte)
 {
-    memset(lend(SHEET, sizeof(wb_sheet)), 0xD7, sizeof(wb_sheet));
-    return attempt((struct call){.kind = READ_SHEET});
-}
-
-static wb_answer read_engines(size_t powers, size_t weights)
-{
-    lend_slices(powers, weights);
-    return attempt((struct call){.kind = READ_ENGINES});
+    expect(read_sheet(), refusal, line, byte);
 }
 
 /* ---- limits ---- */
 
+/* The field of a sheet's number, where a fitting is the only one; tags and stations' letters are fields too. */
+static size_t field_of(int number)
+{
+    static const int first[] = {0, 1, 7, 14, 21, 28, 35, 38, 41, 43, FIRST_FITTING}, tags[] = {1, 1, 2, 2, 2, 2, 1, 1, 1, 1, 2};
+    size_t field = (size_t)(number < FIRST_FITTING ? number : FIRST_FITTING);
+    for (size_t line = 0; line < sizeof first / sizeof *first && first[line] <= number; line++)
+        field += (size_t)tags[line];
+    return field;
+}
+
 /* A sheet as text and as a sheet to be written: both are judged alike, but for what a text cannot say. */
-static void expect_judged(wb_sheet sheet, uint32_t refusal)
+static void expect_within(wb_sheet sheet)
 {
     lend_text_of(&sheet);
-    expect(read_sheet(), refusal, 0, 0);
-    if (refusal == 0)
-        insist(memcmp(lent[SHEET].words, &sheet, sizeof sheet) == 0, "the sheet that was read is not the one that the text was made of");
+    expect_read(0, 0, 0);
+    insist(memcmp(lent[SHEET].words, &sheet, sizeof sheet) == 0, "the sheet that was read is not the one that the text was made of");
     lend_sheet(&sheet);
     lend_out(WB_SHEET_TEXT);
-    wb_answer written = attempt((struct call){.kind = WRITE_SHEET});
-    expect(written, refusal, refusal ? 0 : (uint32_t)lent[TEXT].size, 0);
-    if (refusal == 0)
-        insist(memcmp(lent[OUT].words, lent[TEXT].words, written.first) == 0, "the text that was written is not the sheet's one text");
+    expect(attempt((struct call){.kind = WRITE_SHEET}), 0, (uint32_t)lent[TEXT].size, 0);
+    insist(memcmp(lent[OUT].words, lent[TEXT].words, lent[TEXT].size) == 0, "the text that was written is not the sheet's one text");
+}
+
+/* One of its numbers is outside its limits: of a text that is a place, of a sheet to be written the number alone. */
+static void expect_outside(wb_sheet sheet, int number)
+{
+    lend_text_of(&sheet);
+    expect_at_field(read_sheet(), 3, field_of(number), 0);
+    lend_sheet(&sheet);
+    lend_out(WB_SHEET_TEXT);
+    expect(attempt((struct call){.kind = WRITE_SHEET}), 3, 0, 0);
 }
 
 static void try_limits(void)
@@ -49,101 +58,56 @@ static void try_limits(void)
     for (int number = 0; number < SHEET_NUMBERS; number++) {
         int may_be_zero = number == TESTED_NUMBER || number >= FIRST_FITTING;
         uint32_t low = may_be_zero ? 0 : lowest(number), high = highest(number);
-        const struct {
-            uint32_t number, refusal;
-        } tried[] = {{low, 0}, {low + 1, 0}, {high, 0}, {high - 1, 0}, {high + 1, 3}, {high + 256, 3}, {high + 65536, 3}, {0xFFFFFFFF, 3}, {low - 1, 3}};
-        for (size_t i = 0; i < sizeof tried / sizeof *tried; i++) {
-            wb_sheet sheet = base_hull();
-            sheet.length = 6000;
-            sheet.reference = 2000;
-            numbers_of(&sheet)[number] = tried[i].number;
-            expect_judged(sheet, tried[i].refusal);
+        const uint32_t within[] = {low, low + 1, high, high - 1}, outside[] = {high + 1, high + 256, high + 65536, 0xFFFFFFFF, low - 1};
+        wb_sheet sheet = base_hull();
+        sheet.length = 6000;
+        sheet.reference = 2000;
+        for (size_t i = 0; i < sizeof within / sizeof *within; i++) {
+            numbers_of(&sheet)[number] = within[i];
+            expect_within(sheet);
+        }
+        for (size_t i = 0; i < sizeof outside / sizeof *outside; i++) {
+            numbers_of(&sheet)[number] = outside[i];
+            expect_outside(sheet, number);
         }
     }
     for (uint32_t length = 2000; length <= 6000; length += 500) {
         wb_sheet sheet = base_hull();
         sheet.length = sheet.reference = length;
-        expect_judged(sheet, 0);
+        expect_within(sheet);
         sheet.reference++;
-        expect_judged(sheet, 3);
+        expect_outside(sheet, REFERENCE_NUMBER);
     }
-}
-
-/* ---- one fault at every place ---- */
-
-static uint8_t whole[TEXT_ROOM];
-static size_t whole_size;
-
-static void read_either(int engines)
-{
-    if (engines)
-        read_engines(WB_ENGINE_ROWS, WB_ENGINE_ROWS);
-    else
-        read_sheet();
-}
-
-static void lend_whole(void)
-{
-    memcpy(lend(TEXT, whole_size), whole, whole_size);
-}
-
-static void try_bytes(int engines)
-{
-    static const uint8_t bytes[] = {'\t', '\n', '\r', '0', '1', '9', '-', ' ', '/', ':', 0, 0x80, 0xFF, 'E', 'F'};
-    for (size_t at = 0; at <= whole_size; at++) {
-        for (size_t i = 0; at < whole_size && i < sizeof bytes; i++) {
-            lend_whole();
-            lent_bytes(TEXT)[at] = bytes[i];
-            read_either(engines);
-        }
-        lend_whole();
-        lent[TEXT].size = delete_bytes(lent_bytes(TEXT), whole_size, at, 1);
-        read_either(engines);
-        for (size_t i = 0; i < 4; i++) {
-            const char inserted[] = {(char)bytes[i], 0};
-            lend_whole();
-            lent[TEXT].size = insert_bytes(lent_bytes(TEXT), whole_size, at, inserted);
-            read_either(engines);
-        }
-        lend_whole();
-        lent[TEXT].size = at;
-        read_either(engines);
-    }
-}
-
-static void try_fields(int engines)
-{
-    static const char *const odd[] = {"", "0", "00", "01", "-", "-1", "+1", "1 ", " 1", "1\r", "4294967295", "4294967296", "4294967297", "9999999999",
-                                      "10000000000", "99999999999", "0000000001", "18446744073709551617", "1\t1", "1\n"};
-    for (size_t field = 0; field < count_fields(whole, whole_size); field++)
-        for (size_t i = 0; i < sizeof odd / sizeof *odd; i++) {
-            lend_whole();
-            lent[TEXT].size = replace_field(lent_bytes(TEXT), whole_size, field, odd[i]);
-            read_either(engines);
-        }
-}
-
-static void try_faults(void)
-{
-    wb_sheet sheet = base_hull();
-    static const uint32_t powers[] = {1, 20000, 200000}, weights[] = {0, 60000, 1000000};
-    begin_part("one fault at every place of a sheet's text");
-    sheet.fitting[4] = 3334;
-    sheet.fitting[9] = 500000;
-    whole_size = text_of(&sheet, whole);
-    try_bytes(0);
-    try_fields(0);
-    begin_part("one fault at every place of an engine text");
-    whole_size = text_of_rows(powers, weights, 3, whole);
-    try_bytes(1);
-    try_fields(1);
 }
 
 /* ---- texts whose answer the rules give in figures ---- */
 
-static void expect_read(uint32_t refusal)
+struct figures {
+    const char *text;
+    uint32_t refusal, line, byte;
+};
+
+/* The first lines, and texts that are no sheet at all. */
+static void try_first_lines(void)
 {
-    expect(read_sheet(), refusal, 0, 0);
+    static const struct figures tried[] = {
+        {"", 2, 1, 1}, {"\n", 2, 1, 1}, {"\t", 2, 1, 1}, {"x", 2, 1, 1}, {"hull\t1\n", 2, 1, 1}, {"\xEF\xBB\xBFHULL\t1\n", 2, 1, 1}, {" HULL\t1\n", 2, 1, 1},
+        {"END\n", 2, 1, 1}, {"ENG\t1\t1\n", 2, 1, 1}, {"H", 2, 1, 2}, {"HUL", 2, 1, 4}, {"HULL", 2, 1, 5}, {"HULL 1\n", 2, 1, 5}, {"HULL\n", 2, 1, 5},
+        {"HULL\t", 2, 1, 6}, {"HULL\t\n", 2, 1, 6}, {"HULL\t\t1\n", 2, 1, 6}, {"HULL\t-\n", 2, 1, 6}, {"HULL\t+1\n", 2, 1, 6}, {"HULL\tx", 2, 1, 6},
+        {"HULL\t01", 2, 1, 7}, {"HULL\t01\n", 2, 1, 7}, {"HULL\t00\n", 2, 1, 7}, {"HULL\t016\n", 2, 1, 7}, {"HULL\t0", 2, 1, 7},
+        {"HULL\t12345678901", 2, 1, 16}, {"HULL\t12345678901\n", 2, 1, 16}, {"HULL\t123456789012\n", 2, 1, 16}, {"HULL\t1234567890", 2, 1, 16},
+        {"HULL\t1234567890\n", 3, 1, 6}, {"HULL\t1234567890\t", 2, 1, 16}, {"HULL\t16\n", 3, 1, 6}, {"HULL\t16", 2, 1, 8}, {"HULL\t16 \n", 2, 1, 8},
+        {"HULL\t16\t\n", 2, 1, 8}, {"HULL\t16\nx", 3, 1, 6}, {"HULL\t1", 2, 1, 7}, {"HULL\t1\n", 2, 2, 1}, {"HULL\t1\n\n", 2, 2, 1},
+        {"HULL\t1\r\n", 2, 1, 7}, {"HULL\t1\r", 2, 1, 7}, {"HULL\t1\rFORM", 2, 1, 7}, {"HULL\t1\nHULL\t1\n", 2, 2, 1}, {"HULL\t1\nFOR", 2, 2, 4},
+        {"HULL\t1\nFORM\t4500\t4501\t", 3, 2, 11}, {"HULL\t1\nFORM\t4500\t4501\n", 2, 2, 15}, {"HULL\t1\nFORM\t4500\t4501", 2, 2, 15},
+        {"HULL\t1\nFORM\t4500\t4501\tx", 3, 2, 11}, {"HULL\t1\nFORM\t4500\t1999\t", 3, 2, 11}, {"HULL\t1\nFORM\t6001\t", 3, 2, 6},
+        {"HULL\t1\nFORM\t6001\n", 2, 2, 10}, {"HULL\t1\nFORM\t4500\t04501\t", 2, 2, 12}, {"HULL\t1\nFORM\t4500\t4000.5\t", 2, 2, 15},
+    };
+    begin_part("the first lines");
+    for (size_t i = 0; i < sizeof tried / sizeof *tried; i++) {
+        lend_text(tried[i].text);
+        expect_read(tried[i].refusal, tried[i].line, tried[i].byte);
+    }
 }
 
 /* Fills the text that is lent up to a size. */
@@ -158,70 +122,79 @@ static void try_sizes(void)
 {
     begin_part("texts of 4,096 bytes and more");
     for (size_t size = LONGEST_TEXT - 1; size <= LONGEST_TEXT + 2; size++) {
-        uint32_t refusal = size > LONGEST_TEXT ? 2 : 3;
+        int over = size > LONGEST_TEXT;
         lend_text("HULL\t16\n");
         fill_to(size);
-        expect_read(refusal);
+        expect_read(over ? 2 : 3, over ? 0 : 1, over ? 0 : 6);
         lend_text("ENG\t0\t1\n");
         fill_to(size);
-        expect(read_engines(40, 40), refusal, 0, 0);
+        expect(read_engines(40, 40), over ? 2 : 3, over ? 0 : 1, over ? 0 : 5);
+        lend_text("");
+        fill_to(size);
+        expect_read(2, !over, !over); /* at its first byte, and not too long */
+        expect(read_engines(40, 40), 2, !over, !over);
     }
     lend_text("");
-    expect_read(2);
-    expect(read_engines(40, 40), 2, 0, 0);
-    expect(read_engines(0, 0), 2, 0, 0);
+    expect_read(2, 1, 1);
+    expect(read_engines(40, 40), 2, 1, 1);
+    expect(read_engines(0, 0), 2, 1, 1);
 }
 
-/* The base hull's text without its END, then other lines. */
-static void lend_with(const char *lines)
+/* A sheet's text without its END, then other lines. */
+static void lend_text_with(const wb_sheet *sheet, const char *lines)
 {
-    wb_sheet sheet = base_hull();
-    lend_text_of(&sheet);
-    lent[TEXT].size = insert_bytes(lent_bytes(TEXT), lent[TEXT].size - strlen("END\n"), lent[TEXT].size - strlen("END\n"), lines);
+    lend_text_of(sheet);
+    lent[TEXT].size -= strlen("END\n");
+    lent[TEXT].size = insert_bytes(lent_bytes(TEXT), lent[TEXT].size, lent[TEXT].size, lines);
 }
 
+/* Ten lines come before these. */
 static void try_fit_lines(void)
 {
-    static const struct {
-        const char *lines;
-        uint32_t refusal;
-    } tried[] = {{"END\n", 0}, {"", 2}, {"END", 2}, {"END\t\n", 2}, {"END\r\n", 2}, {"END\n\n", 2}, {"END\nEND\n", 2}, {"end\n", 2}, {"\nEND\n", 2},
-                 {"FIT\t1\t1\nEND\n", 0}, {"FIT\t24\t500000\nEND\n", 0}, {"FIT\t0\t1\nEND\n", 3}, {"FIT\t25\t1\nEND\n", 3}, {"FIT\t1\t0\nEND\n", 3},
-                 {"FIT\t1\t500001\nEND\n", 3}, {"FIT\t2\t1\nFIT\t2\t1\nEND\n", 3}, {"FIT\t2\t1\nFIT\t1\t1\nEND\n", 3}, {"FIT\t2\t1\nFIT\t3\t1\nEND\n", 0},
-                 {"FIT\t2\t1\nFIT\t2\tx\nEND\n", 3}, {"FIT\t0\tx\nEND\n", 3}, {"FIT\t2\t1\nFIT\t2x\t1\nEND\n", 2}, {"FIT\t1\t-\nEND\n", 2},
-                 {"FIT\t-\t1\nEND\n", 2}, {"FIT\t01\t1\nEND\n", 2}, {"FIT\t1\t1\t\nEND\n", 2}, {"FIT\t\t1\t1\nEND\n", 2}, {"FIT\t25\t01\nEND\n", 3},
-                 {"FIT\t1\t1\n", 2}, {"FIT\t9999999999\t1\nEND\n", 3}, {"FIT\t10000000000\t1\nEND\n", 2}, {"FIT\t1\t4294967297\nEND\n", 3},
-                 {"FIT\t1\n1\nEND\n", 2}};
+    static const struct figures tried[] = {
+        {"END\n", 0, 0, 0}, {"", 2, 11, 1}, {"END", 2, 11, 4}, {"END\t\n", 2, 11, 4}, {"END \n", 2, 11, 4}, {"END\r\n", 2, 11, 4}, {"END\n\n", 2, 12, 1},
+        {"END\nEND\n", 2, 12, 1}, {"END\n\x1A", 2, 12, 1}, {"end\n", 2, 11, 1}, {"\nEND\n", 2, 11, 1}, {"SEAT\t5\t-\n", 2, 11, 1}, {"-\n", 2, 11, 1},
+        {"E", 2, 11, 2}, {"EN", 2, 11, 3}, {"ENG\t1\t1\n", 2, 11, 3}, {"F", 2, 11, 2}, {"FIN\n", 2, 11, 3}, {"FIT", 2, 11, 4}, {"FIT\n", 2, 11, 4},
+        {"FIT\t", 2, 11, 5}, {"FIT\t1", 2, 11, 6}, {"FIT\t1\t", 2, 11, 7}, {"FIT\t1\t1", 2, 11, 8}, {"FIT\t1\t1\n", 2, 12, 1},
+        {"FIT\t1\t1\nEND\n", 0, 0, 0}, {"FIT\t24\t500000\nEND\n", 0, 0, 0}, {"FIT\t0\t1\nEND\n", 3, 11, 5}, {"FIT\t25\t1\nEND\n", 3, 11, 5},
+        {"FIT\t1\t0\nEND\n", 3, 11, 7}, {"FIT\t1\t500001\nEND\n", 3, 11, 7}, {"FIT\t2\t1\nFIT\t2\t1\nEND\n", 3, 12, 5},
+        {"FIT\t2\t1\nFIT\t1\t1\nEND\n", 3, 12, 5}, {"FIT\t2\t1\nFIT\t3\t1\nEND\n", 0, 0, 0}, {"FIT\t2\t1\nFIT\t2\tx\nEND\n", 3, 12, 5},
+        {"FIT\t0\tx\nEND\n", 3, 11, 5}, {"FIT\t0\t0\nEND\n", 3, 11, 5}, {"FIT\t2\t1\nFIT\t2x\t1\nEND\n", 2, 12, 6}, {"FIT\t1\t-\nEND\n", 2, 11, 7},
+        {"FIT\t-\t1\nEND\n", 2, 11, 5}, {"FIT\t01\t1\nEND\n", 2, 11, 6}, {"FIT\t1\t1\t\nEND\n", 2, 11, 8}, {"FIT\t\t1\t1\nEND\n", 2, 11, 5},
+        {"FIT\t25\t01\nEND\n", 3, 11, 5}, {"FIT\t9999999999\t1\nEND\n", 3, 11, 5}, {"FIT\t10000000000\t1\nEND\n", 2, 11, 15},
+        {"FIT\t1\t4294967297\nEND\n", 3, 11, 7}, {"FIT\t1\n1\nEND\n", 2, 11, 6},
+    };
+    wb_sheet sheet = base_hull();
     begin_part("FIT lines and END");
     for (size_t i = 0; i < sizeof tried / sizeof *tried; i++) {
-        lend_with(tried[i].lines);
-        expect_read(tried[i].refusal);
+        lend_text_with(&sheet, tried[i].text);
+        expect_read(tried[i].refusal, tried[i].line, tried[i].byte);
     }
 }
 
+/* All 24 FIT lines, or one less, and then other lines: the 24th is line 34. */
 static void try_fit_counts(void)
 {
-    static const char *const more[] = {"FIT\t25\t1\n", "FIT\t24\t1\n", "FIT\t1\tx\n", "FIT\t"};
+    static const struct figures tried[] = {
+        {"END\n", 0, 0, 0}, {"", 2, 35, 1}, {"FIT\t25\t1\nEND\n", 2, 35, 1}, {"FIT\t24\t1\nEND\n", 2, 35, 1}, {"FIT\t1\tx\nEND\n", 2, 35, 1}, {"FIT\t", 2, 35, 1},
+        {"F", 2, 35, 1}, {"X", 2, 35, 1}, {"\n", 2, 35, 1}, {"E", 2, 35, 2}, {"EIT\t", 2, 35, 2}, {"END", 2, 35, 4}, {"END\nF", 2, 36, 1}, {"END\nEND\n", 2, 36, 1},
+    };
+    static const struct figures with_one_less[] = {
+        {"END\n", 0, 0, 0}, {"", 2, 34, 1}, {"F", 2, 34, 2}, {"FIT\t", 2, 34, 5}, {"X", 2, 34, 1}, {"FIT\t23\t1\n", 3, 34, 5}, {"FIT\t24\t0\n", 3, 34, 8},
+        {"FIT\t24\t1\nFIT\t25\t1\n", 2, 35, 1}, {"END\n\n", 2, 35, 1},
+    };
     wb_sheet sheet = base_hull();
     for (int i = 0; i < WB_FITTINGS; i++)
         sheet.fitting[i] = 1;
-    lend_text_of(&sheet);
-    expect_read(0);
-    for (size_t i = 0; i < sizeof more / sizeof *more; i++) {
-        lend_text_of(&sheet);
-        lent[TEXT].size = insert_bytes(lent_bytes(TEXT), lent[TEXT].size, lent[TEXT].size - strlen("END\n"), more[i]);
-        expect_read(2);
+    for (size_t i = 0; i < sizeof tried / sizeof *tried; i++) {
+        lend_text_with(&sheet, tried[i].text);
+        expect_read(tried[i].refusal, tried[i].line, tried[i].byte);
     }
-}
-
-/* The field of a sheet's number before the fittings; tags and stations' letters are fields too. */
-static size_t field_of(int number)
-{
-    static const int first[] = {0, 1, 7, 14, 21, 28, 35, 38, 41, 43}, tags[] = {1, 1, 2, 2, 2, 2, 1, 1, 1, 1};
-    size_t field = (size_t)number;
-    for (size_t line = 0; line < sizeof first / sizeof *first && first[line] <= number; line++)
-        field += (size_t)tags[line];
-    return field;
+    sheet.fitting[WB_FITTINGS - 1] = 0;
+    for (size_t i = 0; i < sizeof with_one_less / sizeof *with_one_less; i++) {
+        lend_text_with(&sheet, with_one_less[i].text);
+        expect_read(with_one_less[i].refusal, with_one_less[i].line, with_one_less[i].byte);
+    }
 }
 
 static void spoil_field(size_t field, const char *by)
@@ -235,9 +208,9 @@ static void try_first_fault(void)
     static const struct {
         size_t field;
         const char *by;
-        uint32_t refusal;
-    } tried[] = {{1, "16", 3}, {1, "x", 2}, {3, "6001", 3}, {3, "06000", 2}, {4, "4501", 3}, {4, "04501", 2}, {10, "R", 2}, {11, "4001", 3},
-                 {12, "2501", 3}};
+        uint32_t refusal, bytes;
+    } tried[] = {{1, "16", 3, 0}, {1, "x", 2, 0}, {3, "6001", 3, 0}, {3, "06000", 2, 1}, {4, "4501", 3, 0}, {4, "04501", 2, 1}, {10, "R", 2, 0},
+                 {11, "4001", 3, 0}, {12, "2501", 3, 0}, {12, "2501x", 2, 4}};
     begin_part("the first of two faults");
     for (size_t i = 0; i < sizeof tried / sizeof *tried; i++)
         for (int later = 0; later < 2; later++) {
@@ -245,7 +218,7 @@ static void try_first_fault(void)
             lend_text_of(&sheet);
             spoil_field(field_of(AFT_NUMBER), later ? "5000001" : "x");
             spoil_field(tried[i].field, tried[i].by);
-            expect_read(tried[i].refusal);
+            expect_at_field(read_sheet(), tried[i].refusal, tried[i].field, tried[i].bytes);
         }
 }
 
@@ -256,10 +229,10 @@ static void expect_first(int number, uint32_t outside)
     numbers_of(&sheet)[number] = outside;
     lend_text_of(&sheet);
     spoil_field(field_of(number) + 1, "x");
-    expect_read(3);
+    expect_at_field(read_sheet(), 3, field_of(number), 0);
     lend_text_of(&sheet);
     spoil_field(field_of(number) - 1, "x");
-    expect_read(2);
+    expect_at_field(read_sheet(), 2, field_of(number) - 1, 0);
 }
 
 static void try_next_fault(void)
@@ -271,18 +244,23 @@ static void try_next_fault(void)
     }
 }
 
+/* The tested persons, on line 10: SEAT, a tab, 5 and a tab come before them. */
 static void try_tested(void)
 {
-    static const struct {
-        const char *tested;
-        uint32_t refusal;
-    } tried[] = {{"-", 0}, {"0", 3}, {"1", 0}, {"24", 0}, {"25", 3}, {"--", 2}, {"-1", 2}, {"", 2}, {"-\t", 2}, {"01", 2}, {"-\r", 2}};
+    static const struct figures tried[] = {
+        {"-", 0, 0, 0}, {"0", 3, 10, 8}, {"1", 0, 0, 0}, {"24", 0, 0, 0}, {"25", 3, 10, 8}, {"--", 2, 10, 9}, {"-1", 2, 10, 9}, {"", 2, 10, 8}, {"-\t", 2, 10, 9},
+        {"01", 2, 10, 9}, {"0-", 2, 10, 9}, {"1-", 2, 10, 9}, {"-\r", 2, 10, 9}, {" -", 2, 10, 8}, {"25 ", 2, 10, 10}, {"12345678901", 2, 10, 18},
+        {"1234567890", 3, 10, 8},
+    };
+    wb_sheet sheet = base_hull();
     for (size_t i = 0; i < sizeof tried / sizeof *tried; i++) {
-        wb_sheet sheet = base_hull();
         lend_text_of(&sheet);
-        lent[TEXT].size = replace_field(lent_bytes(TEXT), lent[TEXT].size, count_fields(lent_bytes(TEXT), lent[TEXT].size) - 2, tried[i].tested);
-        expect_read(tried[i].refusal);
+        spoil_field(field_of(TESTED_NUMBER), tried[i].text);
+        expect_read(tried[i].refusal, tried[i].line, tried[i].byte);
     }
+    lend_text_of(&sheet);
+    lent[TEXT].size -= strlen("\nEND\n"); /* stops after the dash */
+    expect_read(2, 10, 9);
 }
 
 /* ---- engine rows ---- */
@@ -302,38 +280,43 @@ static void try_engine_counts(void)
     begin_part("engine rows into slices");
     for (size_t rows = 1; rows <= 42; rows++) {
         int over = rows > WB_ENGINE_ROWS;
+        uint32_t no_room = over ? 2 : 16, line = over ? 41 : 0, byte = over; /* too many are at fault at the first byte of the 41st */
         lend_engine_rows(rows);
-        expect(read_engines(rows, rows), over ? 2 : 0, over ? 0 : (uint32_t)rows, 0);
-        expect(read_engines(rows + 5, rows + 9), over ? 2 : 0, over ? 0 : (uint32_t)rows, 0);
+        expect(read_engines(rows, rows), over ? 2 : 0, over ? line : (uint32_t)rows, byte);
+        expect(read_engines(rows + 5, rows + 9), over ? 2 : 0, over ? line : (uint32_t)rows, byte);
         insist_untouched(POWERS, over ? 0 : 4 * rows);
         insist_untouched(WEIGHTS, over ? 0 : 4 * rows);
-        expect(read_engines(rows - 1, rows), over ? 2 : 16, 0, 0);
-        expect(read_engines(rows, rows - 1), over ? 2 : 16, 0, 0);
-        expect(read_engines(0, 64), over ? 2 : 16, 0, 0);
-        expect(read_engines(64, 0), over ? 2 : 16, 0, 0);
+        expect(read_engines(rows - 1, rows), no_room, line, byte);
+        expect(read_engines(rows, rows - 1), no_room, line, byte);
+        expect(read_engines(0, 64), no_room, line, byte);
+        expect(read_engines(64, 0), no_room, line, byte);
     }
 }
 
 static void try_engine_lines(void)
 {
-    static const struct {
-        const char *text;
-        uint32_t refusal;
-    } tried[] = {{"ENG\t0\t1\n", 3}, {"ENG\t1\t0\n", 16}, {"ENG\t200001\t0\n", 3}, {"ENG\t1\t1000001\n", 3}, {"ENG\t2\t1\nENG\t2\t1\n", 3},
-                 {"ENG\t2\t1\nENG\t1\t1\n", 3}, {"ENG\t2\t1\nENG\t02\t1\n", 2}, {"ENG\t2\t1\nENG\t2\tx\n", 3}, {"ENG\t0\tx\n", 3},
-                 {"ENG\t200001\tx\n", 3}, {"ENG\t2\t1\n\n", 2}, {"ENG\t2\t1", 2},
-                 {"ENG\t2\t1\r\n", 2}, {"ENG\t2\t1\nEND\n", 2}, {"ENG\t1\t-\n", 2}, {"ENG\t-\t1\n", 2}, {"ENG\t9999999999\t1\n", 3},
-                 {"ENG\t10000000000\t1\n", 2}, {"ENG\t1\t10000000000\n", 2}, {"ENG\t1\t1\t1\n", 2}, {"ENG\t1\n", 2}, {"eng\t1\t1\n", 2}};
+    static const struct figures tried[] = {
+        {"ENG\t1\t0\n", 16, 0, 0}, {"ENG\t0\t1\n", 3, 1, 5}, {"ENG\t200001\t0\n", 3, 1, 5}, {"ENG\t1\t1000001\n", 3, 1, 7}, {"ENG\t1\t1000001", 2, 1, 14},
+        {"ENG\t2\t1\nENG\t2\t1\n", 3, 2, 5}, {"ENG\t2\t1\nENG\t1\t1\n", 3, 2, 5}, {"ENG\t2\t1\nENG\t02\t1\n", 2, 2, 6}, {"ENG\t2\t1\nENG\t2\tx\n", 3, 2, 5},
+        {"ENG\t2\t1\nENG\t2", 2, 2, 6}, {"ENG\t0\tx\n", 3, 1, 5}, {"ENG\t200001\tx\n", 3, 1, 5}, {"ENG\t2\t1\n\n", 2, 2, 1}, {"ENG\t2\t1\n\x1A", 2, 2, 1},
+        {"ENG\t2\t1", 2, 1, 8}, {"ENG\t2\t1\r\n", 2, 1, 8}, {"ENG\t2\t1 \n", 2, 1, 8}, {"ENG\t2\t1\nEND\n", 2, 2, 3}, {"ENG\t2\t1\nE", 2, 2, 2},
+        {"ENG\t1\t-\n", 2, 1, 7}, {"ENG\t-\t1\n", 2, 1, 5}, {"ENG\t9999999999\t1\n", 3, 1, 5}, {"ENG\t10000000000\t1\n", 2, 1, 15},
+        {"ENG\t1\t10000000000\n", 2, 1, 17}, {"ENG\t1\t1\t1\n", 2, 1, 8}, {"ENG\t1\n", 2, 1, 6}, {"eng\t1\t1\n", 2, 1, 1}, {"END\n", 2, 1, 3}, {"\n", 2, 1, 1},
+        {"HULL\t1\n", 2, 1, 1}, {"\xEF\xBB\xBF" "ENG\t1\t1\n", 2, 1, 1}, {"ENG 1\t1\n", 2, 1, 4},
+    };
     for (size_t i = 0; i < sizeof tried / sizeof *tried; i++) {
         lend_text(tried[i].text);
-        expect(read_engines(0, 0), tried[i].refusal, 0, 0); /* also: 16 comes after every fault of the text */
+        expect(read_engines(0, 0), tried[i].refusal, tried[i].line, tried[i].byte); /* also: 16 comes after every fault of the text */
     }
     lend_engine_rows(41);
-    lent[TEXT].size = replace_field(lent_bytes(TEXT), lent[TEXT].size, 121, "0"); /* the 41st row's tag is judged before its power */
-    expect(read_engines(64, 64), 2, 0, 0);
+    spoil_field(121, "0"); /* the 41st row's first byte is judged before its power */
+    expect(read_engines(64, 64), 2, 41, 1);
     lend_engine_rows(41);
-    lent[TEXT].size = replace_field(lent_bytes(TEXT), lent[TEXT].size, 118, "0"); /* and the 40th row's power before that */
-    expect(read_engines(64, 64), 3, 0, 0);
+    spoil_field(118, "0"); /* and the 40th row's power before that */
+    expect(read_engines(64, 64), 3, 40, 5);
+    lend_engine_rows(40);
+    lent[TEXT].size = insert_bytes(lent_bytes(TEXT), lent[TEXT].size, lent[TEXT].size, "\n");
+    expect(read_engines(64, 64), 2, 41, 1);
 }
 
 /* ---- outputs ---- */
@@ -354,7 +337,7 @@ static void expect_written(wb_sheet sheet)
                 insist(memcmp(lent[OUT].words, lent[TEXT].words, size) == 0, "the text that was written is not the sheet's one text");
             insist_untouched(OUT, answer.first);
         }
-    expect_judged(sheet, 0);
+    expect_within(sheet);
 }
 
 static void try_outputs(void)
@@ -367,7 +350,7 @@ static void try_outputs(void)
     }
     lend_text_of(&longest);
     insist(lent[TEXT].size == WB_SHEET_TEXT, "WB_SHEET_TEXT is not the size of the longest text");
-    expect_judged(longest, 0);
+    expect_within(longest);
     expect_written(longest);
     expect_written(shortest);
     shortest.bare = 0;
@@ -384,7 +367,7 @@ static void try_far_lengths(void)
     wb_sheet sheet = base_hull();
     begin_part("lengths above 32 bits");
     lend_text_of(&sheet);
-    expect_read(0);
+    expect_read(0, 0, 0);
     expect_beyond((struct call){.kind = READ_SHEET}, TEXT, TEXT, 2, 0);
     lend_text("HULL\t16\n");
     expect_beyond((struct call){.kind = READ_SHEET}, TEXT, TEXT, 2, 0); /* and not 3 */
@@ -409,7 +392,7 @@ static void try_far_lengths(void)
 void try_text_edges(void)
 {
     try_limits();
-    try_faults();
+    try_first_lines();
     try_sizes();
     try_fit_lines();
     try_fit_counts();
