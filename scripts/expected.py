@@ -90,8 +90,8 @@ class Sheet:
     def __init__(self, data):
         text = Text(data)
         text.line(b"HULL\t", (0, 15))
-        lengths, sizes, marks = [(2000, 6000), (2000, NOT_ABOVE_THE_ONE_BEFORE)], [(500, 3000), (200, 900)], [(0, 1)] * 2
-        form = text.line(b"FORM\t", *lengths, *sizes, *marks)
+        lengths, transom = [(2000, 6000), (2000, NOT_ABOVE_THE_ONE_BEFORE)], [(500, 3000), (200, 900)]
+        form = text.line(b"FORM\t", *lengths, *transom, (0, 1), (0, 1))
         self.length, self.reference, self.width, self.height, self.flat, self.remote = form
         station = [(0, 4000)] + [(0, 2500)] * 6
         self.stations = [text.line(b"STN\t" + letter + b"\t", *station) for letter in (b"Q", b"R", b"S", b"T")]

@@ -4,7 +4,7 @@
     try_inputs.py [--seed N] [--inputs N] COMMAND...   COMMAND runs the program; N at random after the chosen
 
 It ends with 1 at an input of which the program prints something else, and where a line that the program can print was
-never printed. The seed settles all inputs and pieces.
+never printed, or a line of the input that can be at fault never was. The seed settles all inputs and pieces.
 """
 
 import argparse
@@ -18,9 +18,12 @@ import sys
 sys.dont_write_bytecode = True  # the folder of the scripts stays as it is
 import expected  # noqa: E402
 
-# Every line that the program can print, without the figures.
+# Every line that the program can print, without the figures; of inputs at fault those that are too long apart.
 PRINTED = ["PLATE A", "REFUSED A 12", "REFUSED A 13", "PLATE C"]
-PRINTED += ["REFUSED C 11", "REFUSED C 12", "REFUSED C 14", "REFUSED C 15", "INPUT 2", "INPUT 3"]
+PRINTED += ["REFUSED C 11", "REFUSED C 12", "REFUSED C 14", "REFUSED C 15", "INPUT 2", "INPUT 3", "INPUT 2 0 0"]
+
+# How many lines of the two parts of an input can be at fault, by the refusal: END has no number, and a 41st row is 2.
+AT_FAULT = {("sheet", 2): 35, ("sheet", 3): 34, ("engines", 2): 41, ("engines", 3): 40}
 
 # ---- an input as lines of fields; the first ten lines of a sheet stand always at the same places
 
@@ -142,9 +145,32 @@ def at_sizes():
         yield filled(sheet + b"ENG\t0\t1\n", len(sheet) + 4096 + more)
 
 
+def every_line():
+    """The fullest input with each line broken at its end, left out with all after it, not ended, or its number too high."""
+    weights = {line: 1 for line in range(1, 25)}
+    lines = sheet_lines(max) + fit_lines(weights) + engine_lines([(power, 0) for power in range(1, 41)])
+    for at, line in enumerate(lines):
+        yield text(lines[:at] + [line[:-1] + ["%sx" % line[-1]]] + lines[at + 1 :])
+        yield text(lines[:at])
+        yield text(lines[: at + 1])[:-1]
+        numbers = [field for field, value in enumerate(line) if isinstance(value, int)]
+        for field in numbers[:1]:
+            yield text(lines[:at] + [line[:field] + [9999999999] + line[field + 1 :]] + lines[at + 1 :])
+    yield text(lines + [["ENG", 41, 0]])
+
+
+def ill_typed():
+    """What an editor or a hurried hand may do to the sample."""
+    whole = text(sample())
+    yield from (b"\xef\xbb\xbf" + whole, b" " + whole, b"\n" + whole, whole + b"\n", whole + b"\x1a", whole[:-1])
+    yield from (whole.replace(b"\n", b"\r\n"), whole.replace(b"\n", b"\r"), whole.replace(b"\t", b" "), whole.lower())
+    yield from (whole.replace(b"\n", b" \n"), whole.replace(b"\n", b"\t\n"), whole.replace(b"END\n", b""))
+    yield from (with_fields(SEAT, 2, tested) for tested in ("-1", "0", "", "--", "- ", "3.", "12345678901"))
+
+
 def chosen():
     yield text(sample())
-    for inputs in (beside_limits, odd_numbers, at_limits, at_powers, at_live_loads, at_sizes):
+    for inputs in (beside_limits, odd_numbers, at_limits, at_powers, at_live_loads, at_sizes, every_line, ill_typed):
         yield from inputs()
 
 
@@ -216,7 +242,8 @@ def random_lines(rng):
 
 # ---- damage
 
-ODD_FIELDS = ["", "0", "00", "01", "-", "--", "+1", " 1", "1 ", "25", "6001", "9999999999", "10000000000", "x", "1\r"]
+ODD_FIELDS = ["", "0", "00", "01", "-", "--", "-1", "+1", " 1", "1 ", "25", "6001", "x", "1\r"]
+ODD_FIELDS += ["9999999999", "10000000000"]
 ODD_BYTES = [b"\t", b"\n", b"\r\n", b"0", b"9", b"-", b" ", b"/", b":", b"\0", b"\x7f", b"\xff", b"END\n", b"\nEND\n"]
 
 
@@ -313,7 +340,27 @@ def kinds(printed):
     """The lines that were printed, without the figures."""
     for line in printed.splitlines():
         fields = line.split("\t")
-        yield " ".join(fields[:2] if fields[0] == "PLATE" else fields)
+        placed = fields[0] == "INPUT" and fields[2:] != ["0", "0"]
+        yield " ".join(fields[:2] if placed or fields[0] == "PLATE" else fields)
+
+
+def part_at_fault(data):
+    try:
+        expected.Sheet(expected.split(data)[0])
+    except expected.Refused:
+        return "sheet"
+    return "engines"
+
+
+def lines_at_fault(inputs):
+    """How many lines of the inputs were at fault, by the part that they are of and by the refusal."""
+    met = {fault: set() for fault in AT_FAULT}
+    for data in inputs:
+        word, *figures = expected.printed(data).splitlines()[0].split("\t")
+        if word == "INPUT" and figures[1:] != ["0", "0"]:
+            number, line = map(int, figures[:2])
+            met[part_at_fault(data), number].add(line)
+    return {fault: len(lines) for fault, lines in met.items()}
 
 
 def main():
@@ -334,6 +381,12 @@ def main():
     print("test-program: printed " + ", ".join("%s: %d" % (kind, seen[kind]) for kind in PRINTED))
     if set(seen) != set(PRINTED):
         print("test-program: not the lines that there are: %s" % ", ".join(set(seen) ^ set(PRINTED)), file=sys.stderr)
+        return 1
+    at_fault = lines_at_fault(inputs)
+    told = ("%s with %d: %d of %d" % (*fault, at_fault[fault], most) for fault, most in AT_FAULT.items())
+    print("test-program: lines at fault, " + ", ".join(told))
+    if at_fault != AT_FAULT:
+        print("test-program: a line that can be at fault never was", file=sys.stderr)
         return 1
     print("test-program: the plate program printed what it should of %d inputs" % len(inputs))
     return 0

@@ -124,8 +124,8 @@ static void try_fields(void)
 /* ---- faults whose place hangs on the bytes around them ---- */
 
 /*
- * What a place is: with nothing or anything after the byte at fault, or after the byte that ends a number outside its limits, a text is refused alike;
- * with nothing from that byte on it is whole, or it only stops early. This asks the library alone.
+ * What a place is. With nothing or anything after the byte at fault, or after the byte that ends a number outside its limits, a text is refused alike;
+ * without that byte too it is whole, or it only stops early. This holds the library to itself.
  */
 static void expect_settled(wb_answer answer)
 {

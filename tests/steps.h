@@ -32,7 +32,7 @@ wb_answer read_sheet(void);
 /* Reads it as engine rows, into slices of so many words. */
 wb_answer read_engines(size_t powers, size_t weights);
 
-/* The text that is lent has been refused so, or is accepted, and its fault is so many bytes after the start of a field; tags count as fields too. */
+/* The text that is lent was to be refused so, with a place so many bytes after the start of a field; tags count as fields too. */
 void expect_at_field(wb_answer answer, uint32_t refusal, size_t field, uint32_t bytes);
 
 /* Lends engine rows as the plate calls take them. */

@@ -91,17 +91,18 @@ struct figures {
 static void try_first_lines(void)
 {
     static const struct figures tried[] = {
-        {"", 2, 1, 1}, {"\n", 2, 1, 1}, {"\t", 2, 1, 1}, {"x", 2, 1, 1}, {"hull\t1\n", 2, 1, 1}, {"\xEF\xBB\xBFHULL\t1\n", 2, 1, 1}, {" HULL\t1\n", 2, 1, 1},
-        {"END\n", 2, 1, 1}, {"ENG\t1\t1\n", 2, 1, 1}, {"H", 2, 1, 2}, {"HUL", 2, 1, 4}, {"HULL", 2, 1, 5}, {"HULL 1\n", 2, 1, 5}, {"HULL\n", 2, 1, 5},
-        {"HULL\t", 2, 1, 6}, {"HULL\t\n", 2, 1, 6}, {"HULL\t\t1\n", 2, 1, 6}, {"HULL\t-\n", 2, 1, 6}, {"HULL\t+1\n", 2, 1, 6}, {"HULL\tx", 2, 1, 6},
-        {"HULL\t01", 2, 1, 7}, {"HULL\t01\n", 2, 1, 7}, {"HULL\t00\n", 2, 1, 7}, {"HULL\t016\n", 2, 1, 7}, {"HULL\t0", 2, 1, 7},
-        {"HULL\t12345678901", 2, 1, 16}, {"HULL\t12345678901\n", 2, 1, 16}, {"HULL\t123456789012\n", 2, 1, 16}, {"HULL\t1234567890", 2, 1, 16},
-        {"HULL\t1234567890\n", 3, 1, 6}, {"HULL\t1234567890\t", 2, 1, 16}, {"HULL\t16\n", 3, 1, 6}, {"HULL\t16", 2, 1, 8}, {"HULL\t16 \n", 2, 1, 8},
-        {"HULL\t16\t\n", 2, 1, 8}, {"HULL\t16\nx", 3, 1, 6}, {"HULL\t1", 2, 1, 7}, {"HULL\t1\n", 2, 2, 1}, {"HULL\t1\n\n", 2, 2, 1},
-        {"HULL\t1\r\n", 2, 1, 7}, {"HULL\t1\r", 2, 1, 7}, {"HULL\t1\rFORM", 2, 1, 7}, {"HULL\t1\nHULL\t1\n", 2, 2, 1}, {"HULL\t1\nFOR", 2, 2, 4},
-        {"HULL\t1\nFORM\t4500\t4501\t", 3, 2, 11}, {"HULL\t1\nFORM\t4500\t4501\n", 2, 2, 15}, {"HULL\t1\nFORM\t4500\t4501", 2, 2, 15},
-        {"HULL\t1\nFORM\t4500\t4501\tx", 3, 2, 11}, {"HULL\t1\nFORM\t4500\t1999\t", 3, 2, 11}, {"HULL\t1\nFORM\t6001\t", 3, 2, 6},
-        {"HULL\t1\nFORM\t6001\n", 2, 2, 10}, {"HULL\t1\nFORM\t4500\t04501\t", 2, 2, 12}, {"HULL\t1\nFORM\t4500\t4000.5\t", 2, 2, 15},
+        {"", 2, 1, 1}, {"\n", 2, 1, 1}, {"\t", 2, 1, 1}, {"x", 2, 1, 1}, {"hull\t1\n", 2, 1, 1}, {"\xEF\xBB\xBFHULL\t1\n", 2, 1, 1},
+        {" HULL\t1\n", 2, 1, 1}, {"END\n", 2, 1, 1}, {"ENG\t1\t1\n", 2, 1, 1}, {"H", 2, 1, 2}, {"HUL", 2, 1, 4}, {"HULL", 2, 1, 5},
+        {"HULL 1\n", 2, 1, 5}, {"HULL\n", 2, 1, 5}, {"HULL\t", 2, 1, 6}, {"HULL\t\n", 2, 1, 6}, {"HULL\t\t1\n", 2, 1, 6}, {"HULL\t-\n", 2, 1, 6},
+        {"HULL\t+1\n", 2, 1, 6}, {"HULL\tx", 2, 1, 6}, {"HULL\t01", 2, 1, 7}, {"HULL\t01\n", 2, 1, 7}, {"HULL\t00\n", 2, 1, 7},
+        {"HULL\t016\n", 2, 1, 7}, {"HULL\t0", 2, 1, 7}, {"HULL\t12345678901", 2, 1, 16}, {"HULL\t12345678901\n", 2, 1, 16},
+        {"HULL\t123456789012\n", 2, 1, 16}, {"HULL\t1234567890", 2, 1, 16}, {"HULL\t1234567890\n", 3, 1, 6}, {"HULL\t1234567890\t", 2, 1, 16},
+        {"HULL\t16\n", 3, 1, 6}, {"HULL\t16", 2, 1, 8}, {"HULL\t16 \n", 2, 1, 8}, {"HULL\t16\t\n", 2, 1, 8}, {"HULL\t16\nx", 3, 1, 6},
+        {"HULL\t1", 2, 1, 7}, {"HULL\t1\n", 2, 2, 1}, {"HULL\t1\n\n", 2, 2, 1}, {"HULL\t1\r\n", 2, 1, 7}, {"HULL\t1\r", 2, 1, 7},
+        {"HULL\t1\rFORM", 2, 1, 7}, {"HULL\t1\nHULL\t1\n", 2, 2, 1}, {"HULL\t1\nFOR", 2, 2, 4}, {"HULL\t1\nFORM\t4500\t4501\t", 3, 2, 11},
+        {"HULL\t1\nFORM\t4500\t4501\n", 2, 2, 15}, {"HULL\t1\nFORM\t4500\t4501", 2, 2, 15}, {"HULL\t1\nFORM\t4500\t4501\tx", 3, 2, 11},
+        {"HULL\t1\nFORM\t4500\t1999\t", 3, 2, 11}, {"HULL\t1\nFORM\t6001\t", 3, 2, 6}, {"HULL\t1\nFORM\t6001\n", 2, 2, 10},
+        {"HULL\t1\nFORM\t4500\t04501\t", 2, 2, 12}, {"HULL\t1\nFORM\t4500\t4000.5\t", 2, 2, 15},
     };
     begin_part("the first lines");
     for (size_t i = 0; i < sizeof tried / sizeof *tried; i++) {
@@ -148,53 +149,54 @@ static void lend_text_with(const wb_sheet *sheet, const char *lines)
     lent[TEXT].size = insert_bytes(lent_bytes(TEXT), lent[TEXT].size, lent[TEXT].size, lines);
 }
 
+static void expect_with(const wb_sheet *sheet, const struct figures *tried, size_t count)
+{
+    for (size_t i = 0; i < count; i++) {
+        lend_text_with(sheet, tried[i].text);
+        expect_read(tried[i].refusal, tried[i].line, tried[i].byte);
+    }
+}
+
 /* Ten lines come before these. */
 static void try_fit_lines(void)
 {
     static const struct figures tried[] = {
-        {"END\n", 0, 0, 0}, {"", 2, 11, 1}, {"END", 2, 11, 4}, {"END\t\n", 2, 11, 4}, {"END \n", 2, 11, 4}, {"END\r\n", 2, 11, 4}, {"END\n\n", 2, 12, 1},
-        {"END\nEND\n", 2, 12, 1}, {"END\n\x1A", 2, 12, 1}, {"end\n", 2, 11, 1}, {"\nEND\n", 2, 11, 1}, {"SEAT\t5\t-\n", 2, 11, 1}, {"-\n", 2, 11, 1},
-        {"E", 2, 11, 2}, {"EN", 2, 11, 3}, {"ENG\t1\t1\n", 2, 11, 3}, {"F", 2, 11, 2}, {"FIN\n", 2, 11, 3}, {"FIT", 2, 11, 4}, {"FIT\n", 2, 11, 4},
-        {"FIT\t", 2, 11, 5}, {"FIT\t1", 2, 11, 6}, {"FIT\t1\t", 2, 11, 7}, {"FIT\t1\t1", 2, 11, 8}, {"FIT\t1\t1\n", 2, 12, 1},
-        {"FIT\t1\t1\nEND\n", 0, 0, 0}, {"FIT\t24\t500000\nEND\n", 0, 0, 0}, {"FIT\t0\t1\nEND\n", 3, 11, 5}, {"FIT\t25\t1\nEND\n", 3, 11, 5},
-        {"FIT\t1\t0\nEND\n", 3, 11, 7}, {"FIT\t1\t500001\nEND\n", 3, 11, 7}, {"FIT\t2\t1\nFIT\t2\t1\nEND\n", 3, 12, 5},
-        {"FIT\t2\t1\nFIT\t1\t1\nEND\n", 3, 12, 5}, {"FIT\t2\t1\nFIT\t3\t1\nEND\n", 0, 0, 0}, {"FIT\t2\t1\nFIT\t2\tx\nEND\n", 3, 12, 5},
-        {"FIT\t0\tx\nEND\n", 3, 11, 5}, {"FIT\t0\t0\nEND\n", 3, 11, 5}, {"FIT\t2\t1\nFIT\t2x\t1\nEND\n", 2, 12, 6}, {"FIT\t1\t-\nEND\n", 2, 11, 7},
-        {"FIT\t-\t1\nEND\n", 2, 11, 5}, {"FIT\t01\t1\nEND\n", 2, 11, 6}, {"FIT\t1\t1\t\nEND\n", 2, 11, 8}, {"FIT\t\t1\t1\nEND\n", 2, 11, 5},
-        {"FIT\t25\t01\nEND\n", 3, 11, 5}, {"FIT\t9999999999\t1\nEND\n", 3, 11, 5}, {"FIT\t10000000000\t1\nEND\n", 2, 11, 15},
-        {"FIT\t1\t4294967297\nEND\n", 3, 11, 7}, {"FIT\t1\n1\nEND\n", 2, 11, 6},
+        {"END\n", 0, 0, 0}, {"", 2, 11, 1}, {"END", 2, 11, 4}, {"END\t\n", 2, 11, 4}, {"END \n", 2, 11, 4}, {"END\r\n", 2, 11, 4},
+        {"END\n\n", 2, 12, 1}, {"END\nEND\n", 2, 12, 1}, {"END\n\x1A", 2, 12, 1}, {"end\n", 2, 11, 1}, {"\nEND\n", 2, 11, 1},
+        {"SEAT\t5\t-\n", 2, 11, 1}, {"-\n", 2, 11, 1}, {"E", 2, 11, 2}, {"EN", 2, 11, 3}, {"ENG\t1\t1\n", 2, 11, 3}, {"F", 2, 11, 2},
+        {"FIN\n", 2, 11, 3}, {"FIT", 2, 11, 4}, {"FIT\n", 2, 11, 4}, {"FIT\t", 2, 11, 5}, {"FIT\t1", 2, 11, 6}, {"FIT\t1\t", 2, 11, 7},
+        {"FIT\t1\t1", 2, 11, 8}, {"FIT\t1\t1\n", 2, 12, 1}, {"FIT\t1\t1\nEND\n", 0, 0, 0}, {"FIT\t24\t500000\nEND\n", 0, 0, 0},
+        {"FIT\t0\t1\nEND\n", 3, 11, 5}, {"FIT\t25\t1\nEND\n", 3, 11, 5}, {"FIT\t1\t0\nEND\n", 3, 11, 7}, {"FIT\t1\t500001\nEND\n", 3, 11, 7},
+        {"FIT\t2\t1\nFIT\t2\t1\nEND\n", 3, 12, 5}, {"FIT\t2\t1\nFIT\t1\t1\nEND\n", 3, 12, 5}, {"FIT\t2\t1\nFIT\t3\t1\nEND\n", 0, 0, 0},
+        {"FIT\t2\t1\nFIT\t2\tx\nEND\n", 3, 12, 5}, {"FIT\t0\tx\nEND\n", 3, 11, 5}, {"FIT\t0\t0\nEND\n", 3, 11, 5},
+        {"FIT\t2\t1\nFIT\t2x\t1\nEND\n", 2, 12, 6}, {"FIT\t1\t-\nEND\n", 2, 11, 7}, {"FIT\t-\t1\nEND\n", 2, 11, 5}, {"FIT\t01\t1\nEND\n", 2, 11, 6},
+        {"FIT\t1\t1\t\nEND\n", 2, 11, 8}, {"FIT\t\t1\t1\nEND\n", 2, 11, 5}, {"FIT\t25\t01\nEND\n", 3, 11, 5},
+        {"FIT\t9999999999\t1\nEND\n", 3, 11, 5}, {"FIT\t10000000000\t1\nEND\n", 2, 11, 15}, {"FIT\t1\t4294967297\nEND\n", 3, 11, 7},
+        {"FIT\t1\n1\nEND\n", 2, 11, 6},
     };
     wb_sheet sheet = base_hull();
     begin_part("FIT lines and END");
-    for (size_t i = 0; i < sizeof tried / sizeof *tried; i++) {
-        lend_text_with(&sheet, tried[i].text);
-        expect_read(tried[i].refusal, tried[i].line, tried[i].byte);
-    }
+    expect_with(&sheet, tried, sizeof tried / sizeof *tried);
 }
 
 /* All 24 FIT lines, or one less, and then other lines: the 24th is line 34. */
 static void try_fit_counts(void)
 {
     static const struct figures tried[] = {
-        {"END\n", 0, 0, 0}, {"", 2, 35, 1}, {"FIT\t25\t1\nEND\n", 2, 35, 1}, {"FIT\t24\t1\nEND\n", 2, 35, 1}, {"FIT\t1\tx\nEND\n", 2, 35, 1}, {"FIT\t", 2, 35, 1},
-        {"F", 2, 35, 1}, {"X", 2, 35, 1}, {"\n", 2, 35, 1}, {"E", 2, 35, 2}, {"EIT\t", 2, 35, 2}, {"END", 2, 35, 4}, {"END\nF", 2, 36, 1}, {"END\nEND\n", 2, 36, 1},
+        {"END\n", 0, 0, 0}, {"", 2, 35, 1}, {"FIT\t25\t1\nEND\n", 2, 35, 1}, {"FIT\t24\t1\nEND\n", 2, 35, 1}, {"FIT\t1\tx\nEND\n", 2, 35, 1},
+        {"FIT\t", 2, 35, 1}, {"F", 2, 35, 1}, {"X", 2, 35, 1}, {"\n", 2, 35, 1}, {"E", 2, 35, 2}, {"EIT\t", 2, 35, 2}, {"END", 2, 35, 4},
+        {"END\nF", 2, 36, 1}, {"END\nEND\n", 2, 36, 1},
     };
     static const struct figures with_one_less[] = {
-        {"END\n", 0, 0, 0}, {"", 2, 34, 1}, {"F", 2, 34, 2}, {"FIT\t", 2, 34, 5}, {"X", 2, 34, 1}, {"FIT\t23\t1\n", 3, 34, 5}, {"FIT\t24\t0\n", 3, 34, 8},
-        {"FIT\t24\t1\nFIT\t25\t1\n", 2, 35, 1}, {"END\n\n", 2, 35, 1},
+        {"END\n", 0, 0, 0}, {"", 2, 34, 1}, {"F", 2, 34, 2}, {"FIT\t", 2, 34, 5}, {"X", 2, 34, 1}, {"FIT\t23\t1\n", 3, 34, 5},
+        {"FIT\t24\t0\n", 3, 34, 8}, {"FIT\t24\t1\nFIT\t25\t1\n", 2, 35, 1}, {"END\n\n", 2, 35, 1},
     };
     wb_sheet sheet = base_hull();
     for (int i = 0; i < WB_FITTINGS; i++)
         sheet.fitting[i] = 1;
-    for (size_t i = 0; i < sizeof tried / sizeof *tried; i++) {
-        lend_text_with(&sheet, tried[i].text);
-        expect_read(tried[i].refusal, tried[i].line, tried[i].byte);
-    }
+    expect_with(&sheet, tried, sizeof tried / sizeof *tried);
     sheet.fitting[WB_FITTINGS - 1] = 0;
-    for (size_t i = 0; i < sizeof with_one_less / sizeof *with_one_less; i++) {
-        lend_text_with(&sheet, with_one_less[i].text);
-        expect_read(with_one_less[i].refusal, with_one_less[i].line, with_one_less[i].byte);
-    }
+    expect_with(&sheet, with_one_less, sizeof with_one_less / sizeof *with_one_less);
 }
 
 static void spoil_field(size_t field, const char *by)
@@ -248,9 +250,9 @@ static void try_next_fault(void)
 static void try_tested(void)
 {
     static const struct figures tried[] = {
-        {"-", 0, 0, 0}, {"0", 3, 10, 8}, {"1", 0, 0, 0}, {"24", 0, 0, 0}, {"25", 3, 10, 8}, {"--", 2, 10, 9}, {"-1", 2, 10, 9}, {"", 2, 10, 8}, {"-\t", 2, 10, 9},
-        {"01", 2, 10, 9}, {"0-", 2, 10, 9}, {"1-", 2, 10, 9}, {"-\r", 2, 10, 9}, {" -", 2, 10, 8}, {"25 ", 2, 10, 10}, {"12345678901", 2, 10, 18},
-        {"1234567890", 3, 10, 8},
+        {"-", 0, 0, 0}, {"0", 3, 10, 8}, {"1", 0, 0, 0}, {"24", 0, 0, 0}, {"25", 3, 10, 8}, {"--", 2, 10, 9}, {"-1", 2, 10, 9}, {"", 2, 10, 8},
+        {"-\t", 2, 10, 9}, {"01", 2, 10, 9}, {"0-", 2, 10, 9}, {"1-", 2, 10, 9}, {"-\r", 2, 10, 9}, {" -", 2, 10, 8}, {"25 ", 2, 10, 10},
+        {"12345678901", 2, 10, 18}, {"1234567890", 3, 10, 8},
     };
     wb_sheet sheet = base_hull();
     for (size_t i = 0; i < sizeof tried / sizeof *tried; i++) {
@@ -296,13 +298,14 @@ static void try_engine_counts(void)
 static void try_engine_lines(void)
 {
     static const struct figures tried[] = {
-        {"ENG\t1\t0\n", 16, 0, 0}, {"ENG\t0\t1\n", 3, 1, 5}, {"ENG\t200001\t0\n", 3, 1, 5}, {"ENG\t1\t1000001\n", 3, 1, 7}, {"ENG\t1\t1000001", 2, 1, 14},
-        {"ENG\t2\t1\nENG\t2\t1\n", 3, 2, 5}, {"ENG\t2\t1\nENG\t1\t1\n", 3, 2, 5}, {"ENG\t2\t1\nENG\t02\t1\n", 2, 2, 6}, {"ENG\t2\t1\nENG\t2\tx\n", 3, 2, 5},
-        {"ENG\t2\t1\nENG\t2", 2, 2, 6}, {"ENG\t0\tx\n", 3, 1, 5}, {"ENG\t200001\tx\n", 3, 1, 5}, {"ENG\t2\t1\n\n", 2, 2, 1}, {"ENG\t2\t1\n\x1A", 2, 2, 1},
-        {"ENG\t2\t1", 2, 1, 8}, {"ENG\t2\t1\r\n", 2, 1, 8}, {"ENG\t2\t1 \n", 2, 1, 8}, {"ENG\t2\t1\nEND\n", 2, 2, 3}, {"ENG\t2\t1\nE", 2, 2, 2},
-        {"ENG\t1\t-\n", 2, 1, 7}, {"ENG\t-\t1\n", 2, 1, 5}, {"ENG\t9999999999\t1\n", 3, 1, 5}, {"ENG\t10000000000\t1\n", 2, 1, 15},
-        {"ENG\t1\t10000000000\n", 2, 1, 17}, {"ENG\t1\t1\t1\n", 2, 1, 8}, {"ENG\t1\n", 2, 1, 6}, {"eng\t1\t1\n", 2, 1, 1}, {"END\n", 2, 1, 3}, {"\n", 2, 1, 1},
-        {"HULL\t1\n", 2, 1, 1}, {"\xEF\xBB\xBF" "ENG\t1\t1\n", 2, 1, 1}, {"ENG 1\t1\n", 2, 1, 4},
+        {"ENG\t1\t0\n", 16, 0, 0}, {"ENG\t0\t1\n", 3, 1, 5}, {"ENG\t200001\t0\n", 3, 1, 5}, {"ENG\t1\t1000001\n", 3, 1, 7},
+        {"ENG\t1\t1000001", 2, 1, 14}, {"ENG\t2\t1\nENG\t2\t1\n", 3, 2, 5}, {"ENG\t2\t1\nENG\t1\t1\n", 3, 2, 5},
+        {"ENG\t2\t1\nENG\t02\t1\n", 2, 2, 6}, {"ENG\t2\t1\nENG\t2\tx\n", 3, 2, 5}, {"ENG\t2\t1\nENG\t2", 2, 2, 6}, {"ENG\t0\tx\n", 3, 1, 5},
+        {"ENG\t200001\tx\n", 3, 1, 5}, {"ENG\t2\t1\n\n", 2, 2, 1}, {"ENG\t2\t1\n\x1A", 2, 2, 1}, {"ENG\t2\t1", 2, 1, 8}, {"ENG\t2\t1\r\n", 2, 1, 8},
+        {"ENG\t2\t1 \n", 2, 1, 8}, {"ENG\t2\t1\nEND\n", 2, 2, 3}, {"ENG\t2\t1\nE", 2, 2, 2}, {"ENG\t1\t-\n", 2, 1, 7}, {"ENG\t-\t1\n", 2, 1, 5},
+        {"ENG\t9999999999\t1\n", 3, 1, 5}, {"ENG\t10000000000\t1\n", 2, 1, 15}, {"ENG\t1\t10000000000\n", 2, 1, 17}, {"ENG\t1\t1\t1\n", 2, 1, 8},
+        {"ENG\t1\n", 2, 1, 6}, {"eng\t1\t1\n", 2, 1, 1}, {"END\n", 2, 1, 3}, {"\n", 2, 1, 1}, {"HULL\t1\n", 2, 1, 1},
+        {"\xEF\xBB\xBF" "ENG\t1\t1\n", 2, 1, 1}, {"ENG 1\t1\n", 2, 1, 4},
     };
     for (size_t i = 0; i < sizeof tried / sizeof *tried; i++) {
         lend_text(tried[i].text);
