@@ -45,7 +45,7 @@ static const uint32_t powers[ROWS] = {1500, 2900, 5100, 8100, 17100, 26000, 4840
 static const uint32_t weights[ROWS] = {15000, 20000, 43000, 84000, 106000, 159000, 208000, 285000, 294000, 328000, 346000, 391000, 415000};
 static uint32_t falling[ROWS];
 
-static uint8_t text[WB_SHEET_TEXT], long_text[WB_SHEET_TEXT], broken[WB_SHEET_TEXT], beyond[WB_SHEET_TEXT];
+static uint8_t text[WB_SHEET_TEXT], long_text[WB_SHEET_TEXT], broken[WB_SHEET_TEXT], long_broken[WB_SHEET_TEXT], beyond[WB_SHEET_TEXT];
 static size_t text_len, long_len;
 static uint8_t engines[WB_SHEET_TEXT], bad_engines[WB_SHEET_TEXT];
 static size_t engines_len;
@@ -102,7 +102,9 @@ static size_t engines_len;
     X(write_16, 16, "", write_hull, NONE, lent.full, LEN, 11, lent.out, text_len - 1) \
     X(read, 0, "300 bytes", read_sheet, NONE, text, text_len, &lent.read) \
     X(read_long, 0, "610 bytes", read_sheet, NONE, long_text, long_len, &lent.read) \
+    X(read_2_first, 2, "first byte", read_sheet, NONE, text + 1, text_len - 1, &lent.read) \
     X(read_2, 2, "END broken", read_sheet, NONE, broken, text_len, &lent.read) \
+    X(read_2_long, 2, "END of 610 bytes", read_sheet, NONE, long_broken, long_len, &lent.read) \
     X(read_3, 3, "last weight", read_sheet, NONE, beyond, text_len, &lent.read) \
     X(wsheet, 0, "300 bytes", write_sheet, NONE, &lent.sheet, OUT) \
     X(wsheet_long, 0, "610 bytes", write_sheet, NONE, &lent.longest, OUT) \
@@ -232,6 +234,8 @@ static void prepare_texts(void)
         die("the texts have other lengths than", "300 and 610 bytes");
     memcpy(broken, text, text_len);
     broken[text_len - 2] = 'd';
+    memcpy(long_broken, long_text, long_len);
+    long_broken[long_len - 2] = 'd';
     memcpy(beyond, text, text_len);
     beyond[text_len - strlen("125000\nEND\n")] = '9';
     for (int i = 0; i < ROWS; i++)
