@@ -52,3 +52,9 @@ program() { # NAME [COMMAND...]
     [ -x "$emulator" ] || emulator=
     "$@" ${emulator:+"$emulator"} "$tools/lib/ld-linux-x86-64.so.2" --library-path "$tools/lib" "$binary"
 }
+
+# Says in words what is wrong in the text on standard input, at the place that a refusal gives.
+explain() { # sheet|engines NUMBER LINE BYTE
+    LC_ALL=C od -An -v -tu1 |
+        LC_ALL=C awk -v text="$1" -v number="$2" -v line="$3" -v byte="$4" -f scripts/explain.awk
+}
