@@ -12,7 +12,8 @@
  *     cc -std=c99 office.c $(pkg-config --cflags --libs willowblink) -o office
  *
  * It says in plain words what was answered, a refusal with its number, and ends with 0 when the call was accepted, 1 when it was refused, and 2 on
- * bad usage or trouble with a file. Answers and refusals go to standard output, trouble to standard error.
+ * bad usage or trouble with a file. Answers and refusals go to standard output, trouble to standard error. Where a text
+ * is refused, standard error says besides which line and byte are wrong, what was expected there and what there is.
  *
  * The file is the register's 1673 words, the lowest byte of each first, and nothing else. Beside it stand FILE.lock, which is empty and stays, and
  * for the length of a change FILE.new. The lock has the register's rights; where those were changed, it follows when its owner next makes a change.
@@ -47,6 +48,7 @@ struct work {
     uint32_t number[3];
     int held;         /* whether the desk that opens a hull holds a draft */
     const char *path; /* of the text; NULL without one */
+    int engines;      /* whether the text is one of engine rows */
     uint8_t text[TEXT_ROOM];
     size_t text_len;
     uint32_t powers[WB_ENGINE_ROWS];
@@ -89,14 +91,170 @@ static const char *const refusals[] = {
     [WB_EMPTY_LINE] = "there is no fitting on that line",
 };
 
-/* Of a text that is at fault its file is named. */
-static int refuse(const struct work *w, uint32_t refusal)
+/* ---- what is wrong in a text, in words ---- */
+
+#define READING(letter) "reading " letter, "0 to 2500 mm"
+#define READINGS                                                                                                      \
+    "reading B", "0 to 4000 mm", READING("q"), READING("r"), READING("s"), READING("t"), READING("u"), READING("v")
+
+/* Where lines stand in the table: the lines 1 to 10 of every sheet, then these. */
+enum { FIT = 10, END, ENG };
+
+/*
+ * Each line's tag, with a space for a tab inside it, then for each of its numbers a name and the limits. The table and
+ * the words below are in scripts/explain.awk a second time; scripts/test-words holds the two to each other.
+ */
+static const char *const lines[][16] = {
+    {"HULL", "hull number", "0 to 15"},
+    {"FORM", "length", "2000 to 6000 mm", "reference length", "2000 to 6000 mm and not above the length",
+     "transom width", "500 to 3000 mm", "transom height", "200 to 900 mm", "mark of a flat hard-chine bottom",
+     "0 for no or 1 for yes", "mark of remote steering", "0 for no or 1 for yes"},
+    {"STN Q", READINGS},
+    {"STN R", READINGS},
+    {"STN S", READINGS},
+    {"STN T", READINGS},
+    {"VOL", "volume of the aft structure", "0 to 5000000 cubic cm", "volume of the motor well", "0 to 5000000 cubic cm",
+     "volume of the flooding chambers", "0 to 5000000 cubic cm"},
+    {"MASS", "weight of the bare boat", "1 to 2000000 g", "weight of the permanent tanks with fuel", "0 to 500000 g",
+     "weight of the installed machinery", "0 to 500000 g"},
+    {"PWR", "mark of the drive", "1 for outboard or 0 for inboard", "declared power", "0 to 200000 W"},
+    {"SEAT", "number of designated positions", "1 to 24", "number of tested persons", "1 to 24, or - for none"},
+    [FIT] = {"FIT", "line number", "1 to 24 and above that of the FIT line before", "weight", "1 to 500000 g"},
+    [END] = {"END"},
+    [ENG] = {"ENG", "power", "1 to 200000 W and above that of the ENG line before", "weight", "0 to 1000000 g"},
+};
+
+/* Bytes that a screen does not show. */
+static const char *const unseen[] = {
+    ['\t'] = "a tab",
+    ['\n'] = "the line's end",
+    ['\r'] = "a carriage return: save the text with line feeds alone, as Unix has them",
+    [' '] = "a space: fields are parted by one tab, and spaces stand nowhere",
+};
+
+/* The place of a fault: where its text and its line start, the byte itself, and where the text ends. */
+struct place {
+    const uint8_t *text, *start, *byte, *end;
+};
+
+static int digit_at(const struct place *p, const uint8_t *at)
+{
+    return at < p->end && *at >= '0' && *at <= '9';
+}
+
+/* What may stand where a line begins. */
+static void say_line_expected(const struct place *p, int engines, uint32_t line)
+{
+    if (engines && line > WB_ENGINE_ROWS)
+        fprintf(stderr, "the end of the text is expected here (there are at most %d ENG lines)", WB_ENGINE_ROWS);
+    else if (engines)
+        fprintf(stderr, "an ENG line%s is expected here", line == 1 ? "" : " or the end of the text");
+    else if (line <= FIT)
+        fprintf(stderr, "the %s line is expected here", lines[line - 1][0]);
+    else if (p->start[-4] == 'E') /* of END, in the line before */
+        fprintf(stderr, "the end of the text is expected here (nothing follows END)");
+    else if (line > FIT + WB_FITTINGS)
+        fprintf(stderr, "END is expected here (a sheet has at most %d FIT lines)", WB_FITTINGS);
+    else
+        fprintf(stderr, "a FIT line or END is expected here");
+}
+
+/* What may stand in a number or after it: in the table its name, its limits and the next one's name. */
+static void say_number_expected(const struct place *p, uint32_t refusal, const char *const *number,
+                                const uint8_t *first)
+{
+    if (refusal == WB_OUTSIDE_LIMITS)
+        fprintf(stderr, "the %s must be %s", number[0], number[1]);
+    else if (first == p->byte)
+        fprintf(stderr, "the %s (%s) is expected here", number[0], number[1]);
+    else if (number[2] != NULL)
+        fprintf(stderr, "a tab and then the %s is expected here", number[2]);
+    else
+        fprintf(stderr, "the line's end is expected here");
+    if (first == p->byte || !digit_at(p, p->byte))
+        return;
+    if (*first == '-')
+        fprintf(stderr, " (- stands alone)");
+    else
+        fprintf(stderr, " (a number has %s)", *first == '0' ? "no leading 0" : "at most 10 digits");
+}
+
+/* What may stand further on in a line, after bytes that are right: the rest of its tag, or what a number wants. */
+static void say_expected(const struct place *p, uint32_t refusal, const char *const *line)
+{
+    const char *tag = line[0];
+    const char *const *number = line + 1;
+    size_t before = (size_t)(p->byte - p->start);
+    const uint8_t *first = p->start + strlen(tag) + 1;
+    if (before < strlen(tag) && tag[before] != ' ')
+        fprintf(stderr, "the %s line is expected, so %c here", tag, tag[before]);
+    else if (before < strlen(tag) || (before == strlen(tag) && *number != NULL))
+        fprintf(stderr, "a tab is expected here");
+    else if (*number == NULL)
+        fprintf(stderr, "the line's end is expected here");
+    else {
+        for (const uint8_t *at = first; at < p->byte; at++)
+            if (*at == '\t')
+                first = at + 1, number += 2;
+        say_number_expected(p, refusal, number, first);
+    }
+}
+
+/* What does stand there. */
+static void say_found(const struct place *p, uint32_t refusal)
+{
+    int digits = 0;
+    while (refusal == WB_OUTSIDE_LIMITS && digit_at(p, p->byte + digits))
+        digits++;
+    if (p->byte == p->end)
+        fprintf(stderr, "the text ends\n");
+    else if (digits > 0)
+        fprintf(stderr, "there is %.*s\n", digits, (const char *)p->byte);
+    else if (p->byte == p->text && p->end - p->text >= 3 && memcmp(p->text, "\xEF\xBB\xBF", 3) == 0)
+        fprintf(stderr, "there is a byte order mark: save the text without it\n");
+    else if (*p->byte <= ' ' && unseen[*p->byte] != NULL)
+        fprintf(stderr, "there is %s\n", unseen[*p->byte]);
+    else if (*p->byte > ' ' && *p->byte <= '~')
+        fprintf(stderr, "there is %c\n", *p->byte);
+    else
+        fprintf(stderr, "there is the byte %d\n", *p->byte);
+}
+
+/* Says what is wrong in the text, at the line and byte that its refusal carries. */
+static void explain(const struct work *w, wb_answer a)
+{
+    struct place p = {w->text, w->text, NULL, w->text + w->text_len};
+    fprintf(stderr, "office: %s: %s", w->path, w->engines ? "the engine lines" : "the sheet");
+    if (a.first == 0) {
+        fprintf(stderr, ": too long, at most %d bytes are read\n", WB_MOST_TEXT);
+        return;
+    }
+    for (uint32_t left = a.first; left > 1; p.start++)
+        left -= *p.start == '\n';
+    p.byte = p.start + a.second - 1;
+    fprintf(stderr, ", line %u, byte %u: ", (unsigned)a.first, (unsigned)a.second);
+    if (a.second == 1)
+        say_line_expected(&p, w->engines, a.first);
+    else if (w->engines)
+        say_expected(&p, a.refusal, lines[ENG]);
+    else if (a.first <= FIT)
+        say_expected(&p, a.refusal, lines[a.first - 1]);
+    else
+        say_expected(&p, a.refusal, lines[*p.start == 'F' ? FIT : END]);
+    fprintf(stderr, ", and ");
+    say_found(&p, a.refusal);
+}
+
+/* Of a text that is at fault its file is named, and then what is wrong in it. */
+static int refuse(const struct work *w, wb_answer a)
 {
     const char *why = "for a reason that this program does not know";
-    int at_fault = w->path != NULL && (refusal == WB_BROKEN_LINE || refusal == WB_OUTSIDE_LIMITS);
-    if (refusal < sizeof refusals / sizeof refusals[0])
-        why = refusals[refusal];
-    printf("refused (%u): %s%s%s\n", (unsigned)refusal, at_fault ? w->path : "", at_fault ? ": " : "", why);
+    int at_fault = w->path != NULL && (a.refusal == WB_BROKEN_LINE || a.refusal == WB_OUTSIDE_LIMITS);
+    if (a.refusal < sizeof refusals / sizeof refusals[0])
+        why = refusals[a.refusal];
+    printf("refused (%u): %s%s%s\n", (unsigned)a.refusal, at_fault ? w->path : "", at_fault ? ": " : "", why);
+    if (at_fault)
+        explain(w, a);
     return REFUSED;
 }
 
@@ -511,23 +669,25 @@ static uint32_t number_of(const char *word)
 }
 
 /* Makes engine rows of the text, which is a call of its own and may be refused. */
-static uint32_t read_rows(struct work *w)
+static wb_answer read_rows(struct work *w)
 {
     wb_answer a = wb_read_engines(w->text, w->text_len, w->powers, WB_ENGINE_ROWS, w->weights, WB_ENGINE_ROWS);
     w->rows = a.first;
-    return a.refusal;
+    return a;
 }
 
-/* Takes what the command is lent from the command line; answers a refusal of engine rows, 0 if there is none. */
-static uint32_t take_words(struct work *w, const struct command *c, char **words)
+/* Takes what the command is lent from the command line; answers as the reading of engine rows did, if there are any. */
+static wb_answer take_words(struct work *w, const struct command *c, char **words)
 {
+    wb_answer taken = {WB_ACCEPTED, 0, 0, 0};
     for (size_t i = 0; c->lent[i] != '\0'; i++) {
         if (c->lent[i] == 'n')
             w->number[i] = number_of(words[i]);
         else
             load_text(w, words[i]);
     }
-    return strchr(c->lent, 'e') == NULL ? 0 : read_rows(w);
+    w->engines = strchr(c->lent, 'e') != NULL;
+    return w->engines ? read_rows(w) : taken;
 }
 
 static void look_at_register(struct work *w, const struct command *c, const char *path)
@@ -567,13 +727,13 @@ int main(int argc, char **argv)
     if ((size_t)argc - 3 != strlen(c->lent))
         usage();
     /* Texts are read before the lock is taken: one that comes slowly, by a pipe, keeps no other desk waiting. */
-    uint32_t refusal = take_words(&w, c, argv + 3);
-    if (refusal != WB_ACCEPTED)
-        return said(refuse(&w, refusal));
-    bring_register(&w, c, path);
-    wb_answer a = c->ask(&w);
+    wb_answer a = take_words(&w, c, argv + 3);
     if (a.refusal != WB_ACCEPTED)
-        return said(refuse(&w, a.refusal));
+        return said(refuse(&w, a));
+    bring_register(&w, c, path);
+    a = c->ask(&w);
+    if (a.refusal != WB_ACCEPTED)
+        return said(refuse(&w, a));
     if (c->does != READS)
         store_register(&w, path);
     c->tell(&w, a);
