@@ -4,8 +4,8 @@ use Rattle.sheet.specs.Lines.{endLine}
 use Rattle.reading.proofs.Rest.{end-broken, end-more, end-last}
 use native.Mathlib.Omega.{arith}
 use borrow.Author.Needs.{needs}
-use Rattle.reading.proofs.read_end.Statement.{statement}
-use Rattle.reading.proofs.read_end.Tie as tie
+use Rattle.reading.proofs.sheets.read_end.Statement.{statement}
+use Rattle.reading.proofs.sheets.read_end.Tie as tie
 
 returns : tie.Need-returns
 returns c =

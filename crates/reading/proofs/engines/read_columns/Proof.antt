@@ -4,8 +4,8 @@ use native.Mathlib.Omega.{arith}
 use Rattle.reading.specs.Rows.{rowsReach}
 use Rattle.reading.proofs.EnginesCall.{heard-long, heard-wrong, heard-whole}
 use borrow.Author.Needs.{needs}
-use Rattle.reading.proofs.read_columns.Statement.{statement}
-use Rattle.reading.proofs.read_columns.Tie as tie
+use Rattle.reading.proofs.engines.read_columns.Statement.{statement}
+use Rattle.reading.proofs.engines.read_columns.Tie as tie
 
 returns : tie.Need-returns
 returns c = heard-long (c .before .before .before .before .args .text .now) _ _ (c .if1 .taken)

@@ -9,8 +9,8 @@ use Rattle.reading.proofs.Rest.{rest-fault, rest-read}
 use native.Mathlib.Omega.{arith}
 use Rattle.reading.proofs.Found.{filled-as}
 use borrow.Author.Needs.{needs}
-use Rattle.reading.proofs.read_rest.Statement.{statement}
-use Rattle.reading.proofs.read_rest.Tie as tie
+use Rattle.reading.proofs.sheets.read_rest.Statement.{statement}
+use Rattle.reading.proofs.sheets.read_rest.Tie as tie
 
 text-from : tie.Need-sub-read-end
 text-from c =

@@ -14,8 +14,8 @@ use Rattle.reading.proofs.SheetCall.{words-broken, words-zeros, words-r
 use native.Mathlib.Omega.{arith}
 use Rattle.reading.proofs.Found.{filled-as}
 use borrow.Author.Needs.{needs}
-use Rattle.reading.proofs.read_parts.Statement.{statement}
-use Rattle.reading.proofs.read_parts.Tie as tie
+use Rattle.reading.proofs.sheets.read_parts.Statement.{statement}
+use Rattle.reading.proofs.sheets.read_parts.Tie as tie
 
 read-lines-requires : tie.Need-read-lines-requires
 unfolding limitRows sheetLimits limitsOn

@@ -8,8 +8,8 @@ use Rattle.reading.proofs.NextLine.{due}
 use Rattle.reading.proofs.LineByLine.{no-lines, one-more}
 use native.Mathlib.Omega.{arith}
 use borrow.Author.Needs.{needs}
-use Rattle.reading.proofs.read_lines.Statement.{statement}
-use Rattle.reading.proofs.read_lines.Tie as tie
+use Rattle.reading.proofs.sheets.read_lines.Statement.{statement}
+use Rattle.reading.proofs.sheets.read_lines.Tie as tie
 
 zeros : (c : tie.Start) → length (c .args .words .now) ≡ textWords
 zeros c = ap length (c .pre .1) ∙ length-replicate {A = ℕ} textWords 0

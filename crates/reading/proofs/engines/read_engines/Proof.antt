@@ -6,8 +6,8 @@ use Rattle.reading.proofs.EnginesCall.{Held, rows-held, first-fit}
 use Rattle.reading.proofs.EnginesCall.{settled-fault, settled-few-powers, settled-few-weights, settled-read}
 use native.Mathlib.Omega.{arith}
 use borrow.Author.Needs.{needs}
-use Rattle.reading.proofs.read_engines.Statement.{statement}
-use Rattle.reading.proofs.read_engines.Tie as tie
+use Rattle.reading.proofs.engines.read_engines.Statement.{statement}
+use Rattle.reading.proofs.engines.read_engines.Tie as tie
 
 abbrev begun : tie.After-known-told2 → tie.Start
 begun c = c .before .before .before .before .before .before .before .before .before .before .before

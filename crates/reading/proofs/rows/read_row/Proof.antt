@@ -3,8 +3,8 @@ use mathlib.Core.Path.{refl, _∙_}
 use Rattle.text.proofs.Limit.{length-limits}
 use Rattle.reading.proofs.Row.{row-fault, row-read}
 use borrow.Author.Needs.{needs}
-use Rattle.reading.proofs.read_row.Statement.{statement}
-use Rattle.reading.proofs.read_row.Tie as tie
+use Rattle.reading.proofs.rows.read_row.Statement.{statement}
+use Rattle.reading.proofs.rows.read_row.Tie as tie
 
 returns : tie.Need-returns
 returns c = row-fault _ _ (rw (c .before .refusal .given .1) at (c .before .before .before .before .read-line .ensures))

@@ -12,8 +12,8 @@ use Rattle.reading.specs.Steps.{ReadsOn}
 use Rattle.reading.proofs.NextLine.{stays, goes-on}
 use native.Mathlib.Omega.{arith}
 use borrow.Author.Needs.{needs}
-use Rattle.reading.proofs.next_line.Statement.{statement}
-use Rattle.reading.proofs.next_line.Tie as tie
+use Rattle.reading.proofs.sheets.next_line.Statement.{statement}
+use Rattle.reading.proofs.sheets.next_line.Tie as tie
 
 part-read-line-end : tie.Need-part-read-line-end
 part-read-line-end c =

@@ -1,8 +1,8 @@
 -- `read_sheet` meets its contract.
 use Rattle.reading.proofs.SheetCall.{settled-refused, settled-read}
 use borrow.Author.Needs.{needs}
-use Rattle.reading.proofs.read_sheet.Statement.{statement}
-use Rattle.reading.proofs.read_sheet.Tie as tie
+use Rattle.reading.proofs.sheets.read_sheet.Statement.{statement}
+use Rattle.reading.proofs.sheets.read_sheet.Tie as tie
 
 returns : tie.Need-returns
 returns c =

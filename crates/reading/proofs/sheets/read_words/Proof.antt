@@ -4,8 +4,8 @@ use native.Mathlib.Omega.{arith}
 use Rattle.reading.specs.Filled.{reached}
 use Rattle.reading.proofs.SheetCall.{heard-long, heard-wrong, heard-whole}
 use borrow.Author.Needs.{needs}
-use Rattle.reading.proofs.read_words.Statement.{statement}
-use Rattle.reading.proofs.read_words.Tie as tie
+use Rattle.reading.proofs.sheets.read_words.Statement.{statement}
+use Rattle.reading.proofs.sheets.read_words.Tie as tie
 
 returns : tie.Need-returns
 returns c = heard-long (c .before .before .before .args .text .now) _ (c .if1 .taken)

@@ -7,8 +7,8 @@ use Rattle.reading.proofs.EnginesLoop.{State, start, powers-kept, weigh
 use Rattle.reading.proofs.EnginesLoop.{Turn, place-in, fault, bounds, last, step}
 use native.Mathlib.Omega.{arith}
 use borrow.Author.Needs.{needs}
-use Rattle.reading.proofs.read_rows.Statement.{statement}
-use Rattle.reading.proofs.read_rows.Tie as tie
+use Rattle.reading.proofs.engines.read_rows.Statement.{statement}
+use Rattle.reading.proofs.engines.read_rows.Tie as tie
 
 abbrev Inv-loop : tie.InvT-loop
 Inv-loop text powers₀ weights₀ rows₀ at₀ next₀ t13 powers weights rows at next =

@@ -6,8 +6,8 @@ use Rattle.reading.proofs.FitsLoop.{State, start, kept, full, stop}
 use Rattle.reading.proofs.FitsTurn.{bounds, step, Turn, place-in, fault}
 use native.Mathlib.Omega.{arith}
 use borrow.Author.Needs.{needs}
-use Rattle.reading.proofs.read_fits.Statement.{statement}
-use Rattle.reading.proofs.read_fits.Tie as tie
+use Rattle.reading.proofs.sheets.read_fits.Statement.{statement}
+use Rattle.reading.proofs.sheets.read_fits.Tie as tie
 
 abbrev Inv-loop : tie.InvT-loop
 Inv-loop text weights₀ read₀ at₀ next₀ t11 weights read at next = State text weights read at next
