@@ -1,5 +1,5 @@
 -- A whole sheet: what the code leaves, and what the call answers.
-use mathlib.Core.Path.{_≡_, refl, ap, _∙_}
+use mathlib.Core.Path.{_≡_, refl, sym, ap, _∙_}
 use mathlib.Core.List.{List, [], _++_, append-nil}
 use Prim.Native.Nat.{ℕ, _+_, _-_, _≤_, _<_}
 use native.Mathlib.Omega.{arith}
@@ -13,8 +13,9 @@ use Rattle.text.specs.Place.{lineAt, byteAt}
 use Rattle.ground.proofs.Stores.{putBack, rest-part, sets-zeros}
 use Rattle.answers.specs.declared.Answer.the-variants.{RefusedAt, Done}
 use Rattle.answers.specs.Settled.{Settled}
-use Rattle.form.specs.Outcome.{Found, took, lost, placed}
+use Rattle.form.specs.Outcome.{Found, took, lost, right, placed}
 use Rattle.form.proofs.Verdict.{form-long, form-said}
+use Rattle.sheet.proofs.SheetText.{sheet-count}
 use Rattle.sheet.specs.Lines.{lines, fittings, mostBytes}
 use Rattle.sheet.specs.Places.{textWords, fittingsAt}
 use Rattle.sheet.specs.SheetText.{sheetForm, sheetOf, readSheet}
@@ -89,9 +90,10 @@ module _ (t : List ℕ) (h : length t ≤ mostBytes) {o : List ℕ} where
   heard-wrong p =
       let e = sheet-said t h ∙ ap (placed t) (filled-fault p) in record { answer = rw e; stored = rw e }
 
-  pub heard-whole : {k : ℕ} → Filled (restOn lines t) t (Taken k) o → Heard (readSheet t) (Whole (length o)) o
+  pub heard-whole : {k : ℕ} → Filled (restOn lines t) t (Taken k) o → Heard (readSheet t) (Whole textWords) o
   heard-whole p =
-      let e = sheet-said t h ∙ ap (placed t) (filled-taken p) in record { answer = rw e; stored = rw e }
+      let e : readSheet t ≡ right o = sheet-said t h ∙ ap (placed t) (filled-taken p) in
+      record { answer = rw e (ap Whole (sym (sheet-count t o e))); stored = rw e }
 
 -- ---- the call
 

@@ -179,7 +179,7 @@ pub fn read_words(text: &[u8], words: &mut [u32]) -> TextRead
     }
     match read_parts(text, words) {
         LineRead::Fault(refusal, at) => spelling::wrong_at(refusal, text, at),
-        LineRead::Taken(_) => TextRead::Whole(words.len()),
+        LineRead::Taken(_) => TextRead::Whole(TEXT_WORDS),
     }
 }
 
