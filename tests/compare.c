@@ -48,17 +48,21 @@ static const struct {
 };
 
 /* The calls that read a text, and the lines of it that can be at fault: with 2 one more than it may have, and with 3 all that have numbers. */
+#define SHEET_LINES (10 + WB_FITTINGS + 1)
 static const struct {
     enum kind kind;
     uint32_t broken, outside;
-} texts[] = {{NEW_HULL, 36, 34}, {REPLACE, 36, 34}, {READ_SHEET, 36, 34}, {READ_ENGINES, 41, 40}};
+} texts[] = {{NEW_HULL, SHEET_LINES + 1, SHEET_LINES - 1},
+             {REPLACE, SHEET_LINES + 1, SHEET_LINES - 1},
+             {READ_SHEET, SHEET_LINES + 1, SHEET_LINES - 1},
+             {READ_ENGINES, WB_ENGINE_ROWS + 1, WB_ENGINE_ROWS}};
 
 static const char *const buffer_names[BUFFERS] = {"memory", "text", "output", "powers", "weights", "sheet"};
 
 /* ---- the progress, and the report of a difference ---- */
 
 #define REFUSALS 18
-#define TEXT_LINES 41
+#define TEXT_LINES (WB_ENGINE_ROWS + 1)
 
 static unsigned long made, seen[KINDS][REFUSALS];
 static unsigned long broken_at[KINDS][TEXT_LINES + 1], outside_at[KINDS][TEXT_LINES + 1]; /* by the line at fault; 0 for a text too long */

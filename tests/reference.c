@@ -70,7 +70,7 @@ static wb_answer accepted(uint32_t first, uint32_t second)
 #define LONGEST_TEXT 4096
 #define MOST_DIGITS 10
 
-/* A text that is read from its start, and the line that it is read to. Where the text is at fault, it stays at the place of the fault. */
+/* A text that is read from its start, with the line that it has come to. A text at fault is read to the place of the fault and no further. */
 struct reader {
     const uint8_t *at, *end;
     const uint8_t *line_start;
