@@ -25,5 +25,7 @@ pub mod RowsEnded  -- of rows
 pub mod PartsEnded  -- and of a text
 pub mod Theorems  -- a refusal's place, of every form
 pub mod Verdicts  -- and of a whole text, with line and byte
+pub mod Longest  -- how long a text by the rules can be
+pub mod Readers  -- and of the reader that a call cites
 pub mod Examples  -- the form of samples: where its texts go wrong
 pub mod LimitExample  -- a text that breaks a limit, and is by the rules

@@ -16,7 +16,7 @@ use Rattle.sheet.specs.EngineText.{engineForm, engineRows, readEngines, 
 use Rattle.sheet.specs.TextCalls.{columnsInto}
 use Rattle.sheet.proofs.Examples.{ended, taken}
 
-rows : ℕ → List ℕ → List ℕ
+unfoldable pub rows : ℕ → List ℕ → List ℕ
 rows n [] = []
 rows n (k ∷ ks) = bytes "ENG\t" ++ (digitsOf n ++ (bytes "\t0\n" ++ rows (suc n) ks))
 

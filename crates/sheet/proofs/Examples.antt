@@ -47,24 +47,24 @@ ended (wrong number line byte) = wrong number line byte
 abbrev pub taken : Verdict ℕ
 taken = right 0
 
-withHull : String → List ℕ
+unfoldable pub withHull : String → List ℕ
 withHull line = sheetWith line form mass power seats (bytes "END\n")
 
-withForm : String → List ℕ
+unfoldable pub withForm : String → List ℕ
 withForm line = sheetWith hull line mass power seats (bytes "END\n")
 
 withPower : String → List ℕ
 withPower line = sheetWith hull form mass line seats (bytes "END\n")
 
-withSeats : String → List ℕ
+unfoldable pub withSeats : String → List ℕ
 withSeats line = sheetWith hull form mass power line (bytes "END\n")
 
 -- all 24 FIT lines
-fits : ℕ → List ℕ → List ℕ
+unfoldable pub fits : ℕ → List ℕ → List ℕ
 fits n [] = []
 fits n (k ∷ ks) = bytes "FIT\t" ++ (digitsOf n ++ (bytes "\t5\n" ++ fits (suc n) ks))
 
-withFits : String → List ℕ
+unfoldable pub withFits : String → List ℕ
 withFits rest = sheetWith hull form mass power seats (fits 1 (replicate 24 0) ++ bytes rest)
 
 texts : List (List ℕ)
