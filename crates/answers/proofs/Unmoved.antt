@@ -1,5 +1,5 @@
--- 02 (v), what is new of an answer: a refusal of a text, 2 or 3, has a line and a byte; every other answer is the former
--- one.
+-- 02 (v), what is new of an answer: a refusal of a text, 2 or 3, has a line and a byte; every other answer is the
+-- former one.
 use mathlib.Core.Path.{_≡_, refl, ap}
 use mathlib.Core.Bool.{false, true≢false}
 use mathlib.Core.Logic.{_⊎_, inl, inr}

@@ -1,6 +1,6 @@
 -- 02 (v), of the reader that a call cites: what it makes of the rows that a text says moves no place. A text too long
 -- has none, and hides no text by the rules.
-use mathlib.Core.Path.{_≡_, ap, _∙_, sym}
+use mathlib.Core.Path.{_≡_, ap}
 use mathlib.Core.Bool.{true}
 use mathlib.Core.Logic.{_⊎_, inl, inr}
 use mathlib.Core.List.{List}

@@ -1,5 +1,5 @@
--- Computed of each number of a sheet, by a table of its own: both ends of its limits are taken and what is one beside is
--- refused with 3, in a text and among the numbers; in a text at the number's own line and byte.
+-- Computed of each number of a sheet, by a table of its own: both ends of its limits are taken, and what is one beside
+-- is refused with 3, in a text and among the numbers; in a text at the number's own line and byte.
 use mathlib.Core.Path.{_≡_, refl}
 use mathlib.Core.Bool.{Bool, true, false, not, _&&_, _||_, cond}
 use mathlib.Core.List.{List, [], _∷_, map}

@@ -4,7 +4,6 @@ use mathlib.Core.Path.{_≡_, refl}
 use mathlib.Core.Bool.{true, false}
 use mathlib.Core.List.{List, [], _∷_, _++_, map}
 use Prim.Native.Nat.{ℕ, suc}
-use Prim.Native.String.{String}
 use lib.Dec.{eqb}
 use lib.ListN.{replicate, set, take}
 use Rattle.text.specs.Quoted.{bytes, feed}
@@ -40,8 +39,8 @@ sheetFigures =
     (bytes "HULL\t01" gives wrong 2 1 7) ∷ (bytes "HULL\t00\n" gives wrong 2 1 7)
     ∷ (bytes "HULL\t12345678901" gives wrong 2 1 16) ∷ (bytes "HULL\t1234567890" gives wrong 2 1 16)
     ∷ (bytes "HULL\t1234567890\t" gives wrong 2 1 16) ∷ (bytes "HULL\t1234567890\n" gives wrong 3 1 6)
-    ∷ (bytes "HULL\t1" gives wrong 2 1 7) ∷ (bytes "HULL\t1\n" gives wrong 2 2 1) ∷ (bytes "HULL\t16\n" gives wrong 3 1 6)
-    ∷ (bytes "HULL\t\n" gives wrong 2 1 6) ∷ (bytes "HULL\t1\t\n" gives wrong 2 1 7)
+    ∷ (bytes "HULL\t1" gives wrong 2 1 7) ∷ (bytes "HULL\t1\n" gives wrong 2 2 1)
+    ∷ (bytes "HULL\t16\n" gives wrong 3 1 6) ∷ (bytes "HULL\t\n" gives wrong 2 1 6) ∷ (bytes "HULL\t1\t\n" gives wrong 2 1 7)
     -- a reference above its length, and none above; the line ended after it; both at the byte that must end it
     ∷ (withForm "FORM\t4500\t4501\t1200\t500\t0\t1\n" gives wrong 3 2 11)
     ∷ (withForm "FORM\t4500\t4500\t1200\t500\t0\t1\n" gives taken)
