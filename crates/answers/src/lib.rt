@@ -47,8 +47,8 @@ pub enum Answer {
     Plate(u32, u32),
 }
 
-// An answer as C reads it: a refusal, with a text's line and byte as figures, or refusal 0 and the figures; those unused
-// are 0.
+// An answer as C reads it: a refusal, with a text's line and byte as figures, or refusal 0 and the figures; those
+// unused are 0.
 #[repr(C)]
 pub struct WbAnswer {
     pub refusal: u32,

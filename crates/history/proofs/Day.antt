@@ -97,11 +97,10 @@ a-day : transcript freshWords (map call day) ≡ day
 unfolding transcript reply next day text freshWords entered opened fitted replaced dropped saved each
     hullOk draftOk formed hullRefusal deskRefusal roomRefusal openRefusal readSheet sheetForm numbersOn
     numbersOf fitsOf weightsFrom readForm readParts readRows kindOf readLine agreed readNumbers readEntry
-    fieldOf numberOf restOf feeds sinceFeed allHold sheetLimits limitsOn sheetText rowsOn fitRows partsText rowsText
-    numbersText
-    digitsOf digitsIn stationProduct volumeN netZ addedUp boatM exactX markedC rising rowsRight rowFor lacksRow
-    engineWeight liveLoad persons lacksTests plateC inboardX loadX markedA formulaWatts powerA plateA ruleU
-    markedU plateU
+    fieldOf numberOf restOf feeds sinceFeed allHold sheetLimits limitsOn sheetText rowsOn fitRows
+    partsText rowsText numbersText digitsOf digitsIn stationProduct volumeN netZ addedUp boatM exactX markedC rising
+    rowsRight rowFor lacksRow engineWeight liveLoad persons lacksTests plateC inboardX loadX markedA formulaWatts
+    powerA plateA ruleU markedU plateU
 a-day = refl
 
 -- its serial list is this one

@@ -1,5 +1,5 @@
--- A step as rules: each has its conditions on the state, and the state and reply that it makes. The refusals by a number
--- alone are one rule, and each has its reason; that of a new hull's text, with its place, is another.
+-- A step as rules: each has its conditions on the state, and the state and reply that it makes. The refusals by a
+-- number alone are one rule, and each has its reason; that of a new hull's text, with its place, is another.
 use Prim.Native.Nat.{ℕ, suc, _≤_, _<_}
 use mathlib.Core.Path.{_≡_}
 use mathlib.Core.List.{List}

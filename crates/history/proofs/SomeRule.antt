@@ -27,7 +27,10 @@ module _ {s : State} where
   fitted : {c : Call} {t : State} {r : Reply} → Way s c t r → Fits s c
   fitted p = record { state = _; reply = _; rule = p }
 
-  find-new : (t : List ℕ) (r : Verdict (List ℕ)) → s .register .entered < mostHulls → readSheet t ≡ r → Fits s (newHull t)
+  find-new : (t : List ℕ) (r : Verdict (List ℕ))
+      → s .register .entered < mostHulls
+      → readSheet t ≡ r
+      → Fits s (newHull t)
   find-new t (right r) p e = fitted (new-enters r p e)
   find-new t (wrong n line byte) p e = fitted (new-unread n line byte p e)
 

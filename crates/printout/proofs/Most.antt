@@ -49,7 +49,8 @@ numbers-most [] h = omega arith
 numbers-most (n ∷ ns) h =
     let rest : List ℕ = numbersText (figures [] (length ns) .limits) ns in
     let end : ℕ = ender (figures [] (length ns) .limits) in
-    omega (arith, length-append (digitsOf n) (end ∷ rest), length-digits-ten n (omega arith), numbers-most ns (omega arith))
+    let few = length-digits-ten n (omega arith) in
+    omega (arith, length-append (digitsOf n) (end ∷ rest), few, numbers-most ns (omega arith))
 
 figures-most : (tag ns : List ℕ) → together ns < elevenDigits
     → length (lineText (figures tag (length ns)) ns) ≤ length tag + 11 * length ns
@@ -141,5 +142,7 @@ printed-most t = go (ltb mostInput (length t)) refl
         (input-most number line byte (low (sheet-fault u number line byte e)) (sheet-most u number line byte e))
 
     go : (u : Bool) → ltb mostInput (length t) ≡ u → length (printed t) ≤ mostPrinted
-    go true e = rw (printed-long t (ltb-true mostInput (length t) e)) (input-most 2 0 0 (omega arith) (omega arith, omega arith))
+    go true e =
+        rw (printed-long t (ltb-true mostInput (length t) e))
+        (input-most 2 0 0 (omega arith) (omega arith, omega arith))
     go false e = sheet (ltb-false mostInput (length t) e) (readSheet (sheetPart t)) refl

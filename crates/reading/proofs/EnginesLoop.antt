@@ -131,12 +131,8 @@ module _ {t a₀ b₀ a b : List ℕ} {rows at next : ℕ} {r : RowRead} (p : Tu
         let e = rows-last t (loop.none-more onto (omega arith) m) m in
         let c = column-first a₀ (powersOf rs) (omega (arith, powers-length rs, onto .many, onto .few)) in
         let d = column-first b₀ (weightsOf rs) (omega (arith, weights-length rs, onto .many, onto .few)) in
-        record {
-          answer = rw (e, onto .many);
-          powers = rw (powers₁, e) c;
-          weights = rw (weights₁, e) d;
-          within = omega arith;
-        }
+        let many = onto .many in
+        record { answer = rw (e, many); powers = rw (powers₁, e) c; weights = rw (weights₁, e) d; within = omega arith }
 
     pub step : at + len < length t → State t a₀ b₀ (set a rows n) (set b rows w) (rows + 1) (at + len) (n + 1)
     step l =

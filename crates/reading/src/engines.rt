@@ -54,8 +54,8 @@ fn read_rows(text: &[u8], powers: &mut [u32], weights: &mut [u32]) -> RowsRead
     RowsRead::NoRows(answers::BROKEN_LINE, at)
 }
 
-// Reads engine rows from a text of at most 4,096 bytes into room for as many as there may be, and answers how many there
-// are.
+// Reads engine rows from a text of at most 4,096 bytes into room for as many as there may be, and answers how many
+// there are.
 pub fn read_columns(text: &[u8], powers: &mut [u32], weights: &mut [u32]) -> TextRead
     requires { ⌜ (length (now powers) ≡ mostRows) × (length (now weights) ≡ mostRows) ⌝ }
     ensures { λ r. ⌜ HeardRows (readEngines (now (text .entry))) r (now (powers .exit)) (now (weights .exit)) ⌝ }

@@ -1,5 +1,4 @@
--- Calls on memories that are well formed and that are not, computed: every end of a desk, a hull, a line, a weight and
--- an edit number with one beside it, and every two refusals of a call at once.
+-- Calls on memories well formed and not, computed: each end of a number and one beside it, every two refusals at once.
 use mathlib.Core.Path.{_≡_, refl}
 use mathlib.Core.List.{List, [], _∷_, _++_, map}
 use Prim.Native.Nat.{ℕ}
@@ -127,13 +126,13 @@ on-small =
 calls-right :
     (answered full on-full ≡ map wanted on-full) × (answered fifteen on-fifteen ≡ map wanted on-fifteen)
     × (answered edited on-edited ≡ map wanted on-edited) × (answered small on-small ≡ map wanted on-small)
-unfolding answered on-full on-fifteen on-edited on-small text outside ended small fifteen edited full sheet
-    hulls draft idle formed each hullOk draftOk hullRefusal deskRefusal roomRefusal openRefusal readSheet
-    sheetForm numbersOn numbersOf fitsOf weightsFrom readForm readParts readRows kindOf readLine agreed
-    readNumbers readEntry fieldOf numberOf restOf feeds sinceFeed allHold sheetLimits limitsOn sheetText rowsOn
-    fitRows partsText rowsText numbersText digitsOf digitsIn stationProduct volumeN netZ addedUp boatM exactX markedC
-    rising rowsRight rowFor lacksRow engineWeight liveLoad persons lacksTests plateC inboardX loadX markedA
-    formulaWatts powerA plateA ruleU markedU plateU
+unfolding answered on-full on-fifteen on-edited on-small text outside ended small fifteen edited full sheet hulls
+    draft idle formed each hullOk draftOk hullRefusal deskRefusal roomRefusal openRefusal readSheet sheetForm
+    numbersOn numbersOf fitsOf weightsFrom readForm readParts readRows kindOf readLine agreed readNumbers readEntry
+    fieldOf numberOf restOf feeds sinceFeed allHold sheetLimits limitsOn sheetText rowsOn fitRows partsText rowsText
+    numbersText digitsOf digitsIn stationProduct volumeN netZ addedUp boatM exactX markedC rising rowsRight rowFor
+    lacksRow engineWeight liveLoad persons lacksTests plateC inboardX loadX markedA formulaWatts powerA plateA ruleU
+    markedU plateU
 calls-right = (refl, refl, refl, refl)
 
 -- fresh start looks at the size alone

@@ -21,7 +21,9 @@ use Rattle.sheet.specs.EngineText.{engineForm, readEngines}
 use Rattle.sheet.specs.TextCalls.{readAnswer, writeAnswer, enginesAnswer}
 
 -- a refusal of a text with its place
-read-right : map readAnswer (right [] ∷ wrong 2 35 1 ∷ wrong 3 10 6 ∷ []) ≡ Done ∷ RefusedAt 2 35 1 ∷ RefusedAt 3 10 6 ∷ []
+read-right :
+    map readAnswer (right [] ∷ wrong 2 35 1 ∷ wrong 3 10 6 ∷ [])
+    ≡ Done ∷ RefusedAt 2 35 1 ∷ RefusedAt 3 10 6 ∷ []
 read-right = refl
 
 -- the least sheet there is, under a hull number, and its text of 156 bytes

@@ -40,7 +40,8 @@ sheetFigures =
     ∷ (bytes "HULL\t12345678901" gives wrong 2 1 16) ∷ (bytes "HULL\t1234567890" gives wrong 2 1 16)
     ∷ (bytes "HULL\t1234567890\t" gives wrong 2 1 16) ∷ (bytes "HULL\t1234567890\n" gives wrong 3 1 6)
     ∷ (bytes "HULL\t1" gives wrong 2 1 7) ∷ (bytes "HULL\t1\n" gives wrong 2 2 1)
-    ∷ (bytes "HULL\t16\n" gives wrong 3 1 6) ∷ (bytes "HULL\t\n" gives wrong 2 1 6) ∷ (bytes "HULL\t1\t\n" gives wrong 2 1 7)
+    ∷ (bytes "HULL\t16\n" gives wrong 3 1 6)
+    ∷ (bytes "HULL\t\n" gives wrong 2 1 6) ∷ (bytes "HULL\t1\t\n" gives wrong 2 1 7)
     -- a reference above its length, and none above; the line ended after it; both at the byte that must end it
     ∷ (withForm "FORM\t4500\t4501\t1200\t500\t0\t1\n" gives wrong 3 2 11)
     ∷ (withForm "FORM\t4500\t4500\t1200\t500\t0\t1\n" gives taken)

@@ -1,6 +1,6 @@
 -- The calls on texts without the register: what each answers, and what it leaves in each lent buffer. A refusal leaves
--- them as they stood. 01, Refusal numbers: 2 and 3 of a text, with their places; 3 for a sheet outside the limits, which
--- has none; 16 comes last.
+-- them as they stood. 01, Refusal numbers: 2 and 3 of a text, with their places; 3 for a sheet outside the limits,
+-- which has none; 16 comes last.
 use Prim.Native.Nat.{ℕ}
 use mathlib.Core.Bool.{Bool, _&&_, cond}
 use mathlib.Core.List.{List}

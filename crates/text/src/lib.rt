@@ -30,8 +30,8 @@ pub enum LineRead {
     Fault(u32, usize),
 }
 
-// How the reading of a whole text ended: with a count of what it says, the words of a sheet or rows, or by a refusal with
-// its line and byte, both from 1, or both 0 where the text is too long.
+// How the reading of a whole text ended: with a count of what it says, the words of a sheet or rows, or by a refusal
+// with its line and byte, both from 1, or both 0 where the text is too long.
 pub enum TextRead {
     Whole(usize),
     Wrong(u32, u32, u32),

@@ -15,7 +15,8 @@ wrong-at-requires c κs =
     let at-read-rows = c .before .before .before .before .before .before .before in
     let low = at-read-rows .before .before .before .if1 .left in
     let place = ap rowsReach (c .before .refusal .given .1) in
-    (omega (arith, at-read-rows .read-rows .ensures .within), omega (arith, at-read-rows .read-rows .ensures .within))
+    let inside = at-read-rows .read-rows .ensures .within in
+    (omega arith, omega arith)
 
 returns-2 : tie.Need-returns-2
 returns-2 c =
@@ -37,5 +38,5 @@ returns-3 c =
 pub read-columns-spec : {M : Type 1} → statement M
 read-columns-spec =
     tie.close
-    (tie.spec returns (λ c κs. search needs) (λ c. search needs) wrong-at-requires (λ c. search needs) (λ c. search needs)
-    (λ c. search needs) returns-2 (λ c. search needs) (λ c. search needs) returns-3)
+    (tie.spec returns (λ c κs. search needs) (λ c. search needs) wrong-at-requires (λ c. search needs)
+    (λ c. search needs) (λ c. search needs) returns-2 (λ c. search needs) (λ c. search needs) returns-3)

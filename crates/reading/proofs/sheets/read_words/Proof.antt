@@ -15,7 +15,8 @@ wrong-at-requires c κs =
     let at-read-parts = c .before .before .before .before .before in
     let low = at-read-parts .before .before .if1 .left in
     let place = ap reached (c .before .refusal .given .1) in
-    (omega (arith, at-read-parts .read-parts .ensures .within), omega (arith, at-read-parts .read-parts .ensures .within))
+    let inside = at-read-parts .read-parts .ensures .within in
+    (omega arith, omega arith)
 
 returns-2 : tie.Need-returns-2
 returns-2 c =
@@ -37,5 +38,5 @@ returns-3 c =
 pub read-words-spec : {M : Type 1} → statement M
 read-words-spec =
     tie.close
-    (tie.spec returns (λ c κs. search needs) (λ c. search needs) wrong-at-requires (λ c. search needs) (λ c. search needs)
-    returns-2 (λ c. search needs) returns-3)
+    (tie.spec returns (λ c κs. search needs) (λ c. search needs) wrong-at-requires (λ c. search needs)
+    (λ c. search needs) returns-2 (λ c. search needs) returns-3)
