@@ -1,7 +1,7 @@
 -- 01, The sheet: one record a line. A line is its literal bytes and then numbers, each ended by a tab but the last,
 -- which is ended by the line feed. Of each number the form comes first, the byte after it included, and the limits
--- second: 2, then 3. Beside its number a refusal has a place, that of the first faulty byte, and where a limit is
--- broken the start of the number; 01 wants the number alone.
+-- second: 2, then 3. 02 (v): beside its number a refusal has a place, that of the first faulty byte, and where a limit
+-- is broken the start of the number.
 use Prim.Native.Nat.{ℕ, _+_}
 use mathlib.Core.Path.{_≡_}
 use mathlib.Core.Bool.{true, false, _&&_, cond}
