@@ -6,7 +6,7 @@ use Rattle.answers.specs.declared.Answer.the-variants.{Refused, RefusedA
 use Rattle.answers.specs.Refusals.{badMemory, brokenLine, outsideLimits, full, noHull, noDesk, noDraft}
 use Rattle.answers.specs.Refusals.{editedSince, editsSpent, badRows, noRow, noLoad, noPower, untested, noPersons}
 use Rattle.answers.specs.Refusals.{noRoom, emptyLine}
-use Rattle.answers.specs.Values.{faced, isListed}
+use Rattle.answers.specs.Values.{faced, isRefusal, isListed}
 use mathlib.Core.Bool.{true, false}
 
 -- in 01's order
@@ -26,10 +26,25 @@ listed-right :
 listed-right = refl
 
 answers-right :
-    map faced (Refused 12 ∷ RefusedAt 2 35 1 ∷ Done ∷ Count 718 ∷ Plate 326 20000 ∷ [])
+    map faced (Refused 12 ∷ RefusedAt 2 35 1 ∷ RefusedAt 3 10 6 ∷ Done ∷ Count 718 ∷ Plate 326 20000 ∷ [])
     ≡ record { refusal = 12; first = 0; second = 0; third = 0 }
     ∷ record { refusal = 2; first = 35; second = 1; third = 0 }
+    ∷ record { refusal = 3; first = 10; second = 6; third = 0 }
     ∷ record { refusal = 0; first = 0; second = 0; third = 0 }
     ∷ record { refusal = 0; first = 718; second = 0; third = 0 }
     ∷ record { refusal = 0; first = 326; second = 20000; third = 0 } ∷ []
 answers-right = refl
+
+-- and whatever the numbers are
+faced-right : (n a b : ℕ)
+    → (faced (Refused n) ≡ record { refusal = n; first = 0; second = 0; third = 0 })
+    × (faced (RefusedAt n a b) ≡ record { refusal = n; first = a; second = b; third = 0 })
+    × (faced (Count n) ≡ record { refusal = 0; first = n; second = 0; third = 0 })
+    × (faced (Plate a b) ≡ record { refusal = 0; first = a; second = b; third = 0 })
+faced-right n a b = (refl, refl, refl, refl)
+
+-- both kinds of refusal are refusals, and nothing else is
+refusal-right :
+    map isRefusal (Refused 1 ∷ RefusedAt 2 1 1 ∷ Done ∷ Count 1 ∷ Plate 1 1 ∷ [])
+    ≡ true ∷ true ∷ false ∷ false ∷ false ∷ []
+refusal-right = refl

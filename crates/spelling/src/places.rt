@@ -1,4 +1,4 @@
-// Where a text is wrong, in the words of the one who wrote it.
+// Where a text is wrong, as whoever wrote it counts: by line and byte.
 ghost use mathlib.Core.Path.{_≡_};
 ghost use Prim.Native.Nat.{_≤_, _<_, _^_};
 ghost use lib.ListN.{length};

@@ -50,10 +50,10 @@ lines-join t = joined-from [] t
 
 -- ---- each has one line feed, at its end, but the last, which has none
 
-pub record Ended (l : List ℕ) : Type 0 where
-  before : List ℕ
-  free : feeds before ≡ 0
-  whole : l ≡ before ++ (feed ∷ [])
+pub record OneFeed (l : List ℕ) : Type 0 where
+  pub before : List ℕ
+  pub free : feeds before ≡ 0
+  pub whole : l ≡ before ++ (feed ∷ [])
 
 none-more : (x : List ℕ) (b : ℕ) → feeds x ≡ 0 → b ≢ feed → feeds (x ++ (b ∷ [])) ≡ 0
 none-more x b z n = omega (arith, z, feeds-append x (b ∷ []), feeds-other b [] n, feeds-none)
@@ -69,7 +69,7 @@ count-from x (b ∷ t) =
 pub lines-count : (t : List ℕ) → length (cutLines t) ≡ 1 + feeds t
 lines-count t = omega (arith, count-from [] t)
 
-ended-from : (x t : List ℕ) → feeds x ≡ 0 → (i : ℕ) → i < feeds t → Ended (getD (cutFrom x t) i [])
+ended-from : (x t : List ℕ) → feeds x ≡ 0 → (i : ℕ) → i < feeds t → OneFeed (getD (cutFrom x t) i [])
 ended-from x [] z i h = absurd (omega (arith, h, feeds-none))
 ended-from x (b ∷ t) z zero h =
     by-equal b feed (λ e. rw (e, cut-feed x t) (record { before = x; free = z; whole = refl }))
@@ -87,7 +87,7 @@ last-from x (b ∷ t) z =
     by-equal b feed (λ e. rw (e, feeds-feed t, cut-feed x t) h)
     (λ n. rw (feeds-other b t n, cut-other x b t n) (last-from (x ++ (b ∷ [])) t (none-more x b z n)))
 
-pub lines-ended : (t : List ℕ) (n : ℕ) → 1 ≤ n → n < length (cutLines t) → Ended (nthLine t n)
+pub lines-ended : (t : List ℕ) (n : ℕ) → 1 ≤ n → n < length (cutLines t) → OneFeed (nthLine t n)
 lines-ended t n l h = ended-from [] t feeds-none (n - 1) (omega (arith, l, h, lines-count t))
 
 pub last-free : (t : List ℕ) → feeds (nthLine t (length (cutLines t))) ≡ 0
