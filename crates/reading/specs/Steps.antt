@@ -6,7 +6,7 @@ use lib.ListN.{length, drop, replicate}
 use lib.Seq.{sets}
 use Rattle.text.specs.declared.LineRead.{LineRead}
 use Rattle.text.specs.declared.LineRead.the-variants.{Taken, Fault}
-use Rattle.text.specs.Line.{Line, Reading, followed, readLine}
+use Rattle.text.specs.Line.{Line, Reading, refused, after, readLine}
 use Rattle.form.specs.Outcome.{Found, took, lost, mapped}
 use Rattle.form.specs.Reading.{readParts}
 use Rattle.sheet.specs.Lines.{lines}
@@ -19,7 +19,8 @@ use Rattle.reading.specs.Filled.{reached}
 
 -- line l of t after what was read; a fault stays
 abbrev nextLine : LineRead → Line → List ℕ → Reading
-nextLine read l t = followed (record { ended = read; numbers = [] }) (readLine l) t
+nextLine (Taken k) l t = after [] k (readLine l (drop k t))
+nextLine (Fault number at) l t = refused number at
 
 -- what is asked before a line is read into from..to of a sheet's words: the limits are the sheet's, and there is room
 pub record Due (limits : List (List ℕ)) (o : List ℕ) (from to : ℕ) (read : LineRead) (t : List ℕ) : Type 0 where

@@ -56,10 +56,6 @@ shiftBy k (Fault number at) = Fault number (k + at)
 abbrev pub after : List ℕ → ℕ → Reading → Reading
 after ns k p = record { ended = shiftBy k (p .ended); numbers = ns ++ p .numbers }
 
--- p, and where it went well, next of the bytes of t that follow it
-abbrev pub followed : Reading → (List ℕ → Reading) → List ℕ → Reading
-followed p next t = elim (p .ended) [ Taken k ↦ after (p .numbers) k (next (drop k t)) | Fault number at ↦ p ]
-
 -- the number n and k bytes of t are taken, if they are; then the rest is read after n
 abbrev pub onEntry : EntryRead → (ℕ → List ℕ → Reading) → List ℕ → Reading
 onEntry (Misread number at) rest t = refused number at
