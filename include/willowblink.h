@@ -53,8 +53,8 @@ extern "C" {
  *     FIT line weight              one for each fitting, line 1..24, rising; none where there is no fitting
  *     END
  *
- * Engine rows are a text of their own: 1 to 40 lines ENG power weight, the powers rising, power 1..200000, weight 0..1000000. A number is 1 to 10
- * digits, and 0 is the only one that starts with 0.
+ * Engine rows are a text of their own: 1 to 40 lines ENG power weight, the powers rising, power 1..200000, weight 0..1000000. A number has 1 to
+ * 10 digits, and only 0 itself starts with 0.
  *
  * The first fault from the left and top is answered with its place: the line, and the byte in that line, both counted from 1. Line feeds alone end
  * lines, and each belongs to the line that it ends. At a number the form, with the tab or line feed that must end it, is judged before the limits.
