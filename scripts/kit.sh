@@ -18,9 +18,14 @@ quietly() { # COMMAND...
     rm -f "$heard"
 }
 
-# Proves and builds a program where that is still to be done.
+# Proves and builds a program where that is still to be done, and dates it by when this began: rt leaves the date alone
+# where only dates or other crates changed, and scripts/run would take it for out of date for ever.
 build() { # NAME
-    quietly rt check "$1"
+    begun=$(mktemp)
+    built=0
+    quietly rt check "$1" && touch -r "$begun" "target/bin/$1" || built=1
+    rm -f "$begun"
+    return $built
 }
 
 # A path as it was said where the script was called.
