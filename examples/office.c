@@ -159,6 +159,22 @@ static void say_line_expected(const struct place *p, int engines, uint32_t line)
         fprintf(stderr, "a FIT line or END is expected here");
 }
 
+/* What may stand after the digits of a number, or after its dash: a digit more, what ends it, or both. */
+static void say_after_digits(const struct place *p, const char *next, const uint8_t *first)
+{
+    int ended = *first == '0' || *first == '-' || p->byte - first == 10;
+    if (!ended)
+        fprintf(stderr, next != NULL ? "a digit, or " : "a digit or ");
+    if (next != NULL)
+        fprintf(stderr, "a tab and then the %s%s is expected here", next, ended ? "" : ",");
+    else
+        fprintf(stderr, "the line's end is expected here");
+    if (*first == '-' && (digit_at(p, p->byte) || (p->byte < p->end && *p->byte == '-')))
+        fprintf(stderr, " (- stands alone)");
+    else if (digit_at(p, p->byte))
+        fprintf(stderr, " (a number has %s)", *first == '0' ? "no leading 0" : "at most 10 digits");
+}
+
 /* What may stand in a number or after it: in the table its name, its limits and the next one's name. */
 static void say_number_expected(const struct place *p, uint32_t refusal, const char *const *number,
                                 const uint8_t *first)
@@ -167,16 +183,14 @@ static void say_number_expected(const struct place *p, uint32_t refusal, const c
         fprintf(stderr, "the %s must be %s", number[0], number[1]);
     else if (first == p->byte)
         fprintf(stderr, "the %s (%s) is expected here", number[0], number[1]);
-    else if (number[2] != NULL)
-        fprintf(stderr, "a tab and then the %s is expected here", number[2]);
     else
-        fprintf(stderr, "the line's end is expected here");
-    if (first == p->byte || !digit_at(p, p->byte))
-        return;
-    if (*first == '-')
-        fprintf(stderr, " (- stands alone)");
-    else
-        fprintf(stderr, " (a number has %s)", *first == '0' ? "no leading 0" : "at most 10 digits");
+        say_after_digits(p, number[2], first);
+}
+
+/* Of FIT and ENG lines there may be many. */
+static const char *article(const char *const *line)
+{
+    return line == lines[FIT] ? "a" : line == lines[ENG] ? "an" : "the";
 }
 
 /* What may stand further on in a line, after bytes that are right: the rest of its tag, or what a number wants. */
@@ -187,7 +201,7 @@ static void say_expected(const struct place *p, uint32_t refusal, const char *co
     size_t before = (size_t)(p->byte - p->start);
     const uint8_t *first = p->start + strlen(tag) + 1;
     if (before < strlen(tag) && tag[before] != ' ')
-        fprintf(stderr, "the %s line is expected, so %c here", tag, tag[before]);
+        fprintf(stderr, "%s %s line is expected, so %c here", article(line), tag, tag[before]);
     else if (before < strlen(tag) || (before == strlen(tag) && *number != NULL))
         fprintf(stderr, "a tab is expected here");
     else if (*number == NULL)
@@ -200,6 +214,12 @@ static void say_expected(const struct place *p, uint32_t refusal, const char *co
     }
 }
 
+static int starts(const struct place *p, const char *bytes)
+{
+    size_t size = strlen(bytes);
+    return (size_t)(p->end - p->text) >= size && memcmp(p->text, bytes, size) == 0;
+}
+
 /* What does stand there. */
 static void say_found(const struct place *p, uint32_t refusal)
 {
@@ -210,8 +230,10 @@ static void say_found(const struct place *p, uint32_t refusal)
         fprintf(stderr, "the text ends\n");
     else if (digits > 0)
         fprintf(stderr, "there is %.*s\n", digits, (const char *)p->byte);
-    else if (p->byte == p->text && p->end - p->text >= 3 && memcmp(p->text, "\xEF\xBB\xBF", 3) == 0)
+    else if (p->byte == p->text && starts(p, "\xEF\xBB\xBF"))
         fprintf(stderr, "there is a byte order mark: save the text without it\n");
+    else if (p->byte == p->text && (starts(p, "\xFE\xFF") || starts(p, "\xFF\xFE")))
+        fprintf(stderr, "there is a byte order mark of UTF-16: save the text as UTF-8, without a mark\n");
     else if (*p->byte <= ' ' && unseen[*p->byte] != NULL)
         fprintf(stderr, "there is %s\n", unseen[*p->byte]);
     else if (*p->byte > ' ' && *p->byte <= '~')

@@ -62,7 +62,7 @@ function line_expected() {
 }
 
 # What may stand further on in a line: the rest of its tag, a number, or what ends a number.
-function expected(    before, cells, cell, tag, tabs, at) {
+function expected(    before, cells, cell, tag, tabs, at, next_one) {
     # these bytes are right, so they are letters, digits, - and tabs
     for (at = start; at < place; at++)
         before = before sprintf("%c", code[at])
@@ -74,7 +74,7 @@ function expected(    before, cells, cell, tag, tabs, at) {
     if (substr(tag, byte, 1) == "\t")
         return "a tab is expected here"
     if (byte <= length(tag))
-        return "the " cell[1] " line is expected, so " substr(tag, byte, 1) " here"
+        return article(cell[1]) " " cell[1] " line is expected, so " substr(tag, byte, 1) " here"
     if (cells == 1)
         return "the line's end is expected here"
     at = 2 * (gsub(/\t/, "\t", before) - tabs)
@@ -83,7 +83,15 @@ function expected(    before, cells, cell, tag, tabs, at) {
         return "the " cell[at] " must be " cell[at + 1]
     if (before == "")
         return "the " cell[at] " (" cell[at + 1] ") is expected here"
-    return (at + 1 < cells ? "a tab and then the " cell[at + 2] : "the line's end") " is expected here" ending(before)
+    next_one = at + 1 < cells ? "a tab and then the " cell[at + 2] : ""
+    if (before == "0" || before == "-" || length(before) == 10)
+        return (next_one ? next_one : "the line's end") " is expected here" ending(before)
+    return "a digit" (next_one ? ", or " next_one "," : " or the line's end") " is expected here"
+}
+
+# Of FIT and ENG lines there may be many.
+function article(tag) {
+    return tag == "FIT" ? "a" : tag == "ENG" ? "an" : "the"
 }
 
 # The row of the line; a FIT line and END are told apart by their first byte.
@@ -95,12 +103,13 @@ function line_row() {
     return code[start] == 70 ? row["FIT"] : row["END"]
 }
 
-# Why a number ends here although a digit follows.
-function ending(digits) {
-    if (code[place] < 48 || code[place] > 57)
-        return ""
+# Why a number ends here although a digit follows, or after a dash another.
+function ending(digits,    digit) {
+    digit = code[place] >= 48 && code[place] <= 57
     if (digits == "-")
-        return " (- stands alone)"
+        return digit || code[place] == 45 ? " (- stands alone)" : ""
+    if (!digit)
+        return ""
     return digits == "0" ? " (a number has no leading 0)" : " (a number has at most 10 digits)"
 }
 
@@ -116,6 +125,8 @@ function found(    c, value) {
     }
     if (place == 1 && c == 239 && code[2] == 187 && code[3] == 191)
         return "there is a byte order mark: save the text without it"
+    if (place == 1 && (c == 254 && code[2] == 255 || c == 255 && code[2] == 254))
+        return "there is a byte order mark of UTF-16: save the text as UTF-8, without a mark"
     if (c == 9)
         return "there is a tab"
     if (c == 10)
