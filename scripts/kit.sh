@@ -18,12 +18,16 @@ quietly() { # COMMAND...
     rm -f "$heard"
 }
 
-# Proves and builds a program where that is still to be done, and dates it by when this began: rt leaves the date alone
-# where only dates or other crates changed, and scripts/run would take it for out of date for ever.
+# Proves and builds a program where that is still to be done, one script at a time where there is a flock: two would
+# take each other's unfinished proofs for failed. Dates it by when this began: rt leaves its date alone where only dates
+# or other crates changed, and scripts/run would take it for out of date for ever.
 build() { # NAME
     begun=$(mktemp)
     built=0
-    quietly rt check "$1" && touch -r "$begun" "target/bin/$1" || built=1
+    alone=
+    if command -v flock >/dev/null 2>&1; then alone='flock crates.txt'; fi
+    # shellcheck disable=SC2086
+    { quietly $alone rt check "$1" && touch -r "$begun" "target/bin/$1"; } || built=1
     rm -f "$begun"
     return $built
 }
