@@ -1,6 +1,6 @@
 -- What 02 (v) leaves as it was. The readers of whole texts and the answers of their calls as they stood before it are
--- kept here, and nowhere else: of a text that is refused only line and byte are new, what is accepted and what is left
--- in each lent buffer does not move.
+-- kept here, for laws of what did not move alone, here and in crates above: of a text that is refused only line and
+-- byte are new, what is accepted and what is left in each lent buffer does not move.
 use mathlib.Core.Path.{_≡_, refl}
 use mathlib.Core.Bool.{Bool, true, false, cond}
 use mathlib.Core.List.{List}
