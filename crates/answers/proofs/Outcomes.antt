@@ -1,11 +1,11 @@
--- A promise allows one outcome; a refusal is of the list.
+-- A promise allows one outcome; a refusal is of the list, and has a place or none.
 use mathlib.Core.Path.{_≡_, refl, sym, _∙_}
-use mathlib.Core.Bool.{true}
+use mathlib.Core.Bool.{true, false}
 use mathlib.Core.Logic.{_⊎_, inl, inr}
 use Prim.Native.Nat.{ℕ}
 use Rattle.answers.specs.declared.Answer.{Answer}
 use Rattle.answers.specs.declared.Answer.the-variants.{RefusedAt}
-use Rattle.answers.specs.Values.{isListed}
+use Rattle.answers.specs.Values.{isListed, isPlaced}
 use Rattle.answers.specs.Settled.{Settled}
 
 -- two outcomes that a promise allows are equal
@@ -22,3 +22,7 @@ OfList a = isListed a ≡ true
 pub text-listed : {number : ℕ} (line byte : ℕ) → (number ≡ 2) ⊎ (number ≡ 3) → OfList (RefusedAt number line byte)
 text-listed line byte (inl e) = rw e refl
 text-listed line byte (inr e) = rw e refl
+
+-- an answer without a place
+abbrev pub Unplaced : Answer → Type 0
+Unplaced a = isPlaced a ≡ false

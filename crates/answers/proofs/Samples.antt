@@ -6,7 +6,7 @@ use Rattle.answers.specs.declared.Answer.the-variants.{Refused, RefusedA
 use Rattle.answers.specs.Refusals.{badMemory, brokenLine, outsideLimits, full, noHull, noDesk, noDraft}
 use Rattle.answers.specs.Refusals.{editedSince, editsSpent, badRows, noRow, noLoad, noPower, untested, noPersons}
 use Rattle.answers.specs.Refusals.{noRoom, emptyLine}
-use Rattle.answers.specs.Values.{faced, isRefusal, isListed}
+use Rattle.answers.specs.Values.{faced, isRefusal, isListed, isPlaced}
 use mathlib.Core.Bool.{true, false}
 
 -- in 01's order
@@ -24,6 +24,12 @@ listed-right :
     ∷ Done ∷ Count 0 ∷ Plate 0 0 ∷ [])
     ≡ false ∷ true ∷ true ∷ false ∷ false ∷ true ∷ true ∷ false ∷ true ∷ true ∷ true ∷ []
 listed-right = refl
+
+-- of the five cases one has a place
+placed-right :
+    map isPlaced (Refused 3 ∷ RefusedAt 2 0 0 ∷ Done ∷ Count 718 ∷ Plate 326 20000 ∷ [])
+    ≡ false ∷ true ∷ false ∷ false ∷ false ∷ []
+placed-right = refl
 
 answers-right :
     map faced (Refused 12 ∷ RefusedAt 2 35 1 ∷ RefusedAt 3 10 6 ∷ Done ∷ Count 718 ∷ Plate 326 20000 ∷ [])

@@ -29,3 +29,11 @@ isListed (RefusedAt number line byte) = leb badMemory number && leb number empty
 isListed Done = true
 isListed (Count n) = true
 isListed (Plate a b) = true
+
+-- whether it has a place, which only a text's refusal has
+abbrev pub isPlaced : Answer → Bool
+isPlaced (Refused n) = false
+isPlaced (RefusedAt n line byte) = true
+isPlaced Done = false
+isPlaced (Count n) = false
+isPlaced (Plate a b) = false

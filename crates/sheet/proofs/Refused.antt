@@ -1,4 +1,5 @@
--- Which refusal of a call on texts comes first; and a refused call leaves every lent byte as it stood.
+-- Which refusal of a call on texts comes first, and which has a place; and a refused call leaves every lent byte as it
+-- stood.
 use mathlib.Core.Path.{_≡_, refl}
 use mathlib.Core.Bool.{Bool, true, false, _&&_, cond}
 use mathlib.Core.List.{List}
@@ -6,10 +7,11 @@ use Prim.Native.Nat.{ℕ}
 use lib.Dec.{leb}
 use lib.ListN.{length}
 use Rattle.ground.specs.Lists.{putFirst}
-use Rattle.ground.proofs.Booleans.{false-true}
+use Rattle.ground.proofs.Booleans.{either, false-true}
 use Rattle.answers.specs.Values.{isRefusal}
 use Rattle.answers.specs.Refusals.{outsideLimits, noRoom}
-use Rattle.answers.specs.declared.Answer.the-variants.{Refused, RefusedAt, Count}
+use Rattle.answers.specs.declared.Answer.the-variants.{Refused, RefusedAt, Done, Count}
+use Rattle.answers.proofs.Outcomes.{Unplaced}
 use Rattle.form.specs.Parts.{Rows}
 use Rattle.form.specs.Outcome.{Verdict, right, wrong}
 use Rattle.sheet.specs.Sheet.{sheetOk}
@@ -27,6 +29,19 @@ outside-first s room e = rw e refl
 pub fault-first : (t : List ℕ) (a b number line byte : ℕ) → readEngines t ≡ wrong number line byte
     → enginesAnswer (readEngines t) a b ≡ RefusedAt number line byte
 fault-first t a b number line byte e = rw e refl
+
+-- ---- a text's refusal has the place that the reader found, whichever it is; a sheet's, which is no text, has none
+
+pub read-told : (t : List ℕ) (number line byte : ℕ) → readSheet t ≡ wrong number line byte
+    → readAnswer (readSheet t) ≡ RefusedAt number line byte
+read-told t number line byte e = rw e refl
+
+pub read-done : (t s : List ℕ) → readSheet t ≡ right s → readAnswer (readSheet t) ≡ Done
+read-done t s e = rw e refl
+
+pub write-unplaced : (s : List ℕ) (room : ℕ) → Unplaced (writeAnswer s room)
+write-unplaced s room =
+    either Unplaced (sheetOk s) (either Unplaced (leb (length (sheetText s)) room) refl refl) refl
 
 -- ---- a refused call leaves what was lent
 
