@@ -7,7 +7,7 @@ use lib.IntN.{subℕ}
 use Rattle.ground.proofs.Booleans.{either}
 use Rattle.answers.specs.declared.Answer.the-variants.{Refused, Count, Plate}
 use Rattle.answers.specs.Refusals.{badRows, noRow, noLoad, noPower, untested, noPersons}
-use Rattle.answers.proofs.Outcomes.{OfList}
+use Rattle.answers.proofs.Outcomes.{OfList, Unplaced}
 use Rattle.capacity.specs.Whole.{isBelow, orZero}
 use Rattle.capacity.specs.PlateC.{markedC, rowsRight, lacksRow, engineWeight, liveLoad, persons, lacksTests}
 use Rattle.capacity.specs.PlateC.{plateC}
@@ -121,3 +121,27 @@ pub plate-listed : (k : PlateKind) (s : List ℕ) → OfList (plateOf k s)
 plate-listed kindA s = search (a-listed, c-listed, u-listed)
 plate-listed (kindC ps ws) s = search (a-listed, c-listed, u-listed)
 plate-listed kindU s = search (a-listed, c-listed, u-listed)
+
+-- ---- and without a place
+
+a-unplaced : (s : List ℕ) → Unplaced (plateA s)
+unfolding plateA
+a-unplaced s = either Unplaced (isBelow (markedA s) 1) refl (either Unplaced (lacksPower s) refl refl)
+
+c-unplaced : (s ps ws : List ℕ) → Unplaced (plateC s ps ws)
+unfolding plateC
+c-unplaced s ps ws =
+    let live = liveLoad s ps ws in
+    either Unplaced (not (rowsRight ps ws)) refl
+    (either Unplaced (isBelow (markedC s) 1) refl
+    (either Unplaced (lacksRow s ps) refl
+    (either Unplaced (lacksTests s live) refl (either Unplaced (isBelow (persons s live) 1) refl refl))))
+
+u-unplaced : (s : List ℕ) → Unplaced (plateU s)
+unfolding plateU
+u-unplaced s = either Unplaced (isBelow (markedU s) 1) refl refl
+
+pub plate-unplaced : (k : PlateKind) (s : List ℕ) → Unplaced (plateOf k s)
+plate-unplaced kindA s = a-unplaced s
+plate-unplaced (kindC ps ws) s = c-unplaced s ps ws
+plate-unplaced kindU s = u-unplaced s

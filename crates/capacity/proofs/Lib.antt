@@ -15,7 +15,7 @@ pub mod PoundsWorked  -- as the code works them
 pub mod Persons  -- live load, and the least of the limits on persons
 pub mod Engines  -- engine rows, one after the other, and an engine's weight
 pub mod RowsRead  -- rows that were read are never refused
-pub mod Answers  -- the answers, by what the code has found
+pub mod Answers  -- the answers, by what the code has found; refusals of the list, without a place
 pub mod Boats  -- the boats of the computed cases
 pub mod CasesA  -- cases of plate A
 pub mod CasesC  -- of plate C
