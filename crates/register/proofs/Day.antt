@@ -58,6 +58,14 @@ heavier = "MASS\t203334\t0\t0\n"
 text : String → List ℕ
 text = numbered-text "HULL\t9\n"
 
+-- a weight's eleventh digit is the 18th byte of line 13; and a text that is not read
+eleven-digits : List ℕ
+eleven-digits =
+    sheetWith "HULL\t9\n" form mass power seats (bytes "FIT\t1\t1\nFIT\t2\t1\nFIT\t24\t12345678901\nEND\n")
+
+too-long : List ℕ
+too-long = replicate 4097 72
+
 -- an engine row whose weight, taken for its power, would not reach the declared power
 rows : List ℕ
 rows = 20000 ∷ []
@@ -80,7 +88,8 @@ writes h room = ask h (write (replicate room 7))
 day : List Must
 day =
     (newHull (text mass) must Count 0) ∷ (newHull (text heavier) must Count 1)
-    ∷ (newHull (text "MASS\t0\t0\t0\n") must RefusedAt 3 8 6)
+    ∷ (newHull (text "MASS\t0\t0\t0\n") must RefusedAt 3 8 6) ∷ (newHull eleven-digits must RefusedAt 2 13 18)
+    ∷ (newHull too-long must RefusedAt 2 0 0)
     -- no such desk, hull or draft
     ∷ (openHull 8 1 must Refused 6) ∷ (openHull 0 2 must Refused 5) ∷ (save 0 must Refused 7)
     -- desk 0 works on hull 0, where desk 7 has opened it too
@@ -96,6 +105,7 @@ day =
     ∷ (marks 2 kindU must Refused 5)
     -- replace, then drop: nothing of it is left
     ∷ (openHull 3 1 must Count 0) ∷ (work 3 (replace (bytes "HULL\t9\n")) must RefusedAt 2 2 1)
+    ∷ (work 3 (replace eleven-digits) must RefusedAt 2 13 18) ∷ (work 3 (replace too-long) must RefusedAt 2 0 0)
     ∷ (work 3 (replace (text mass)) must Done) ∷ (tries 3 kindA must Plate 327 20000)
     ∷ (dropDraft 3 must Done) ∷ (tries 3 kindA must Refused 7) ∷ (tries 3 kindU must Refused 7)
     ∷ (tries 8 kindU must Refused 6) ∷ (work 3 (replace []) must Refused 7) ∷ (marks 1 kindA must Plate 326 20000)
@@ -104,7 +114,7 @@ day =
     ∷ []
 
 a-day : given freshWords day ≡ map wanted day
-unfolding given day text numbered-text rows grams freshWords entered opened fitted replaced dropped saved each hullOk
+unfolding given day text numbered-text eleven-digits too-long rows grams freshWords entered opened fitted replaced dropped saved each hullOk
     draftOk formed hullRefusal deskRefusal roomRefusal openRefusal readSheet sheetForm numbersOn numbersOf fitsOf
     weightsFrom readForm readParts readRows kindOf readLine agreed readNumbers readEntry fieldOf numberOf restOf feeds
     sinceFeed allHold sheetLimits limitsOn sheetText rowsOn fitRows partsText rowsText numbersText digitsOf digitsIn

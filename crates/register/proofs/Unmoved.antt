@@ -1,7 +1,7 @@
 -- What 02 (v) leaves of the calls on the register as it was: only the answers of a new hull and of replace have a line
 -- and a byte more, where their text is refused; memory and lent output are the same after every call.
 use mathlib.Core.Path.{_≡_, refl, ap}
-use mathlib.Core.Bool.{Bool, true, false, true≢false, cond}
+use mathlib.Core.Bool.{Bool, true, false, cond}
 use mathlib.Core.List.{List}
 use Prim.Native.Nat.{ℕ}
 use lib.Dec.{eqb}
@@ -86,25 +86,3 @@ step-unmoved m c =
       memory-same = rw (← makes-same m c) (leaves-same (makes m c) m u);
       output-same = leaves-same (fills m c) (lent c) u;
     }
-
--- ---- a call that takes no text
-
-abbrev takesText : Call → Bool
-takesText (newHull t) = true
-takesText (openHull d h) = false
-takesText (work d w) = elim w [ put line weight ↦ false | takeOff line ↦ false | replace t ↦ true | tryPlate k ↦ false ]
-takesText (save d) = false
-takesText (dropDraft d) = false
-takesText (ask h q) = false
-
--- answers as it did: a put's 3 has no place
-pub textless-same : (m : List ℕ) (c : Call) → takesText c ≡ false → step m c ≡ formerStep m c
-textless-same m (newHull t) h = absurd (true≢false h)
-textless-same m (openHull d j) h = refl
-textless-same m (work d (put line weight)) h = refl
-textless-same m (work d (takeOff line)) h = refl
-textless-same m (work d (replace t)) h = absurd (true≢false h)
-textless-same m (work d (tryPlate k)) h = refl
-textless-same m (save d) h = refl
-textless-same m (dropDraft d) h = refl
-textless-same m (ask j q) h = refl
