@@ -55,11 +55,9 @@ past-text : (t : List ℕ) (a : Answer) (x m : List ℕ)
     → formed (leaves (onText t a) x m) ≡ true
 past-text t a x m ok f = go (readSheet t) refl
   where
-    go : (r : Verdict (List ℕ))
-        → readSheet t ≡ r
-        → formed (leaves (elim r [ right s ↦ a | wrong number line byte ↦ RefusedAt number line byte ]) x m) ≡ true
-    go (right s) e = f (text-words t s e)
-    go (wrong number line byte) e = ok
+    go : (r : Verdict (List ℕ)) → readSheet t ≡ r → formed (leaves (onText t a) x m) ≡ true
+    go (right s) e = let k = text-words t s e in rw (e, onText) (f k)
+    go (wrong number line byte) e = rw (e, onText) ok
 
 -- ---- the calls
 

@@ -11,7 +11,7 @@ use Rattle.form.specs.Outcome.{Verdict, right, wrong}
 use Rattle.ground.proofs.Booleans.{either}
 use Rattle.answers.specs.Refusals.{badMemory, emptyLine}
 use Rattle.answers.specs.declared.Answer.{Answer}
-use Rattle.answers.specs.declared.Answer.the-variants.{Refused, RefusedAt, Done, Count}
+use Rattle.answers.specs.declared.Answer.the-variants.{Refused, Done, Count}
 use Rattle.answers.proofs.Outcomes.{OfList, text-listed}
 use Rattle.sheet.specs.Lines.{fittings, fittingHigh}
 use Rattle.sheet.specs.Places.{fittingWord}
@@ -43,10 +43,9 @@ by-refusal refusal a h k = go (eqb refusal 0) refl
 by-text : (t : List ℕ) (a : Answer) → OfList a → OfList (onText t a)
 by-text t a h = go (readSheet t) refl
   where
-    go : (r : Verdict (List ℕ)) → readSheet t ≡ r
-        → OfList (elim r [ right s ↦ a | wrong number line byte ↦ RefusedAt number line byte ])
-    go (right s) e = h
-    go (wrong number line byte) e = text-listed line byte (sheet-fault t number line byte e)
+    go : (r : Verdict (List ℕ)) → readSheet t ≡ r → OfList (onText t a)
+    go (right s) e = rw (e, onText) h
+    go (wrong number line byte) e = rw (e, onText) (text-listed line byte (sheet-fault t number line byte e))
 
 -- ---- what calls share
 

@@ -4,7 +4,8 @@
 use mathlib.Core.Path.{_≡_, refl}
 use mathlib.Core.Bool.{Bool, true, false, true≢false}
 use mathlib.Core.List.{List, _∷_}
-use Prim.Native.Nat.{ℕ, _+_}
+use Prim.Native.Nat.{ℕ, _+_, _<_}
+use native.Mathlib.Omega.{arith}
 use lib.Dec.{eqb}
 use lib.ListN.{length}
 use Rattle.ground.proofs.Booleans.{either}
@@ -13,6 +14,7 @@ use Rattle.answers.specs.declared.Answer.{Answer}
 use Rattle.answers.specs.declared.Answer.the-variants.{RefusedAt, Done, Count}
 use Rattle.answers.proofs.Outcomes.{Unplaced}
 use Rattle.sheet.specs.SheetText.{readSheet}
+use Rattle.sheet.proofs.Places.{sheet-places, rooms-right}
 use Rattle.sheet.proofs.Refused.{write-unplaced}
 use Rattle.capacity.proofs.Answers.{plate-unplaced}
 use Rattle.memory.specs.Layout.{hullCount, edit, hullSheet, draftHull, draftSheet}
@@ -21,12 +23,18 @@ use Rattle.register.specs.Calls.{put, takeOff, replace, tryPlate, plate,
 use Rattle.register.specs.Calls.{Call, newHull, openHull, work, save, dropDraft, ask}
 use Rattle.register.specs.Calls.{shared, own, freshStep, step}
 
--- ---- a call that takes a text
+-- ---- a call that takes a text; what is found of any text is `sheet-places`
+
+text-long : (t : List ℕ) → 4096 < length t → readSheet t ≡ wrong 2 0 0
+text-long t h = sheet-places .too-long t (omega (arith, rooms-right .0))
 
 module _ (m t : List ℕ) (z : shared m (newHull t) ≡ 0) where
   pub new-hull-told : (number line byte : ℕ) → readSheet t ≡ wrong number line byte
       → step m (newHull t) .answer ≡ RefusedAt number line byte
   new-hull-told number line byte e = rw (z, e, onText) refl
+
+  pub new-hull-long : 4096 < length t → step m (newHull t) .answer ≡ RefusedAt 2 0 0
+  new-hull-long h = new-hull-told 2 0 0 (text-long t h)
 
   pub new-hull-done : (s : List ℕ) → readSheet t ≡ right s → step m (newHull t) .answer ≡ Count (hullCount m)
   new-hull-done s e = rw (z, e, onText) refl
@@ -35,6 +43,9 @@ module _ (m : List ℕ) (d : ℕ) (t : List ℕ) (z : shared m (work d (replace 
   pub replace-told : (number line byte : ℕ) → readSheet t ≡ wrong number line byte
       → step m (work d (replace t)) .answer ≡ RefusedAt number line byte
   replace-told number line byte e = rw (z, e, onText) refl
+
+  pub replace-long : 4096 < length t → step m (work d (replace t)) .answer ≡ RefusedAt 2 0 0
+  replace-long h = replace-told 2 0 0 (text-long t h)
 
   pub replace-done : (s : List ℕ) → readSheet t ≡ right s → step m (work d (replace t)) .answer ≡ Done
   replace-done s e = rw (z, e, onText) refl
