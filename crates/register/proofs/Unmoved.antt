@@ -1,5 +1,5 @@
--- What 02 (v) leaves of the calls on the register as it was: only the answers of a new hull and of replace have a line
--- and a byte more, where their text is refused; memory and lent output are the same after every call.
+-- What 02 (v) leaves of the calls on the register as it was: an answer has a line and a byte more or is the same, and
+-- memory and lent output are the same after every call. That a new hull and replace alone have them is in `Told`.
 use mathlib.Core.Path.{_≡_, refl, ap}
 use mathlib.Core.Bool.{Bool, true, false, cond}
 use mathlib.Core.List.{List}
@@ -14,7 +14,7 @@ use Rattle.sheet.proofs.Unmoved.{formerSheet, Alike, said, refused, sheet-alike
 use Rattle.memory.specs.Layout.{hullCount}
 use Rattle.memory.specs.Updates.{entered, replaced}
 use Rattle.register.specs.Refusals.{orRefused, leaves, sheetOf, onText}
-use Rattle.register.specs.Calls.{put, takeOff, replace, tryPlate}
+use Rattle.register.specs.Calls.{put, takeOff, replace, tryPlate, plate, write}
 use Rattle.register.specs.Calls.{Call, newHull, openHull, work, save, dropDraft, ask}
 use Rattle.register.specs.Calls.{shared, own, makes, fills, lent, Step, step}
 use Rattle.register.proofs.FormerStep.{formerSheetOf, formerOnText, formerOwn, formerMakes, formerStep}
@@ -48,7 +48,8 @@ own-unmoved m (work d (replace t)) = text-unmoved t Done
 own-unmoved m (work d (tryPlate k)) = same refl
 own-unmoved m (save d) = same refl
 own-unmoved m (dropDraft d) = same refl
-own-unmoved m (ask h q) = same refl
+own-unmoved m (ask h (plate k)) = same refl
+own-unmoved m (ask h (write out)) = same refl
 
 makes-same : (m : List ℕ) (c : Call) → makes m c ≡ formerMakes m c
 makes-same m (newHull t) = ap (entered m) (sheet-same t)
