@@ -62,6 +62,8 @@ stops-past O {t = t} {j = j} {rs = rs} i b s =
       before = rs;
       rest = drop j t;
       into = i;
+      many = b .many;
+      few = b .few;
       held = b .held;
       text = b .led .start;
       place = omega (arith, b .led .count);

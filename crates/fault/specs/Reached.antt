@@ -75,24 +75,28 @@ abbrev pub nextOf : ℕ → Rows → ℕ
 nextOf next [] = next
 nextOf next (r ∷ rs) = nextOf (nextAfter r) rs
 
--- rows within their limits, the first from next on, and then the line that is refused
-pub record RowsStop (number : ℕ) (p : Part) (next : ℕ) (t : List ℕ) (k : ℕ) : Type 0 where
+-- rows within their limits, the first from next on, and then the line that is refused: it is one of the `left` lines
+-- that there may be
+pub record RowsStop (number : ℕ) (p : Part) (left next : ℕ) (t : List ℕ) (k : ℕ) : Type 0 where
   pub before : Rows
   pub rest : List ℕ
   pub into : ℕ
   pub letter : ℕ
   pub line : Line
   pub kind : kindOf (p .kinds) letter ≡ some line
+  pub few : length before < left
   pub held : rowsOk p next before ≡ true
   pub text : t ≡ rowsText (p .kinds) before ++ rest
   pub place : k ≡ length (rowsText (p .kinds) before) + into
   pub stops : LineStops number (raised (p .rising) (nextOf next before) line) rest into
 
--- rows within their limits, and then what O says of the rest
+-- as many rows as the part may have, all within their limits, and then what O says of the rest
 pub record RowsPassed (p : Part) (next : ℕ) (O : Spot) (t : List ℕ) (k : ℕ) : Type 0 where
   pub before : Rows
   pub rest : List ℕ
   pub into : ℕ
+  pub many : p .least ≤ length before
+  pub few : length before ≤ p .most
   pub held : rowsOk p next before ≡ true
   pub text : t ≡ rowsText (p .kinds) before ++ rest
   pub place : k ≡ length (rowsText (p .kinds) before) + into
@@ -101,7 +105,7 @@ pub record RowsPassed (p : Part) (next : ℕ) (O : Spot) (t : List ℕ) (k : ℕ
 -- in one of the parts; or after them all, where nothing may stand
 abbrev pub PartsStop : ℕ → List Part → Spot
 PartsStop number [] t k = (number ≡ brokenLine) × (k ≡ 0)
-PartsStop number (p ∷ ps) t k = RowsStop number p 0 t k ⊎ RowsPassed p 0 (PartsStop number ps) t k
+PartsStop number (p ∷ ps) t k = RowsStop number p (p .most) 0 t k ⊎ RowsPassed p 0 (PartsStop number ps) t k
 
 -- ---- a text that is refused
 
