@@ -23,6 +23,9 @@ pub mod Ended  -- a broken limit stands in a field that has ended, and nothing b
 pub mod LineEnded  -- so of a line
 pub mod RowsEnded  -- of rows
 pub mod PartsEnded  -- and of a text
+pub mod LineSettled  -- a line up to a place settles what its reader says
+pub mod RowsSettled  -- so of rows
+pub mod PartsSettled  -- and of a text
 pub mod Theorems  -- a refusal's place, of every form
 pub mod Verdicts  -- and of a whole text, with line and byte
 pub mod Longest  -- how long a text by the rules can be

@@ -25,6 +25,7 @@ use Rattle.fault.proofs.Made.{sayable}
 use Rattle.fault.proofs.Parts.{parts-taken, parts-stop}
 use Rattle.fault.proofs.Ended.{afterField, Ended, ended-before}
 use Rattle.fault.proofs.PartsEnded.{parts-ended}
+use Rattle.fault.proofs.PartsSettled.{parts-settled}
 
 module _ (f : Form) (made : wellMade f ≡ true) (said : sayable (f .parts) ≡ true) where
   parts-made : partsMade (f .parts) ≡ true
@@ -92,6 +93,11 @@ module _ (f : Form) (made : wellMade f ≡ true) (said : sayable (f .parts) ≡ 
       go (accepted j v e) = absurd (p .wrong (parts-accepted t j v e .0))
       go (broken j e) = inl (rw (one-place (form-place t j e) p) at e)
       go (outside j e) = inr (j, e, ended-before (limit-ended t j e) p)
+
+  -- a text that up to k is within its limits, and at k has a number outside them, is refused with 3 at k
+  pub limit-settled : (t : List ℕ) (k : ℕ) → PartsStop outsideLimits (f .parts) t k
+      → readParts (f .parts) t ≡ lost outsideLimits k
+  limit-settled t k s = parts-settled (f .parts) t k parts-made said s
 
   -- a text by the rules is read to its end, or refused with 3
   pub right-read : (t : List ℕ) → ByRules f t

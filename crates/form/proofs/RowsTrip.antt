@@ -34,7 +34,7 @@ rows-more p left need next t l e = rw (e, readRows)
 
 -- ---- what is written reads back
 
-row-forth : (p : Part) (next : ℕ) (r : Row) (l : Line) (rest : List ℕ) → kindsMade (p .kinds) ≡ true
+pub row-forth : (p : Part) (next : ℕ) (r : Row) (l : Line) (rest : List ℕ) → kindsMade (p .kinds) ≡ true
     → kindOf (p .kinds) (r .letter) ≡ some l
     → allHold (risen (p .rising) next (l .limits)) 0 (r .numbers) ≡ true
     → readRow (p .rising) next l (lineText l (r .numbers) ++ rest) ≡ took (length (lineText l (r .numbers))) r
