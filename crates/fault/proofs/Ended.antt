@@ -36,7 +36,7 @@ ended-before {R} {t} {k} {j} e p = by-less k (afterField t j) (λ h. absurd (not
         })
 
 -- what stands after x, and x before it
-after-later : (x t : List ℕ) (k : ℕ) → afterField (x ++ t) (length x + k) ≡ length x + afterField t k
+pub after-later : (x t : List ℕ) (k : ℕ) → afterField (x ++ t) (length x + k) ≡ length x + afterField t k
 after-later x t k =
     let d : drop (length x + k) (x ++ t) ≡ drop k t =
     sym (drop-drop k (length x) (x ++ t)) ∙ ap (drop k) (drop-append-seam x t) in

@@ -23,9 +23,13 @@ pub mod Ended  -- a broken limit stands in a field that has ended, and nothing b
 pub mod LineEnded  -- so of a line
 pub mod RowsEnded  -- of rows
 pub mod PartsEnded  -- and of a text
+pub mod KindTold  -- what stands before a place tells of which kind of line a text begins
 pub mod LineSettled  -- a line up to a place settles what its reader says
 pub mod RowsSettled  -- so of rows
 pub mod PartsSettled  -- and of a text
+pub mod LineReach  -- a line that stops with 2: its reader comes as far as the field there
+pub mod RowsReach  -- so of rows
+pub mod PartsReach  -- and of a text
 pub mod Theorems  -- a refusal's place, of every form
 pub mod Verdicts  -- and of a whole text, with line and byte
 pub mod Longest  -- how long a text by the rules can be

@@ -4,23 +4,24 @@ use mathlib.Core.Path.{_≡_, refl, sym, ap, _∙_}
 use mathlib.Core.Bool.{Bool, true, true≢false}
 use mathlib.Core.List.{List, [], _∷_, _++_, append-assoc}
 use mathlib.Core.Option.{Option, none, some}
-use Prim.Native.Nat.{ℕ, zero, suc, _+_, _-_, _≤_, _<_}
+use Prim.Native.Nat.{ℕ, zero, suc, _+_, _-_, _≤_}
 use native.Mathlib.Nat.{add-assoc, zero-add}
 use native.Mathlib.Omega.{arith}
-use lib.ListN.{length, drop, getD, length-append}
+use lib.ListN.{length, length-append}
 use lib.Seq.{drop-append-seam}
 use Rattle.answers.specs.Refusals.{outsideLimits}
 use Rattle.ground.proofs.Booleans.{both-hold}
 use Rattle.text.specs.declared.LineRead.the-variants.{Fault}
 use Rattle.text.specs.Line.{Line, readLine, lineText}
-use Rattle.form.specs.Parts.{Part, Row, Rows, letterOf, kindOf, raised, nextAfter}
-use Rattle.form.specs.Outcome.{Found, took, lost, ahead, outcome}
+use Rattle.form.specs.Parts.{Part, Row, Rows, kindOf, raised, nextAfter}
+use Rattle.form.specs.Outcome.{Found, took, lost, ahead}
 use Rattle.form.specs.Reading.{kindAt, readRow, readRows}
 use Rattle.form.specs.Writing.{rowOk, rowsOk, rowText, rowsText}
 use Rattle.form.proofs.Letters.{kind-letter, kindsMade, kind-made, line-at, raised-narrow}
 use Rattle.form.proofs.RowsTrip.{rows-more, row-forth}
-use Rattle.fault.specs.Reached.{LineStops, inTag, inNumbers, nextOf, RowsStop}
+use Rattle.fault.specs.Reached.{nextOf, RowsStop}
 use Rattle.fault.proofs.OneOf.{tagged}
+use Rattle.fault.proofs.KindTold.{line-told}
 use Rattle.fault.proofs.LineSettled.{line-settled}
 
 -- ---- rows within their limits
@@ -83,18 +84,7 @@ rows-past p (r ∷ rs) (suc left) need next rest m h a =
 
 -- ---- and then a line with a number outside
 
-tag-kind : (kinds : List Line) (tag rest : List ℕ) → 0 < length tag
-    → kindAt kinds (tag ++ rest) ≡ kindOf kinds (getD tag 0 0)
-tag-kind kinds [] rest h = absurd (omega arith)
-tag-kind kinds (b ∷ tag) rest h = refl
-
-stop-kind : (kinds : List Line) (up : Bool) (next : ℕ) (l : Line) (t : List ℕ) (k : ℕ) → 0 < length (l .tag)
-    → LineStops outsideLimits (raised up next l) t k
-    → kindAt kinds t ≡ kindOf kinds (letterOf l)
-stop-kind kinds up next l t k h (inTag q a x) = absurd (omega arith)
-stop-kind kinds up next l t k h (inNumbers rest into q e p) = rw q (tag-kind kinds (l .tag) rest h)
-
-pub row-fault : (up : Bool) (next : ℕ) (l : Line) (t : List ℕ) (number k : ℕ)
+row-fault : (up : Bool) (next : ℕ) (l : Line) (t : List ℕ) (number k : ℕ)
     → readLine (raised up next l) t .ended ≡ Fault number k
     → readRow up next l t ≡ lost number k
 row-fault up next l t number k e = rw e
@@ -108,7 +98,8 @@ rows-settled p left need next t k m s =
     let least : ℕ = need - length (s .before) in
     let made = kind-made (p .kinds) (s .letter) (s .line) m (s .kind) in
     let kind : kindAt (p .kinds) (s .rest) ≡ some (s .line) =
-    stop-kind (p .kinds) (p .rising) from (s .line) (s .rest) (s .into) (tagged (s .line) made) (s .stops)
+    line-told (p .kinds) outsideLimits (p .rising) from (s .line) (s .rest) (s .into) (tagged (s .line) made)
+    (λ q. absurd (omega arith)) (s .stops)
     ∙ rw (← kind-letter (p .kinds) (s .letter) (s .line) (s .kind)) (s .kind) in
     let line = line-settled (raised (p .rising) from (s .line)) (s .rest) (s .into)
     (raised-narrow (p .rising) from (s .line) made) (s .stops) in

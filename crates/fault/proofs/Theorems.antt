@@ -97,7 +97,7 @@ module _ (f : Form) (made : wellMade f ≡ true) (said : sayable (f .parts) ≡ 
   -- a text that up to k is within its limits, and at k has a number outside them, is refused with 3 at k
   pub limit-settled : (t : List ℕ) (k : ℕ) → PartsStop outsideLimits (f .parts) t k
       → readParts (f .parts) t ≡ lost outsideLimits k
-  limit-settled t k s = parts-settled (f .parts) t k parts-made said s
+  limit-settled t k s = parts-settled (f .parts) t k parts-made s
 
   -- a text by the rules is read to its end, or refused with 3
   pub right-read : (t : List ℕ) → ByRules f t

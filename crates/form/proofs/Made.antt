@@ -44,7 +44,7 @@ pub absent-none : (o : Option Line) → absent o ≡ true → o ≡ none
 absent-none none e = refl
 absent-none (some l) e = absurd (true≢false (sym e))
 
-disjoint-none : (kinds ms : List Line) (b : ℕ) (l : Line) → disjoint kinds ms ≡ true
+pub disjoint-none : (kinds ms : List Line) (b : ℕ) (l : Line) → disjoint kinds ms ≡ true
     → kindOf ms b ≡ some l
     → kindOf kinds b ≡ none
 unfolding disjoint kindOf
