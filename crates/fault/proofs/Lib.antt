@@ -30,6 +30,7 @@ pub mod PartsSettled  -- and of a text
 pub mod LineReach  -- a line that stops with 2: its reader comes as far as the field there
 pub mod RowsReach  -- so of rows
 pub mod PartsReach  -- and of a text
+pub mod Tellings  -- what a reader can say of a text that goes wrong, and of one by the rules
 pub mod Theorems  -- a refusal's place, of every form
 pub mod Verdicts  -- and of a whole text, with line and byte
 pub mod Longest  -- how long a text by the rules can be

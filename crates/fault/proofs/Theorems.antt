@@ -1,10 +1,12 @@
--- 02 (v), of every form of text that is well made and sayable: what a refusal's place is, and that a text's fault and
--- its refusal settle each other. A text that is too long is not read and has no place: nothing here is about it.
-use mathlib.Core.Path.{_≡_, refl}
+-- 02 (v), of every form of text that is well made and sayable: what a refusal's place is, with 2 and with 3; and the
+-- other way, that what is so of a place settles the refusal. These are of the parts as they are read, whatever the
+-- text's length: that a text too long is not read, and has no place, is said in Readers.
+use mathlib.Core.Path.{_≡_, refl, ap}
 use mathlib.Core.Bool.{true}
 use mathlib.Core.Logic.{_⊎_, inl, inr}
 use mathlib.Core.List.{List}
-use Prim.Native.Nat.{ℕ, _≤_}
+use Prim.Native.Nat.{ℕ}
+use native.Mathlib.Omega.{arith}
 use lib.Dec.{leb}
 use lib.ListN.{length}
 use Rattle.answers.specs.Refusals.{brokenLine, outsideLimits}
@@ -23,9 +25,17 @@ use Rattle.fault.specs.Reached.{PartsStop, Refusal}
 use Rattle.fault.proofs.Rules.{one-place}
 use Rattle.fault.proofs.Made.{sayable}
 use Rattle.fault.proofs.Parts.{parts-taken, parts-stop}
-use Rattle.fault.proofs.Ended.{afterField, Ended, ended-before}
+use Rattle.fault.proofs.Ended.{Ended, ended-before}
 use Rattle.fault.proofs.PartsEnded.{parts-ended}
 use Rattle.fault.proofs.PartsSettled.{parts-settled}
+use Rattle.fault.proofs.RowsReach.{reached}
+use Rattle.fault.proofs.PartsReach.{parts-reach}
+use Rattle.fault.proofs.Tellings as Tellings
+use Rattle.fault.proofs.Tellings.{Refusing, FaultTold, there, sooner, RulesTold}
+
+-- what the reader of parts says where it refuses
+abbrev pub lostAt : Form → List ℕ → Refusing
+lostAt f t number k = readParts (f .parts) t ≡ lost number k
 
 module _ (f : Form) (made : wellMade f ≡ true) (said : sayable (f .parts) ≡ true) where
   parts-made : partsMade (f .parts) ≡ true
@@ -82,35 +92,39 @@ module _ (f : Form) (made : wellMade f ≡ true) (said : sayable (f .parts) ≡ 
       go (lost number k) e = by number k e (fault (readParts (f .parts) t) number k (parts-plain (f .parts) t) e)
 
   -- a text that goes wrong at k is refused with 2 at k, or with 3 at a field that ended before k
-  pub wrong-refused : (t : List ℕ) (k : ℕ) → Faulty (ByRules f) t k
-      → (readParts (f .parts) t ≡ lost brokenLine k)
-      ⊎ ((j : ℕ) × (readParts (f .parts) t ≡ lost outsideLimits j) × (afterField t j ≤ k))
+  pub wrong-refused : (t : List ℕ) (k : ℕ) → Faulty (ByRules f) t k → FaultTold (lostAt f t) t k
   wrong-refused t k p = go (told t)
     where
-      go : Told t
-          → (readParts (f .parts) t ≡ lost brokenLine k)
-          ⊎ ((j : ℕ) × (readParts (f .parts) t ≡ lost outsideLimits j) × (afterField t j ≤ k))
+      go : Told t → FaultTold (lostAt f t) t k
       go (accepted j v e) = absurd (p .wrong (parts-accepted t j v e .0))
-      go (broken j e) = inl (rw (one-place (form-place t j e) p) at e)
-      go (outside j e) = inr (j, e, ended-before (limit-ended t j e) p)
+      go (broken j e) = there (rw (one-place (form-place t j e) p) at e)
+      go (outside j e) = sooner j e (ended-before (limit-ended t j e) p)
 
-  -- a text that up to k is within its limits, and at k has a number outside them, is refused with 3 at k
+  -- a text that goes wrong at k, and of which every field that ended before k is within its limits, is refused with 2 at
+  -- k
+  pub form-settled : (t : List ℕ) (k : ℕ) → Faulty (ByRules f) t k → PartsStop brokenLine (f .parts) t k
+      → readParts (f .parts) t ≡ lost brokenLine k
+  form-settled t k p s = go (wrong-refused t k p)
+    where
+      go : FaultTold (lostAt f t) t k → readParts (f .parts) t ≡ lost brokenLine k
+      go (there e) = e
+      go (sooner j e h) =
+          absurd (omega (arith, parts-reach (f .parts) t k j parts-made s (omega (arith, ap reached e))))
+
+  -- a text that has at k a number outside its limits, and before k every one within them, is refused with 3 at k
   pub limit-settled : (t : List ℕ) (k : ℕ) → PartsStop outsideLimits (f .parts) t k
       → readParts (f .parts) t ≡ lost outsideLimits k
   limit-settled t k s = parts-settled (f .parts) t k parts-made s
 
   -- a text by the rules is read to its end, or refused with 3
   pub right-read : (t : List ℕ) → ByRules f t
-      → ((v : List Rows) × (readParts (f .parts) t ≡ took (length t) v))
-      ⊎ ((j : ℕ) × (readParts (f .parts) t ≡ lost outsideLimits j))
+      → RulesTold ((v : List Rows) × (readParts (f .parts) t ≡ took (length t) v)) (lostAt f t)
   right-read t r = go (told t)
     where
-      go : Told t
-          → ((v : List Rows) × (readParts (f .parts) t ≡ took (length t) v))
-          ⊎ ((j : ℕ) × (readParts (f .parts) t ≡ lost outsideLimits j))
-      go (accepted j v e) = inl (v, rw (parts-back (f .parts) t j v e .count) at e)
+      go : Told t → RulesTold ((v : List Rows) × (readParts (f .parts) t ≡ took (length t) v)) (lostAt f t)
+      go (accepted j v e) = Tellings.accepted (v, rw (parts-back (f .parts) t j v e .count) at e)
       go (broken j e) = absurd (form-place t j e .wrong r)
-      go (outside j e) = inr (j, e)
+      go (outside j e) = Tellings.outside j e
 
   -- the text of whatever rows are within the limits is by the rules
   pub written-by-rules : (v : List Rows) → formOk f v ≡ true → ByRules f (formText f v)
