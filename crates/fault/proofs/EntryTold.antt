@@ -47,7 +47,7 @@ module _ (l : Limit) (ls : List Limit) (last : ℕ) (t : List ℕ) (S : Rule) (s
   Told (Misread number k) = Refused number k
 
   in-form : (k : ℕ) → Faulty (Then (Entry (l .rule) e) S) t k → k ≤ length f → Refused brokenLine k
-  in-form k p h = record { form = λ q. p; limits = inForm refl h }
+  in-form k p h = record { form = λ q. p; limits = inForm refl (omega arith) }
 
   -- ---- a `-` for none
 

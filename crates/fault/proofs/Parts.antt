@@ -56,14 +56,14 @@ stop-refused (b ∷ t) number k e =
 stops-past : (O : Spot) {p : Part} {t : List ℕ} {j : ℕ} {rs : Rows} (i : ℕ)
     → RowsBack p (p .most) (p .least) 0 t j rs
     → O (drop j t) i
-    → RowsPassed p 0 O t (j + i)
+    → RowsPassed p O t (j + i)
 stops-past O {t = t} {j = j} {rs = rs} i b s =
     record {
       before = rs;
       rest = drop j t;
       into = i;
-      many = b .many;
-      few = b .few;
+      many = omega (arith, b .many);
+      few = omega (arith, b .few);
       held = b .held;
       text = b .led .start;
       place = omega (arith, b .led .count);

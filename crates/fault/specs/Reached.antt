@@ -91,13 +91,13 @@ pub record RowsStop (number : ℕ) (p : Part) (left next : ℕ) (t : List ℕ) (
   pub stops : LineStops number (raised (p .rising) (nextOf next before) line) rest into
 
 -- as many rows as the part may have, all within their limits, and then what O says of the rest
-pub record RowsPassed (p : Part) (next : ℕ) (O : Spot) (t : List ℕ) (k : ℕ) : Type 0 where
+pub record RowsPassed (p : Part) (O : Spot) (t : List ℕ) (k : ℕ) : Type 0 where
   pub before : Rows
   pub rest : List ℕ
   pub into : ℕ
   pub many : p .least ≤ length before
   pub few : length before ≤ p .most
-  pub held : rowsOk p next before ≡ true
+  pub held : rowsOk p 0 before ≡ true
   pub text : t ≡ rowsText (p .kinds) before ++ rest
   pub place : k ≡ length (rowsText (p .kinds) before) + into
   pub there : O rest into
@@ -105,7 +105,7 @@ pub record RowsPassed (p : Part) (next : ℕ) (O : Spot) (t : List ℕ) (k : ℕ
 -- in one of the parts; or after them all, where nothing may stand
 abbrev pub PartsStop : ℕ → List Part → Spot
 PartsStop number [] t k = (number ≡ brokenLine) × (k ≡ 0)
-PartsStop number (p ∷ ps) t k = RowsStop number p (p .most) 0 t k ⊎ RowsPassed p 0 (PartsStop number ps) t k
+PartsStop number (p ∷ ps) t k = RowsStop number p (p .most) 0 t k ⊎ RowsPassed p (PartsStop number ps) t k
 
 -- ---- a text that is refused
 
