@@ -37,3 +37,4 @@ pub mod Longest  -- how long a text by the rules can be
 pub mod Readers  -- and of the reader that a call cites
 pub mod Examples  -- the form of samples: where its texts go wrong
 pub mod LimitExample  -- a text that breaks a limit, and is by the rules
+pub mod TwiceExample  -- two parts of one kind of line: what is outside the first is not let through
