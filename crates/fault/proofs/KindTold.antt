@@ -84,8 +84,8 @@ module _ (kinds : List Line) (number : ℕ) where
       go [] e =
           let made = kind-made (p .kinds) (s .letter) (s .line) m (s .kind) in
           let at : k ≡ 0 + s .into = rw e at (s .place) in
-          line-told kinds number (p .rising) (nextOf 0 (s .before)) (s .line) (s .rest) (s .into) (tagged (s .line) made)
-          (λ q. omega (arith, h q, at)) (s .stops)
+          line-told kinds number (p .rising) (nextOf 0 (s .before)) (s .line) (s .rest) (s .into)
+          (tagged (s .line) made) (λ q. omega (arith, h q, at)) (s .stops)
           ∙ rw (← kind-letter (p .kinds) (s .letter) (s .line) (s .kind))
           (disjoint-none kinds (p .kinds) (s .letter) (s .line) d (s .kind))
       go (r ∷ rs) e = row-away kinds p 0 r rs (s .rest) m d (rw e at (s .held))

@@ -37,7 +37,8 @@ parts-reach (p ∷ ps) t k j m (inl s) h =
 parts-reach (p ∷ ps) t k j m (inr s) h =
     let ms = both-hold (kindsMade (p .kinds)) (told p ps && partsMade ps) m in
     let ns = both-hold (told p ps) (partsMade ps) (ms .1) in
-    by-less 0 (s .into) (λ g. later (ms .0) (ns .0) (ns .1) g (parts-reach ps (s .rest) (s .into))) (λ g. here (ms .0) g)
+    by-less 0 (s .into) (λ g. later (ms .0) (ns .0) (ns .1) g (parts-reach ps (s .rest) (s .into)))
+    (λ g. here (ms .0) g)
   where
     x : List ℕ
     x = rowsText (p .kinds) (s .before)

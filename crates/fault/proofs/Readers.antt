@@ -80,7 +80,8 @@ module _ {A : Type 0} (f : Form) (made : wellMade f ≡ true) (said : sayable (f
         fault-settled = λ t line byte h w. ap (saying g) (wrong-settled f made said t h line byte w);
         outside-settled = λ t line byte h w. ap (saying g) (Verdicts.outside-settled f made said t h line byte w);
         fault-told = λ t k h p.
-            fault-reworded (refusedAt (readForm f) t) (refusedAt read t) (reworded t) t k (wrong-told f made said t h k p);
+            fault-reworded (refusedAt (readForm f) t) (refusedAt read t) (reworded t) t k
+            (wrong-told f made said t h k p);
         rules-told = λ t r.
             let few = parts-longest (f .parts) t r in
             by-rules t (right-told f made said t (omega (arith, few, room)) r);

@@ -114,12 +114,13 @@ day =
     ∷ []
 
 a-day : given freshWords day ≡ map wanted day
-unfolding given day text numbered-text eleven-digits too-long rows grams freshWords entered opened fitted replaced dropped saved each hullOk
-    draftOk formed hullRefusal deskRefusal roomRefusal openRefusal readSheet sheetForm numbersOn numbersOf fitsOf
-    weightsFrom readForm readParts readRows kindOf readLine agreed readNumbers readEntry fieldOf numberOf restOf feeds
-    sinceFeed allHold sheetLimits limitsOn sheetText rowsOn fitRows partsText rowsText numbersText digitsOf digitsIn
-    stationProduct volumeN netZ addedUp boatM exactX markedC rising rowsRight rowFor lacksRow engineWeight liveLoad
-    persons lacksTests plateC inboardX loadX markedA formulaWatts powerA plateA ruleU markedU plateU
+unfolding given day text numbered-text eleven-digits too-long rows grams freshWords entered opened fitted replaced
+    dropped saved each hullOk draftOk formed hullRefusal deskRefusal roomRefusal openRefusal readSheet sheetForm
+    numbersOn numbersOf fitsOf weightsFrom readForm readParts readRows kindOf readLine agreed readNumbers readEntry
+    fieldOf numberOf restOf feeds sinceFeed allHold sheetLimits limitsOn sheetText rowsOn fitRows partsText rowsText
+    numbersText digitsOf digitsIn stationProduct volumeN netZ addedUp boatM exactX markedC rising rowsRight rowFor
+    lacksRow engineWeight liveLoad persons lacksTests plateC inboardX loadX markedA formulaWatts powerA plateA ruleU
+    markedU plateU
 a-day = refl
 
 -- the bytes of a hull's text: the register's number, and nothing beyond the text
