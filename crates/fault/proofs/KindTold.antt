@@ -72,13 +72,13 @@ row-away kinds p next r rs rest m d h =
 -- ---- the parts
 
 module _ (kinds : List Line) (number : ℕ) where
-  rows-away : (p : Part) (t : List ℕ) (k : ℕ) → kindsMade (p .kinds) ≡ true
+  rows-stop-away : (p : Part) (t : List ℕ) (k : ℕ) → kindsMade (p .kinds) ≡ true
       → disjoint kinds (p .kinds) ≡ true
       → (number ≡ brokenLine → 0 < k)
       → RowsStop number p (p .most) 0 t k
       → kindAt kinds t ≡ none
   unfolding rowsText
-  rows-away p t k m d h s = rw (s .text) (go (s .before) refl)
+  rows-stop-away p t k m d h s = rw (s .text) (go (s .before) refl)
     where
       go : (rs : Rows) → s .before ≡ rs → kindAt kinds (rowsText (p .kinds) rs ++ s .rest) ≡ none
       go [] e =
@@ -90,22 +90,22 @@ module _ (kinds : List Line) (number : ℕ) where
           (disjoint-none kinds (p .kinds) (s .letter) (s .line) d (s .kind))
       go (r ∷ rs) e = row-away kinds p 0 r rs (s .rest) m d (rw e at (s .held))
 
-  pub parts-away : (ps : List Part) (t : List ℕ) (k : ℕ) → partsMade ps ≡ true
+  pub stop-away : (ps : List Part) (t : List ℕ) (k : ℕ) → partsMade ps ≡ true
       → apart kinds ps ≡ true
       → (number ≡ brokenLine → 0 < k)
       → PartsStop number ps t k
       → kindAt kinds t ≡ none
   unfolding partsMade apart rowsText
-  parts-away [] t k m a h (q, z) = absurd (omega (arith, h q))
-  parts-away (p ∷ ps) t k m a h (inl s) =
+  stop-away [] t k m a h (q, z) = absurd (omega (arith, h q))
+  stop-away (p ∷ ps) t k m a h (inl s) =
       let ms = both-hold (kindsMade (p .kinds)) (told p ps && partsMade ps) m in
       let b = both-hold (disjoint kinds (p .kinds)) (ltb 0 (p .least) || apart kinds ps) a in
-      rows-away p t k (ms .0) (b .0) h s
-  parts-away (p ∷ ps) t k m a h (inr s) =
+      rows-stop-away p t k (ms .0) (b .0) h s
+  stop-away (p ∷ ps) t k m a h (inr s) =
       let ms = both-hold (kindsMade (p .kinds)) (told p ps && partsMade ps) m in
       let ns = both-hold (told p ps) (partsMade ps) (ms .1) in
       let b = both-hold (disjoint kinds (p .kinds)) (ltb 0 (p .least) || apart kinds ps) a in
-      rw (s .text) (go (s .before) refl (ms .0) (b .0) (b .1) (parts-away ps (s .rest) (s .into) (ns .1)))
+      rw (s .text) (go (s .before) refl (ms .0) (b .0) (b .1) (stop-away ps (s .rest) (s .into) (ns .1)))
     where
       go : (rs : Rows) → s .before ≡ rs
           → kindsMade (p .kinds) ≡ true

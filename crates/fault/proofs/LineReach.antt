@@ -21,7 +21,7 @@ use Rattle.text.proofs.Limit.{narrow}
 use Rattle.text.proofs.Line.{line-tagged, line-untagged, extent, extent-shift}
 use Rattle.fault.specs.Reached.{FieldStops, inForm, inLimit, lastOf, NumbersStop, LineStops, inTag, inNumbers}
 use Rattle.fault.proofs.Ended.{afterField, after-later}
-use Rattle.fault.proofs.LineSettled.{numbers-past}
+use Rattle.fault.proofs.LineSettled.{numbers-read-on}
 
 -- wherever a field stands, it ends no sooner than the first
 pub first-field : (t : List ℕ) (j : ℕ) → length (fieldOf t) < afterField t j
@@ -55,7 +55,7 @@ numbers-reach ls last t k j w p h =
     let r : LineRead = readNumbers (p .later) (lastOf last (p .before)) (p .rest) .ended in
     let e : extent (readNumbers ls last t .ended) ≡ length x + extent r =
     rw (p .text, p .limits)
-    (ap extent (numbers-past (p .done) (p .later) last (p .before) (p .rest) (rw (p .limits) at w) (p .held))
+    (ap extent (numbers-read-on (p .done) (p .later) last (p .before) (p .rest) (rw (p .limits) at w) (p .held))
     ∙ extent-shift _ r) in
     let f = field-reach (p .later) (lastOf last (p .before)) (p .rest) (p .into) (j - length x) (p .stops) in
     rw (p .place, p .text) (after-led x (p .rest) (p .into) j (omega (arith, e)) f)

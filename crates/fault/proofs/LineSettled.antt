@@ -37,22 +37,22 @@ shift-more : (j k : ℕ) (r : LineRead) → shiftBy j (shiftBy k r) ≡ shiftBy 
 shift-more j k (Taken n) = ap Taken (sym (add-assoc j k n))
 shift-more j k (Fault number at) = ap (Fault number) (sym (add-assoc j k at))
 
-none-past : (ls : List Limit) (last : ℕ) (rest : List ℕ)
+none-read-on : (ls : List Limit) (last : ℕ) (rest : List ℕ)
     → readNumbers ls last (numbersText ls [] ++ rest) .ended
     ≡ shiftBy (length (numbersText ls [])) (readNumbers ls last rest .ended)
 unfolding numbersText
-none-past [] last rest = sym (shift-none (readNumbers [] last rest .ended))
-none-past (l ∷ ls) last rest = sym (shift-none (readNumbers (l ∷ ls) last rest .ended))
+none-read-on [] last rest = sym (shift-none (readNumbers [] last rest .ended))
+none-read-on (l ∷ ls) last rest = sym (shift-none (readNumbers (l ∷ ls) last rest .ended))
 
-pub numbers-past : (done later : List Limit) (last : ℕ) (ns rest : List ℕ) → narrow (done ++ later) ≡ true
+pub numbers-read-on : (done later : List Limit) (last : ℕ) (ns rest : List ℕ) → narrow (done ++ later) ≡ true
     → allHold done last ns ≡ true
     → readNumbers (done ++ later) last (numbersText (done ++ later) ns ++ rest) .ended
     ≡ shiftBy (length (numbersText (done ++ later) ns)) (readNumbers later (lastOf last ns) rest .ended)
 unfolding readNumbers numbersText allHold narrow
-numbers-past [] later last [] rest w h = none-past later last rest
-numbers-past [] later last (n ∷ ns) rest w h = false-true h
-numbers-past (l ∷ done) later last [] rest w h = false-true h
-numbers-past (l ∷ done) later last (n ∷ ns) rest w h =
+numbers-read-on [] later last [] rest w h = none-read-on later last rest
+numbers-read-on [] later last (n ∷ ns) rest w h = false-true h
+numbers-read-on (l ∷ done) later last [] rest w h = false-true h
+numbers-read-on (l ∷ done) later last (n ∷ ns) rest w h =
     let ls : List Limit = done ++ later in
     let hs = both-hold (holds l last n) (allHold done n ns) h in
     let ws = both-hold (ltb (l .high) elevenDigits) (narrow ls) w in
@@ -65,7 +65,7 @@ numbers-past (l ∷ done) later last (n ∷ ns) rest w h =
     let c : length x + 1 + length more ≡ length (x ++ (ender ls ∷ more)) = rw length-append (omega arith) in
     let r : LineRead = readNumbers later (lastOf n ns) rest .ended in
     let s = shift-more (length x + 1) (length more) r in
-    rw (append-assoc x (ender ls ∷ more) rest, f, d, numbers-past done later n ns rest (ws .1) (hs .1), s, c)
+    rw (append-assoc x (ender ls ∷ more) rest, f, d, numbers-read-on done later n ns rest (ws .1) (hs .1), s, c)
 
 -- ---- and then one outside
 
@@ -96,7 +96,7 @@ numbers-settled : (ls : List Limit) (last : ℕ) (t : List ℕ) (k : ℕ) → na
     → readNumbers ls last t .ended ≡ Fault outsideLimits k
 numbers-settled ls last t k w p =
     let f = field-settled (p .later) (lastOf last (p .before)) (p .rest) (p .into) (p .stops) in
-    let n = numbers-past (p .done) (p .later) last (p .before) (p .rest) (rw (p .limits) at w) (p .held) in
+    let n = numbers-read-on (p .done) (p .later) last (p .before) (p .rest) (rw (p .limits) at w) (p .held) in
     rw (p .text, p .place, p .limits) (rw f at n)
 
 pub line-settled : (l : Line) (t : List ℕ) (k : ℕ) → narrow (l .limits) ≡ true → LineStops outsideLimits l t k

@@ -20,8 +20,8 @@ use Rattle.form.proofs.RowsTrip.{rows-forth}
 use Rattle.form.proofs.Trip.{told-apart}
 use Rattle.fault.specs.Reached.{nextOf, RowsPassed, PartsStop}
 use Rattle.fault.proofs.Ended.{afterField}
-use Rattle.fault.proofs.KindTold.{parts-away}
-use Rattle.fault.proofs.RowsSettled.{rows-past}
+use Rattle.fault.proofs.KindTold.{stop-away}
+use Rattle.fault.proofs.RowsSettled.{rows-read-on}
 use Rattle.fault.proofs.LineReach.{after-led}
 use Rattle.fault.proofs.RowsReach.{reached, ahead-reached, further-reached, chain-reached, rows-reach}
 
@@ -51,7 +51,7 @@ parts-reach (p ∷ ps) t k j m (inr s) h =
     here m g =
         let end : Found Rows =
         readRows p (p .most - length (s .before)) (p .least - length (s .before)) (nextOf 0 (s .before)) (s .rest) in
-        let past = rows-past p (s .before) (p .most) (p .least) 0 (s .rest) m (s .held) (s .few) in
+        let past = rows-read-on p (s .before) (p .most) (p .least) 0 (s .rest) m (s .held) (s .few) in
         let e = ap reached past ∙ further-reached (length x) (s .before) end in
         let c = chain-reached (readRows p (p .most) (p .least) 0 (x ++ s .rest)) rest (x ++ s .rest) in
         let n : reached (chained (readRows p (p .most) (p .least) 0 (x ++ s .rest)) rest (x ++ s .rest)) ≤ j =
@@ -67,7 +67,7 @@ parts-reach (p ∷ ps) t k j m (inr s) h =
     later m d n g ih =
         let rows = rows-forth p (s .before) (p .most) (p .least) 0 (s .rest) m (s .held) (s .many) (s .few)
         (λ a.
-        parts-away (p .kinds) brokenLine ps (s .rest) (s .into) n (told-apart p ps (omega (arith, s .many)) d)
+        stop-away (p .kinds) brokenLine ps (s .rest) (s .into) n (told-apart p ps (omega (arith, s .many)) d)
         (λ q. g) (s .there)) in
         let e : reached (readParts (p ∷ ps) t) ≡ length x + reached (readParts ps (s .rest)) =
         rw (s .text, rows, drop-append-seam x (s .rest))

@@ -18,7 +18,7 @@ use Rattle.form.proofs.Made.{told, partsMade}
 use Rattle.form.proofs.RowsTrip.{rows-forth}
 use Rattle.form.proofs.Trip.{told-apart}
 use Rattle.fault.specs.Reached.{RowsStop, RowsPassed, PartsStop}
-use Rattle.fault.proofs.KindTold.{parts-away}
+use Rattle.fault.proofs.KindTold.{stop-away}
 use Rattle.fault.proofs.RowsSettled.{rows-settled}
 
 pub parts-settled : (ps : List Part) (t : List ℕ) (k : ℕ) → partsMade ps ≡ true → PartsStop outsideLimits ps t k
@@ -33,7 +33,7 @@ parts-settled (p ∷ ps) t k m (inr s) =
     let ns = both-hold (told p ps) (partsMade ps) (ms .1) in
     let rows = rows-forth p (s .before) (p .most) (p .least) 0 (s .rest) (ms .0) (s .held) (s .many) (s .few)
     (λ h.
-    parts-away (p .kinds) outsideLimits ps (s .rest) (s .into) (ns .1)
+    stop-away (p .kinds) outsideLimits ps (s .rest) (s .into) (ns .1)
     (told-apart p ps (omega (arith, s .many)) (ns .0)) (λ q. absurd (omega arith)) (s .there)) in
     let rest = parts-settled ps (s .rest) (s .into) (ns .1) (s .there) in
     rw (s .text, s .place, rows, drop-append-seam (rowsText (p .kinds) (s .before)) (s .rest), rest)

@@ -22,7 +22,7 @@ use Rattle.fault.specs.Reached.{nextOf, RowsStop}
 use Rattle.fault.proofs.OneOf.{tagged}
 use Rattle.fault.proofs.Ended.{afterField}
 use Rattle.fault.proofs.KindTold.{line-told}
-use Rattle.fault.proofs.RowsSettled.{further, rows-past}
+use Rattle.fault.proofs.RowsSettled.{further, rows-read-on}
 use Rattle.fault.proofs.LineReach.{after-led, line-reach}
 
 -- ---- how far a reader came
@@ -67,7 +67,7 @@ rows-reach p left need next t k j m s h =
     let c : left - length (s .before) ≡ suc more = omega (arith, s .few) in
     let past : readRows p left need next t ≡ further (length x) (s .before) end =
     rw (s .text)
-    (rows-past p (s .before) left need next (s .rest) m (s .held) (omega (arith, s .few))
+    (rows-read-on p (s .before) left need next (s .rest) m (s .held) (omega (arith, s .few))
     ∙ ap (λ (n : ℕ). further (length x) (s .before) (readRows p n least from (s .rest))) c) in
     let e : reached (readRows p left need next t) ≡ length x + reached end =
     rw past (further-reached (length x) (s .before) end) in

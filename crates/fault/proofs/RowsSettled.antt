@@ -40,22 +40,22 @@ further-more : (k j : ℕ) (r : Row) (rs : Rows) (x : Found Rows)
 further-more k j r rs (took i xs) = ap (λ (n : ℕ). took n (r ∷ (rs ++ xs))) (sym (add-assoc k j i))
 further-more k j r rs (lost number i) = ap (lost number) (sym (add-assoc k j i))
 
-pub rows-past : (p : Part) (rs : Rows) (left need next : ℕ) (rest : List ℕ) → kindsMade (p .kinds) ≡ true
+pub rows-read-on : (p : Part) (rs : Rows) (left need next : ℕ) (rest : List ℕ) → kindsMade (p .kinds) ≡ true
     → rowsOk p next rs ≡ true
     → length rs ≤ left
     → readRows p left need next (rowsText (p .kinds) rs ++ rest)
     ≡ further (length (rowsText (p .kinds) rs)) rs
     (readRows p (left - length rs) (need - length rs) (nextOf next rs) rest)
 unfolding rowsOk rowsText
-rows-past p [] left need next rest m h a =
+rows-read-on p [] left need next rest m h a =
     let c : left - 0 ≡ left = omega arith in
     let d : need - 0 ≡ need = omega arith in
     rw (c, d) (further-none (readRows p left need next rest))
-rows-past p (r ∷ rs) zero need next rest m h a = absurd (omega arith)
-rows-past p (r ∷ rs) (suc left) need next rest m h a =
+rows-read-on p (r ∷ rs) zero need next rest m h a = absurd (omega arith)
+rows-read-on p (r ∷ rs) (suc left) need next rest m h a =
     let hs = both-hold (rowOk p next r) (rowsOk p (nextAfter r) rs) h in
     go (kindOf (p .kinds) (r .letter)) refl (hs .0)
-    (rows-past p rs left (need - 1) (nextAfter r) rest m (hs .1) (omega arith))
+    (rows-read-on p rs left (need - 1) (nextAfter r) rest m (hs .1) (omega arith))
   where
     -- what stands after these rows, read
     end : Found Rows
@@ -108,4 +108,4 @@ rows-settled p left need next t k m s =
     rows-more p more least from (s .rest) (s .line) kind ∙ rw row in
     let c : left - length (s .before) ≡ suc more = omega (arith, s .few) in
     rw (s .text, s .place)
-    (rows-past p (s .before) left need next (s .rest) m (s .held) (omega (arith, s .few)) ∙ rw (c, here))
+    (rows-read-on p (s .before) left need next (s .rest) m (s .held) (omega (arith, s .few)) ∙ rw (c, here))

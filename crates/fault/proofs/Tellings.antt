@@ -1,5 +1,5 @@
--- What a reader can say of a text that goes wrong, and of one by the rules. Limits are judged field by field: one that
--- is broken is told, and nothing after that field.
+-- What a reader can say of a text that goes wrong, and of one by the rules. Limits are judged field by field: where one
+-- is broken, that is told, and nothing that comes after the field.
 use Prim.Native.Nat.{ℕ, _≤_}
 use mathlib.Core.List.{List}
 use Rattle.answers.specs.Refusals.{brokenLine, outsideLimits}

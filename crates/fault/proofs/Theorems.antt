@@ -100,8 +100,8 @@ module _ (f : Form) (made : wellMade f ≡ true) (said : sayable (f .parts) ≡ 
       go (broken j e) = there (rw (one-place (form-place t j e) p) at e)
       go (outside j e) = sooner j e (ended-before (limit-ended t j e) p)
 
-  -- a text that goes wrong at k, and of which every field that ended before k is within its limits, is refused with 2
-  -- at k
+  -- a text that goes wrong at k, and in which every field that ended before k is within its limits, is refused with 2
+  -- there
   pub form-settled : (t : List ℕ) (k : ℕ) → Faulty (ByRules f) t k → PartsStop brokenLine (f .parts) t k
       → readParts (f .parts) t ≡ lost brokenLine k
   form-settled t k p s = go (wrong-refused t k p)
@@ -111,7 +111,7 @@ module _ (f : Form) (made : wellMade f ≡ true) (said : sayable (f .parts) ≡ 
       go (sooner j e h) =
           absurd (omega (arith, parts-reach (f .parts) t k j parts-made s (omega (arith, ap reached e))))
 
-  -- a text that has at k a number outside its limits, and before k every one within them, is refused with 3 at k
+  -- a text that has at k a number outside its limits, and before k every one within them, is refused with 3 there
   pub limit-settled : (t : List ℕ) (k : ℕ) → PartsStop outsideLimits (f .parts) t k
       → readParts (f .parts) t ≡ lost outsideLimits k
   limit-settled t k s = parts-settled (f .parts) t k parts-made s
