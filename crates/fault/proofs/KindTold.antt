@@ -18,7 +18,7 @@ use Rattle.form.specs.Reading.{kindAt}
 use Rattle.form.specs.Writing.{rowOk, rowsOk, rowText, rowsText}
 use Rattle.form.proofs.Letters.{kind-letter, kindsMade, kind-made, line-at}
 use Rattle.form.proofs.Made.{disjoint, disjoint-none, apart, told, partsMade}
-use Rattle.fault.specs.Reached.{LineStops, inTag, inNumbers, nextOf, RowsStop, RowsPassed, PartsStop}
+use Rattle.fault.specs.Reached.{LineStops, inTag, inNumbers, nextOf, RowsStop, PartsStop}
 use Rattle.fault.proofs.Choice.{firstOf}
 use Rattle.fault.proofs.OneOf.{tagged, kind-first}
 

@@ -18,7 +18,7 @@ use Rattle.form.proofs.Letters.{kindsMade}
 use Rattle.form.proofs.Made.{told, partsMade}
 use Rattle.form.proofs.RowsTrip.{rows-forth}
 use Rattle.form.proofs.Trip.{told-apart}
-use Rattle.fault.specs.Reached.{nextOf, RowsPassed, PartsStop}
+use Rattle.fault.specs.Reached.{nextOf, PartsStop}
 use Rattle.fault.proofs.Ended.{afterField}
 use Rattle.fault.proofs.KindTold.{stop-away}
 use Rattle.fault.proofs.RowsSettled.{rows-read-on}

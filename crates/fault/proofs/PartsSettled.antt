@@ -17,7 +17,7 @@ use Rattle.form.proofs.Letters.{kindsMade}
 use Rattle.form.proofs.Made.{told, partsMade}
 use Rattle.form.proofs.RowsTrip.{rows-forth}
 use Rattle.form.proofs.Trip.{told-apart}
-use Rattle.fault.specs.Reached.{RowsStop, RowsPassed, PartsStop}
+use Rattle.fault.specs.Reached.{PartsStop}
 use Rattle.fault.proofs.KindTold.{stop-away}
 use Rattle.fault.proofs.RowsSettled.{rows-settled}
 
