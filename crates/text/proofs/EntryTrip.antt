@@ -16,8 +16,8 @@ use Rattle.text.specs.Quoted.{tab, feed, dash}
 use Rattle.text.specs.Field.{fieldOf, begins}
 use Rattle.text.specs.Number.{elevenDigits, numberOf, digitsOf}
 use Rattle.text.specs.Limit.{Limit, orNone, isNone, within, holds}
-use Rattle.text.specs.Line.{ender, judged, readEntry, entryText}
-use Rattle.text.proofs.Field.{begins-cons, field-split, field-stop}
+use Rattle.text.specs.Line.{ender, closer, judged, readEntry, entryText}
+use Rattle.text.proofs.Field.{begins-cons, field-split, field-stop, field-more}
 use Rattle.text.proofs.NumberTrip.{read-writes, written-reads, field-digits, no-dash}
 use Rattle.text.proofs.Limit.{none-zero, within-some, holds-within, within-holds}
 use Rattle.text.proofs.Entry.{dash-ended, taken}
@@ -31,6 +31,17 @@ Ends e = (eqb e tab || eqb e feed) ≡ true
 pub ender-ends : (ls : List Limit) → Ends (ender ls)
 ender-ends [] = refl
 ender-ends (l ∷ ls) = refl
+
+pub closer-ends : (ls : List Limit) (ns : List ℕ) → Ends (closer ls ns)
+closer-ends [] ns = refl
+closer-ends (l ∷ ls) [] = refl
+closer-ends (l ∷ ls) (n ∷ ns) = refl
+
+-- the field of what is written is just that
+pub entry-field : (l : Limit) (n e : ℕ) (rest : List ℕ) → Ends e → fieldOf (entryText l n ++ (e ∷ rest)) ≡ entryText l n
+entry-field l n e rest w =
+    by-test (isNone l n) (λ d. rw d (field-more dash (e ∷ rest) refl ∙ rw (field-stop e rest w)))
+    (λ d. rw d (field-digits n (e ∷ rest) ∙ rw (field-stop e rest w, append-nil)))
 
 module _ (l : Limit) (last e n : ℕ) (rest : List ℕ) (w : Ends e) (h : holds l last n ≡ true) (m : n < elevenDigits)
   where

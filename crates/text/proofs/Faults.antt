@@ -14,14 +14,14 @@ use Rattle.text.specs.declared.EntryRead.{EntryRead}
 use Rattle.text.specs.declared.EntryRead.the-variants.{Number, Misread}
 use Rattle.text.specs.declared.LineRead.{LineRead}
 use Rattle.text.specs.declared.LineRead.the-variants.{Taken, Fault}
-use Rattle.text.specs.Quoted.{dash}
+use Rattle.text.specs.Quoted.{feed, dash}
 use Rattle.text.specs.Field.{fieldOf, begins, agreed}
 use Rattle.text.specs.Number.{numberOf}
 use Rattle.text.specs.Limit.{Limit, orNone, within}
-use Rattle.text.specs.Line.{Line, Reading, shiftBy, judged, ender, readEntry, readNumbers, readLine}
-use Rattle.ground.proofs.Booleans.{either, by-equal}
+use Rattle.text.specs.Line.{Line, Reading, shiftBy, judged, ender, stopsShort, readEntry, readNumbers, readLine}
+use Rattle.ground.proofs.Booleans.{either, by-test, by-equal}
 use Rattle.text.proofs.Entry.{by-entry}
-use Rattle.text.proofs.Line.{line-tagged, line-untagged}
+use Rattle.text.proofs.Line.{numbers-short, numbers-whole, line-tagged, line-untagged}
 
 -- whether a number is one of the two
 abbrev pub twoOrThree : ℕ → Bool
@@ -65,10 +65,17 @@ numbers-textual : (ls : List Limit) (last : ℕ) (t : List ℕ) → Textual (rea
 unfolding readNumbers
 numbers-textual [] last t = refl
 numbers-textual (l ∷ ls) last t =
+    by-test (stopsShort ls t)
+    (λ c.
+    let h = entry-textual l last feed t in
+    let q = numbers-short l ls last t c in
+    by-entry (readEntry l last feed t) (λ n k v. rw (q, v) refl) (λ number at v. rw (q, v) (rw v at h)))
+    (λ c.
     let h = entry-textual l last (ender ls) t in
+    let q = numbers-whole l ls last t c in
     by-entry (readEntry l last (ender ls) t)
-    (λ n k v. rw v (shifted k (readNumbers ls n (drop k t) .ended) (numbers-textual ls n (drop k t))))
-    (λ number at v. rw v (rw v at h))
+    (λ n k v. rw (q, v) (shifted k (readNumbers ls n (drop k t) .ended) (numbers-textual ls n (drop k t))))
+    (λ number at v. rw (q, v) (rw v at h)))
 
 pub line-textual : (l : Line) (t : List ℕ) → Textual (readLine l t)
 line-textual l t =

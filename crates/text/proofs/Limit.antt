@@ -1,20 +1,19 @@
 -- Laws of limits: the table read three numbers at a time, one number, and many numbers.
-use mathlib.Core.Path.{_≡_, refl, sym, ap}
-use mathlib.Core.Logic.{_≢_}
-use mathlib.Core.Bool.{Bool, true, false, _&&_, cond, and-true}
+use mathlib.Core.Path.{_≡_, refl, sym, ap, _∙_}
+use mathlib.Core.Bool.{Bool, true, false, not, _&&_, cond, and-true}
 use mathlib.Core.List.{List, [], _∷_}
-use Prim.Native.Nat.{ℕ, zero, suc, _+_, _≤_, _<_}
+use Prim.Native.Nat.{ℕ, zero, suc, _+_, _*_, _≤_, _<_}
 use native.Mathlib.Numerals.{add-one}
 use native.Mathlib.Omega.{arith}
 use borrow.Author.Tests.{leb-true, ltb-true, eqb-true, le-leb, lt-ltb, ne-eqb}
 use lib.Dec.{eqb, leb, ltb, leb·zero}
 use lib.ListN.{length, drop, getD, length-map, drop-of-length-le}
 use lib.Seq.{drop-cons}
-use Rattle.ground.proofs.Booleans.{both-hold, false-true, by-test}
+use Rattle.ground.proofs.Booleans.{both-hold, false-true, not-false, by-test}
 use Rattle.ground.proofs.Stores.{drop-more}
 use Rattle.text.specs.Number.{elevenDigits}
-use Rattle.text.specs.Limit.{Limit, plain, orNone, capped, limit, isNone, within, holds, allHold, limitOf}
-use Rattle.text.specs.Limit.{limitsOf, fromZero}
+use Rattle.text.specs.Limit.{Limit, plain, orNone, capped, counts, limit, isNone, within, holds, allHold}
+use Rattle.text.specs.Limit.{spare, limitOf, limitsOf, fromZero}
 
 -- ---- the table
 
@@ -46,7 +45,8 @@ some false n x e = refl
 -- a number within its limit is not none
 pub within-some : (l : Limit) (last n : ℕ) → within l last n ≡ true → isNone l n ≡ false
 within-some l last n e =
-    some (eqb (l .rule) orNone) n (cond (eqb (l .rule) capped) (leb n last) true)
+    some (eqb (l .rule) orNone) n
+    (cond (eqb (l .rule) capped) (leb n last) (cond (counts (l .rule)) (leb (last * n) (l .rule)) true))
     (both-hold (leb n (l .high)) _ (both-hold (leb (l .low) n) _ e .1) .1)
 
 -- what may stand is none, or is within
@@ -63,6 +63,19 @@ none-zero l n e = eqb-true n 0 (both-hold (eqb (l .rule) orNone) (eqb n 0) e .1)
 unfoldable pub narrow : List Limit → Bool
 narrow [] = true
 narrow (l ∷ ls) = ltb (l .high) elevenDigits && narrow ls
+
+-- and a line of them has a number, if it has limits
+unfoldable pub readable : List Limit → Bool
+readable ls = not (spare ls) && narrow ls
+
+module _ (ls : List Limit) (h : readable ls ≡ true) where
+  pub readable-narrow : narrow ls ≡ true
+  unfolding readable
+  readable-narrow = both-hold (not (spare ls)) (narrow ls) h .1
+
+  pub readable-some : spare ls ≡ false
+  unfolding readable
+  readable-some = not-false (spare ls) (both-hold (not (spare ls)) (narrow ls) h .0)
 
 pub holds-small : (l : Limit) (last n : ℕ)
     → ltb (l .high) elevenDigits ≡ true
@@ -96,16 +109,23 @@ low-holds l last n f =
 
 -- ---- many numbers
 
-pub hold-length : (ls : List Limit) (last : ℕ) (ns : List ℕ) → allHold ls last ns ≡ true → length ns ≡ length ls
-unfolding allHold
-hold-length [] last [] h = refl
-hold-length [] last (n ∷ ns) h = false-true h
-hold-length (l ∷ ls) last [] h = false-true h
-hold-length (l ∷ ls) last (n ∷ ns) h = ap suc (hold-length ls n ns (both-hold (holds l last n) (allHold ls n ns) h .1))
+-- no number may be left out
+unfoldable pub full : List Limit → Bool
+full [] = true
+full (l ∷ ls) = not (counts (l .rule)) && full ls
 
-pub hold-uneven : (ls : List Limit) (last : ℕ) (ns : List ℕ) → length ls ≢ length ns → allHold ls last ns ≡ false
-hold-uneven ls last ns h =
-    by-test (allHold ls last ns) (λ e. absurd (h (sym (hold-length ls last ns e)))) (λ e. e)
+-- of so many numbers as there are limits
+pub hold-length : (ls : List Limit) (last : ℕ) (ns : List ℕ) → full ls ≡ true → allHold ls last ns ≡ true
+    → length ns ≡ length ls
+unfolding allHold full
+hold-length [] last [] f h = refl
+hold-length [] last (n ∷ ns) f h = false-true h
+hold-length (l ∷ ls) last [] f h =
+    let e = not-false (counts (l .rule)) (both-hold (not (counts (l .rule))) (full ls) f .0) in
+    false-true (sym e ∙ h)
+hold-length (l ∷ ls) last (n ∷ ns) f h =
+    let fs = both-hold (not (counts (l .rule))) (full ls) f in
+    ap suc (hold-length ls n ns (fs .1) (both-hold (holds l last n) (allHold ls n ns) h .1))
 
 -- whether those from place k on may stand after last
 abbrev pub heldFrom : List (List ℕ) → List ℕ → ℕ → ℕ → Bool

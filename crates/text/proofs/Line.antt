@@ -1,22 +1,41 @@
 -- Laws of a whole line that is read, and of how far a reading reaches.
 use mathlib.Core.Path.{_≡_, refl, ap, _∙_}
 use mathlib.Core.Logic.{_≢_}
+use mathlib.Core.Bool.{true, false}
 use mathlib.Core.List.{List, [], _∷_}
 use Prim.Native.Nat.{ℕ, _+_, _-_, _≤_}
 use native.Mathlib.Omega.{arith}
 use borrow.Author.Tests.{eq-eqb, ne-eqb}
 use lib.ListN.{length, take, drop, length-drop}
 use Rattle.answers.specs.Refusals.{brokenLine}
-use Rattle.ground.proofs.Booleans.{by-equal}
+use Rattle.ground.proofs.Booleans.{both-hold, by-test, by-equal}
 use Rattle.ground.proofs.Stores.{rest-part}
 use Rattle.text.specs.declared.LineRead.{LineRead}
 use Rattle.text.specs.declared.LineRead.the-variants.{Taken, Fault}
-use Rattle.text.specs.Limit.{Limit, limitsOf}
-use Rattle.text.specs.Field.{agreed}
-use Rattle.text.specs.Line.{Line, lineOf, Reads, shiftBy, after, refused, ender, readEntry}
-use Rattle.text.specs.Line.{readNumbers, readLine}
+use Rattle.text.specs.Quoted.{feed}
+use Rattle.text.specs.Limit.{Limit, spare, limitsOf}
+use Rattle.text.specs.Field.{fieldOf, begins, agreed}
+use Rattle.text.specs.Line.{Line, lineOf, Reads, shiftBy, after, nothing, refused, ender, stopsShort, onEntry}
+use Rattle.text.specs.Line.{readEntry, readNumbers, readLine}
 use Rattle.text.proofs.Field.{agreed-fits}
 use Rattle.text.proofs.Entry.{reach, entry-reach, by-entry}
+
+-- ---- a number, and then those after it, unless they are left out
+
+module _ (l : Limit) (ls : List Limit) (last : ℕ) (t : List ℕ) where
+  pub numbers-short : stopsShort ls t ≡ true
+      → readNumbers (l ∷ ls) last t ≡ onEntry (readEntry l last feed t) (λ (n : ℕ) (u : List ℕ). nothing) t
+  unfolding readNumbers
+  numbers-short e = rw (e, readNumbers)
+
+  pub numbers-whole : stopsShort ls t ≡ false
+      → readNumbers (l ∷ ls) last t ≡ onEntry (readEntry l last (ender ls) t) (readNumbers ls) t
+  unfolding readNumbers
+  numbers-whole e = rw (e, readNumbers)
+
+-- what is left out may be
+pub short-spare : (ls : List Limit) (t : List ℕ) → stopsShort ls t ≡ true → spare ls ≡ true
+short-spare ls t e = both-hold (spare ls) (begins feed (drop (length (fieldOf t)) t)) e .0
 
 -- ---- a whole line
 
@@ -44,12 +63,20 @@ numbers-extent : (ls : List Limit) (last : ℕ) (t : List ℕ) → extent (readN
 unfolding readNumbers
 numbers-extent [] last t = omega arith
 numbers-extent (l ∷ ls) last t =
+    by-test (stopsShort ls t)
+    (λ c.
+    let h = entry-reach l last feed t in
+    let q = numbers-short l ls last t c in
+    by-entry (readEntry l last feed t) (λ n k v. rw (q, v) (omega (arith, ap reach v)))
+    (λ number at v. rw (q, v) (omega (arith, ap reach v))))
+    (λ c.
     let h = entry-reach l last (ender ls) t in
+    let q = numbers-whole l ls last t c in
     by-entry (readEntry l last (ender ls) t)
     (λ n k v.
     let s = extent-shift k (readNumbers ls n (drop k t) .ended) in
-    rw v (omega (arith, ap reach v, numbers-extent ls n (drop k t), length-drop k t)))
-    (λ number at v. rw v (omega (arith, ap reach v)))
+    rw (q, v) (omega (arith, ap reach v, numbers-extent ls n (drop k t), length-drop k t)))
+    (λ number at v. rw (q, v) (omega (arith, ap reach v))))
 
 pub line-extent : (l : Line) (t : List ℕ) → extent (readLine l t .ended) ≤ length t
 line-extent l t =

@@ -7,7 +7,7 @@ use native.Mathlib.Omega.{arith}
 use lib.ListN.{length, length-append}
 use Rattle.text.specs.Number.{digitsIn, digitsOf}
 use Rattle.text.specs.Limit.{Limit, isNone, holds, allHold}
-use Rattle.text.specs.Line.{Line, ender, entryText, numbersText, lineText}
+use Rattle.text.specs.Line.{Line, closer, entryText, numbersText, lineText}
 use Rattle.ground.proofs.Booleans.{both-hold, false-true, by-test}
 use Rattle.text.proofs.Number.{length-digits-mono}
 use Rattle.text.proofs.Limit.{within-high, holds-within}
@@ -31,10 +31,10 @@ pub numbers-most : (ls : List Limit) (last : ℕ) (ns : List ℕ)
 unfolding allHold numbersText numbersMost
 numbers-most [] last [] h = omega arith
 numbers-most [] last (n ∷ ns) h = false-true h
-numbers-most (l ∷ ls) last [] h = false-true h
+numbers-most (l ∷ ls) last [] h = omega arith
 numbers-most (l ∷ ls) last (n ∷ ns) h =
     let p = both-hold (holds l last n) (allHold ls n ns) h in
-    let e = length-append (entryText l n) (ender ls ∷ numbersText ls ns) in
+    let e = length-append (entryText l n) (closer ls ns ∷ numbersText ls ns) in
     omega (arith, e, entry-most l last n (p .0), numbers-most ls n ns (p .1))
 
 abbrev pub lineMost : Line → ℕ

@@ -1,20 +1,20 @@
 -- Laws of a line's text, number by number, and of the loop that writes it.
-use mathlib.Core.Path.{_≡_, refl, ap, _∙_}
+use mathlib.Core.Path.{_≡_, refl, _∙_}
 use mathlib.Core.Bool.{cond}
 use mathlib.Core.List.{List, [], _∷_, _++_, append-nil, append-assoc}
-use Prim.Native.Nat.{ℕ, _+_, _-_, _*_, _≤_, _<_}
+use Prim.Native.Nat.{ℕ, suc, _+_, _-_, _*_, _≤_, _<_, min}
 use native.Mathlib.Omega.{arith}
+use borrow.Author.Tests.{eq-eqb, ne-eqb}
 use lib.Dec.{eqb}
-use lib.ListN.{length, take, drop, getD, set, drop-of-length-le}
+use lib.ListN.{length, take, drop, getD, set, length-drop, drop-of-length-le}
 use Rattle.text.specs.Quoted.{tab, feed}
 use Rattle.text.specs.Number.{elevenDigits}
 use Rattle.text.specs.Limit.{Limit, isNone, limitsOf}
-use Rattle.text.specs.Line.{Laid, ender, entryText, numbersText}
-use Rattle.ground.proofs.Booleans.{by-test}
+use Rattle.text.specs.Line.{Laid, entryText, closer, numbersText}
+use Rattle.ground.proofs.Booleans.{by-test, by-less}
 use Rattle.ground.proofs.Stores.{drop-more}
 use Rattle.text.proofs.Number.{length-digits-ten}
-use Rattle.text.proofs.Limit.{limitAt, limits-more, limits-end}
-use Rattle.text.proofs.Reading.{ender-after}
+use Rattle.text.proofs.Limit.{limitAt, length-limits, limits-more, limits-end}
 use Rattle.text.proofs.Laid.{laid-none, laid-more, laid-byte}
 
 -- ---- one number
@@ -31,13 +31,34 @@ numbers-none [] = refl
 numbers-none (l ∷ ls) = refl
 
 -- only the first numbers are written
+closer-take : (ls : List Limit) (ns : List ℕ) → closer ls (take (length ls) ns) ≡ closer ls ns
+closer-take [] ns = refl
+closer-take (l ∷ ls) [] = refl
+closer-take (l ∷ ls) (n ∷ ns) = refl
+
 pub numbers-take : (ls : List Limit) (ns : List ℕ) → numbersText ls (take (length ls) ns) ≡ numbersText ls ns
 unfolding numbersText
 numbers-take [] ns = refl
 numbers-take (l ∷ ls) [] = refl
-numbers-take (l ∷ ls) (n ∷ ns) = ap (λ (x : List ℕ). entryText l n ++ (ender ls ∷ x)) (numbers-take ls ns)
+numbers-take (l ∷ ls) (n ∷ ns) = rw (closer-take ls ns, numbers-take ls ns)
 
 -- ---- the loop
+
+-- how many are written
+abbrev pub manyWritten : List (List ℕ) → List ℕ → ℕ
+manyWritten table ns = min (length table) (length ns)
+
+closer-left : (ls : List Limit) (ns : List ℕ) → closer ls ns ≡ cond (eqb (min (length ls) (length ns)) 0) feed tab
+closer-left [] ns = rw (eq-eqb (min 0 (length ns)) 0 (omega arith))
+closer-left (l ∷ ls) [] = rw (eq-eqb (min (suc (length ls)) 0) 0 (omega arith))
+closer-left (l ∷ ls) (n ∷ ns) = rw (ne-eqb (min (suc (length ls)) (suc (length ns))) 0 (λ e. omega arith))
+
+closer-after : (table : List (List ℕ)) (ns : List ℕ) (k : ℕ)
+    → closer (limitsOf (drop (k + 1) table)) (drop (k + 1) ns)
+    ≡ cond (eqb (manyWritten table ns - k - 1) 0) feed tab
+closer-after table ns k =
+    let n : min (length table - (k + 1)) (length ns - (k + 1)) ≡ manyWritten table ns - k - 1 = omega arith in
+    closer-left (limitsOf (drop (k + 1) table)) (drop (k + 1) ns) ∙ rw (length-limits, length-drop, length-drop, n)
 
 -- the text of the numbers from place k on
 abbrev pub textFrom : List (List ℕ) → List ℕ → ℕ → List ℕ
@@ -55,30 +76,34 @@ begin table ns o start =
     record { so = []; most = omega arith; laid = laid-none o start; so-far = refl }
 
 module _ {table : List (List ℕ)} {ns o₀ o : List ℕ} {start k at : ℕ} (s : State table ns o₀ o start k at) where
-  whole : textFrom table ns k ≡ [] → Laid (numbersText (limitsOf table) ns) o₀ start at o
-  whole e = rw (s .so-far, e, append-nil) (s .laid)
-
-  -- no limit is left
-  pub done : length table ≤ k → Laid (numbersText (limitsOf table) ns) o₀ start at o
+  -- no limit is left, or no number
+  none-left : manyWritten table ns ≤ k → textFrom table ns k ≡ []
   unfolding numbersText
-  done h = whole (rw (limits-end table k h))
+  none-left h =
+      by-less k (length table)
+      (λ l. rw (drop-of-length-le ns {i = k} (omega arith)) (numbers-none (limitsOf (drop k table))))
+      (λ l. rw (limits-end table k l))
 
-  -- no number is left
-  pub cut : length ns ≤ k → Laid (numbersText (limitsOf table) ns) o₀ start at o
-  cut h = whole (rw (drop-of-length-le ns {i = k} h) (numbers-none (limitsOf (drop k table))))
+  pub done : manyWritten table ns ≤ k → Laid (numbersText (limitsOf table) ns) o₀ start at o
+  done h = rw (s .so-far, none-left h, append-nil) (s .laid)
 
   pub step : {mid e : ℕ} {o₁ : List ℕ}
-      → k < length table
-      → k < length ns
+      → k < manyWritten table ns
       → getD ns k 0 < elevenDigits
-      → e ≡ cond (eqb (length table - k - 1) 0) feed tab
+      → e ≡ cond (eqb (manyWritten table ns - k - 1) 0) feed tab
       → Laid (entryText (limitAt table k) (getD ns k 0)) o at mid o₁
       → State table ns o₀ (set o₁ mid e) start (k + 1) (mid + 1)
   unfolding numbersText
-  step {mid} {e} {o₁} h l n w p =
+  step {mid} {e} {o₁} h n w p =
       record {
         so = s .so ++ (entryText (limitAt table k) (getD ns k 0) ++ (e ∷ []));
         most = omega (arith, p .end, s .most, length-entry-ten (limitAt table k) (getD ns k 0) n);
         laid = laid-more (s .laid) (laid-more p (laid-byte o₁ mid e));
-        so-far = s .so-far ∙ rw (limits-more table k h, drop-more ns k l, ender-after table k, w) (simp append-assoc);
+        so-far = s .so-far
+            ∙ rw (
+              limits-more table k (omega arith),
+              drop-more ns k (omega arith),
+              closer-after table ns k,
+              w,
+            ) (simp append-assoc);
       }

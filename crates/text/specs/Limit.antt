@@ -1,6 +1,7 @@
 -- 01, The sheet, the table's limits of a number: a low and a high end; for some, that it is not above the number
--- before; for some, that there may be none, written `-`. Whatever reads, writes or checks a number goes by these alone.
-use Prim.Native.Nat.{ℕ}
+-- before; for some, that there may be none, written `-`. 02 (vi): for some, that times the number before it is no more
+-- than so much; such a number may be left out of a line. Whatever reads, writes or checks a number goes by these alone.
+use Prim.Native.Nat.{ℕ, _*_}
 use mathlib.Core.Bool.{Bool, true, false, _&&_, _||_, cond}
 use mathlib.Core.List.{List, [], _∷_, map}
 use lib.Dec.{eqb, leb, ltb}
@@ -11,7 +12,7 @@ pub record Limit : Type 0 where
   pub high : ℕ
   pub rule : ℕ
 
--- the three rules, by the number that stands for each in the code's tables
+-- the rules, by the number that stands for each in the code's tables
 abbrev pub plain : ℕ
 plain = 0
 
@@ -20,6 +21,10 @@ orNone = 1
 
 abbrev pub capped : ℕ
 capped = 2
+
+-- any greater number is a rule too: the most that the number, times the one before it, may make
+abbrev pub counts : ℕ → Bool
+counts rule = ltb capped rule
 
 abbrev pub limit : ℕ → ℕ → ℕ → Limit
 limit low high rule = record { low = low; high = high; rule = rule }
@@ -36,13 +41,19 @@ rangingOrNone low high = limit low high orNone
 abbrev pub rangingCapped : ℕ → ℕ → Limit
 rangingCapped low high = limit low high capped
 
+-- low..high, and times the number before it at most top; it may be left out
+abbrev pub rangingCount : ℕ → ℕ → ℕ → Limit
+rangingCount low high top = limit low high top
+
 -- whether n is none: a 0 where 0 stands for none
 abbrev pub isNone : Limit → ℕ → Bool
 isNone l n = eqb (l .rule) orNone && eqb n 0
 
 -- what the rule asks beyond low..high, of n after last
 abbrev pub byRule : ℕ → ℕ → ℕ → Bool
-byRule rule last n = cond (eqb rule orNone) (ltb 0 n) (cond (eqb rule capped) (leb n last) true)
+byRule rule last n =
+    cond (eqb rule orNone) (ltb 0 n)
+    (cond (eqb rule capped) (leb n last) (cond (counts rule) (leb (last * n) rule) true))
 
 -- whether n, written in digits after the number last, is within the limit
 abbrev pub within : Limit → ℕ → ℕ → Bool
@@ -52,11 +63,17 @@ within l last n = leb (l .low) n && (leb n (l .high) && byRule (l .rule) last n)
 abbrev pub holds : Limit → ℕ → ℕ → Bool
 holds l last n = isNone l n || within l last n
 
--- whether there are as many numbers as limits, and each may stand after the one before it
+-- whether the numbers of these limits, of which there are some, may be left out
+abbrev pub spare : List Limit → Bool
+spare [] = false
+spare (l ∷ ls) = counts (l .rule)
+
+-- whether there are as many numbers as limits, but for those that may be left out, and each may stand after the one
+-- before it
 unfoldable pub allHold : List Limit → ℕ → List ℕ → Bool
 allHold [] last [] = true
 allHold [] last (n ∷ ns) = false
-allHold (l ∷ ls) last [] = false
+allHold (l ∷ ls) last [] = spare (l ∷ ls)
 allHold (l ∷ ls) last (n ∷ ns) = holds l last n && allHold ls n ns
 
 -- whether any number up to the highest may stand, after whatever number: low..high goes down to 0, or to 1 with 0 for

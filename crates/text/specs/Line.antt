@@ -1,10 +1,10 @@
 -- 01, The sheet: one record a line. A line is its literal bytes and then numbers, each ended by a tab but the last,
 -- which is ended by the line feed. Of each number the form comes first, the byte after it included, and the limits
 -- second: 2, then 3. 02 (v): beside its number a refusal has a place, that of the first faulty byte, and where a limit
--- is broken the start of the number.
+-- is broken the start of the number. 02 (vi): where numbers may be left out, the line feed may end the one before them.
 use Prim.Native.Nat.{ℕ, _+_}
 use mathlib.Core.Path.{_≡_}
-use mathlib.Core.Bool.{true, false, _&&_, cond}
+use mathlib.Core.Bool.{Bool, true, false, _&&_, cond}
 use mathlib.Core.List.{List, [], _∷_, _++_}
 use lib.Dec.{eqb}
 use lib.ListN.{length, drop}
@@ -19,7 +19,7 @@ use Rattle.text.specs.declared.LineRead.the-variants.{Taken, Fault}
 use Rattle.text.specs.Quoted.{tab, feed, dash}
 use Rattle.text.specs.Field.{fieldOf, begins, agreed}
 use Rattle.text.specs.Number.{numberOf, digitsOf}
-use Rattle.text.specs.Limit.{Limit, orNone, isNone, within, limitsOf}
+use Rattle.text.specs.Limit.{Limit, orNone, isNone, within, spare, limitsOf}
 
 -- a line's form
 pub record Line : Type 0 where
@@ -29,10 +29,14 @@ pub record Line : Type 0 where
 abbrev pub lineOf : List ℕ → List (List ℕ) → Line
 lineOf tag table = record { tag = tag; limits = limitsOf table }
 
--- what ends a number, by the limits of the numbers after it
+-- what must end a number, by the limits of the numbers after it
 abbrev pub ender : List Limit → ℕ
 ender [] = feed
 ender (l ∷ ls) = tab
+
+-- whether the line ends with the first field of t, and the numbers of ls are left out of it, as they may be
+abbrev pub stopsShort : List Limit → List ℕ → Bool
+stopsShort ls t = spare ls && begins feed (drop (length (fieldOf t)) t)
 
 -- ---- reading
 
@@ -80,7 +84,11 @@ readEntry l last e t =
 -- numbers by their limits, after the number last
 unfoldable pub readNumbers : List Limit → ℕ → List ℕ → Reading
 readNumbers [] last t = nothing
-readNumbers (l ∷ ls) last t = onEntry (readEntry l last (ender ls) t) (readNumbers ls) t
+readNumbers (l ∷ ls) last t =
+    elim (stopsShort ls t) [
+      | true ↦ onEntry (readEntry l last feed t) (λ (n : ℕ) (u : List ℕ). nothing) t
+      | false ↦ onEntry (readEntry l last (ender ls) t) (readNumbers ls) t
+    ]
 
 unfoldable pub readLine : Line → List ℕ → Reading
 readLine l t =
@@ -94,10 +102,16 @@ readLine l t =
 abbrev pub entryText : Limit → ℕ → List ℕ
 entryText l n = cond (isNone l n) (dash ∷ []) (digitsOf n)
 
+-- what ends a number that is written: a tab, where both a limit and a number follow it, and else the line feed
+abbrev pub closer : List Limit → List ℕ → ℕ
+closer [] ns = feed
+closer (l ∷ ls) [] = feed
+closer (l ∷ ls) (n ∷ ns) = tab
+
 unfoldable pub numbersText : List Limit → List ℕ → List ℕ
 numbersText [] ns = []
 numbersText (l ∷ ls) [] = []
-numbersText (l ∷ ls) (n ∷ ns) = entryText l n ++ (ender ls ∷ numbersText ls ns)
+numbersText (l ∷ ls) (n ∷ ns) = entryText l n ++ (closer ls ns ∷ numbersText ls ns)
 
 -- the line that the first of ns are written as
 abbrev pub lineText : Line → List ℕ → List ℕ
