@@ -9,10 +9,11 @@ use mathlib.Core.List.{List, [], _∷_, _++_}
 use mathlib.Core.Option.{some}
 use lib.ListN.{length, take}
 use Rattle.answers.specs.Refusals.{brokenLine, outsideLimits}
+use Rattle.text.specs.Quoted.{tab, feed}
 use Rattle.text.specs.Field.{fieldOf}
 use Rattle.text.specs.Number.{elevenDigits, digitsOf}
-use Rattle.text.specs.Limit.{Limit, within, allHold}
-use Rattle.text.specs.Line.{Line, ender, numbersText}
+use Rattle.text.specs.Limit.{Limit, within, spare, allHold}
+use Rattle.text.specs.Line.{Line, ender, entryText}
 use Rattle.form.specs.Parts.{Part, Rows, kindOf, raised, nextAfter}
 use Rattle.form.specs.Writing.{rowsOk, rowsText}
 use Rattle.fault.specs.Rules.{Rule}
@@ -24,23 +25,27 @@ Spot = List ℕ → ℕ → Type 0
 
 -- ---- at a field
 
--- t starts with a number of at most ten digits and the byte that must end it, by the first of the limits; the number is
--- outside that limit, after the number last
-pub record Outside (limits : List Limit) (last : ℕ) (t : List ℕ) : Type 0 where
-  pub here : Limit
-  pub more : List Limit
+-- what may end a number: what must, by the limits of the numbers after it, or the line feed where these may be left out
+pub data EndedBy (more : List Limit) (e : ℕ) : Type 0 where
+  asDue : e ≡ ender more → EndedBy more e
+  short : spare more ≡ true → e ≡ feed → EndedBy more e
+
+-- t starts with a number of at most ten digits and a byte that may end it; the number is outside the limit `here`, after
+-- the number last
+pub record Outside (here : Limit) (more : List Limit) (last : ℕ) (t : List ℕ) : Type 0 where
   pub value : ℕ
+  pub end : ℕ
   pub rest : List ℕ
-  pub first : limits ≡ here ∷ more
   pub few : value < elevenDigits
-  pub text : t ≡ digitsOf value ++ (ender more ∷ rest)
+  pub ended : EndedBy more end
+  pub text : t ≡ digitsOf value ++ (end ∷ rest)
   pub outside : within here last value ≡ false
 
 -- the field at the start of t is refused at k: for its form, and then it did not end before k; or for its limit, and
 -- then at its first byte
-pub data FieldStops (number : ℕ) (limits : List Limit) (last : ℕ) (t : List ℕ) (k : ℕ) : Type 0 where
-  inForm : number ≡ brokenLine → k ≤ length (fieldOf t) → FieldStops number limits last t k
-  inLimit : number ≡ outsideLimits → k ≡ 0 → Outside limits last t → FieldStops number limits last t k
+pub data FieldStops (number : ℕ) (here : Limit) (more : List Limit) (last : ℕ) (t : List ℕ) (k : ℕ) : Type 0 where
+  inForm : number ≡ brokenLine → k ≤ length (fieldOf t) → FieldStops number here more last t k
+  inLimit : number ≡ outsideLimits → k ≡ 0 → Outside here more last t → FieldStops number here more last t k
 
 -- ---- in a line
 
@@ -49,18 +54,26 @@ abbrev pub lastOf : ℕ → List ℕ → ℕ
 lastOf last [] = last
 lastOf last (n ∷ ns) = lastOf n ns
 
+-- numbers with others to come, each ended by a tab
+unfoldable pub tabbed : List Limit → List ℕ → List ℕ
+tabbed [] ns = []
+tabbed (l ∷ ls) [] = []
+tabbed (l ∷ ls) (n ∷ ns) = entryText l n ++ (tab ∷ tabbed ls ns)
+
 -- numbers within their limits, and then the field that is refused
 pub record NumbersStop (number : ℕ) (ls : List Limit) (last : ℕ) (t : List ℕ) (k : ℕ) : Type 0 where
   pub before : List ℕ
   pub done : List Limit
+  pub here : Limit
   pub later : List Limit
   pub rest : List ℕ
   pub into : ℕ
-  pub limits : ls ≡ done ++ later
+  pub limits : ls ≡ done ++ (here ∷ later)
+  pub many : length before ≡ length done
   pub held : allHold done last before ≡ true
-  pub text : t ≡ numbersText ls before ++ rest
-  pub place : k ≡ length (numbersText ls before) + into
-  pub stops : FieldStops number later (lastOf last before) rest into
+  pub text : t ≡ tabbed done before ++ rest
+  pub place : k ≡ length (tabbed done before) + into
+  pub stops : FieldStops number here later (lastOf last before) rest into
 
 -- in the line's tag, of which the bytes before k are there; or after it
 pub data LineStops (number : ℕ) (l : Line) (t : List ℕ) (k : ℕ) : Type 0 where

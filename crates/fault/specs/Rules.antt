@@ -2,11 +2,12 @@
 -- rule if it can be put together so. Limits are no line rules, but that some numbers may be `-`.
 use Prim.Native.Nat.{ℕ, zero, suc, _≤_, _<_}
 use mathlib.Core.Path.{_≡_}
+use mathlib.Core.Bool.{true}
 use mathlib.Core.Logic.{_⊎_}
 use mathlib.Core.List.{List, [], _∷_, _++_}
-use Rattle.text.specs.Quoted.{dash}
+use Rattle.text.specs.Quoted.{feed, dash}
 use Rattle.text.specs.Number.{elevenDigits, digitsOf}
-use Rattle.text.specs.Limit.{Limit, orNone}
+use Rattle.text.specs.Limit.{Limit, orNone, spare}
 use Rattle.text.specs.Line.{Line, ender}
 use Rattle.form.specs.Parts.{Part, Form}
 
@@ -47,10 +48,14 @@ pub data Field (rule : ℕ) (t : List ℕ) : Type 0 where
 abbrev pub Entry : ℕ → ℕ → Rule
 Entry rule e = Then (Field rule) (Just (e ∷ []))
 
--- a field for each limit, and then a text by S
+-- 02 (vi): where the numbers of ls may be left out, a field that ends its line; and then a text by S
+abbrev pub ShortThen : Limit → List Limit → Rule → Rule
+ShortThen l ls S t = (spare ls ≡ true) × Then (Entry (l .rule) feed) S t
+
+-- a field for each limit, but for those that may be left out, and then a text by S
 abbrev pub FieldsThen : List Limit → Rule → Rule
 FieldsThen [] S = S
-FieldsThen (l ∷ ls) S = Then (Entry (l .rule) (ender ls)) (FieldsThen ls S)
+FieldsThen (l ∷ ls) S = Either (Then (Entry (l .rule) (ender ls)) (FieldsThen ls S)) (ShortThen l ls S)
 
 -- a line, and then a text by S
 abbrev pub LineThen : Line → Rule → Rule

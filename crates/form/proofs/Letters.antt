@@ -11,7 +11,7 @@ use Rattle.text.specs.Field.{begins}
 use Rattle.text.specs.Limit.{Limit}
 use Rattle.text.specs.Line.{Line, numbersText, lineText}
 use Rattle.ground.proofs.Booleans.{both-hold}
-use Rattle.text.proofs.Limit.{narrow}
+use Rattle.text.proofs.Limit.{narrow, readable}
 use Rattle.form.specs.Parts.{letterOf, kindOf, risen, raised}
 use Rattle.form.specs.Reading.{kindAt}
 
@@ -24,10 +24,10 @@ kind-letter (m ∷ ls) b l e = go (eqb b (letterOf m)) refl (kind-letter ls b l)
     go true d ih = eqb-true b (letterOf m) d ∙ ap letterOf (Option·some-injective m l (rw (d, kindOf) at e))
     go false d ih = ih (rw (d, kindOf) at e)
 
--- ---- lines that can be told and read back: a tag, and numbers of at most ten digits
+-- ---- lines that can be told and read back: a tag, and numbers of at most ten digits, the first of which is there
 
 unfoldable pub lineMade : Line → Bool
-lineMade l = ltb 0 (length (l .tag)) && narrow (l .limits)
+lineMade l = ltb 0 (length (l .tag)) && readable (l .limits)
 
 abbrev pub absent : Option Line → Bool
 absent none = true
@@ -64,7 +64,7 @@ pub line-at : (kinds : List Line) (l : Line) (ns rest : List ℕ) → lineMade l
 unfolding lineMade
 line-at kinds l ns rest h =
     tag-at kinds (l .tag) (numbersText (l .limits) ns) rest
-    (both-hold (ltb 0 (length (l .tag))) (narrow (l .limits)) h .0)
+    (both-hold (ltb 0 (length (l .tag))) (readable (l .limits)) h .0)
 
 -- ---- a raised line
 
@@ -79,16 +79,16 @@ risen-text true next (l ∷ ls) (n ∷ ns) = refl
 pub raised-text : (up : Bool) (next : ℕ) (l : Line) (ns : List ℕ) → lineText (raised up next l) ns ≡ lineText l ns
 raised-text up next l ns = ap (λ (x : List ℕ). l .tag ++ x) (risen-text up next (l .limits) ns)
 
-risen-narrow : (up : Bool) (next : ℕ) (ls : List Limit) → narrow (risen up next ls) ≡ narrow ls
-unfolding narrow
-risen-narrow false next ls = refl
-risen-narrow true next [] = refl
-risen-narrow true next (l ∷ ls) = refl
+risen-readable : (up : Bool) (next : ℕ) (ls : List Limit) → readable (risen up next ls) ≡ readable ls
+unfolding readable narrow
+risen-readable false next ls = refl
+risen-readable true next [] = refl
+risen-readable true next (l ∷ ls) = refl
 
-pub raised-narrow : (up : Bool) (next : ℕ) (l : Line) → lineMade l ≡ true → narrow (raised up next l .limits) ≡ true
+pub raised-readable : (up : Bool) (next : ℕ) (l : Line) → lineMade l ≡ true → readable (raised up next l .limits) ≡ true
 unfolding lineMade
-raised-narrow up next l h =
-    risen-narrow up next (l .limits) ∙ both-hold (ltb 0 (length (l .tag))) (narrow (l .limits)) h .1
+raised-readable up next l h =
+    risen-readable up next (l .limits) ∙ both-hold (ltb 0 (length (l .tag))) (readable (l .limits)) h .1
 
 -- ---- a text that begins as a line of one kind, or does not
 

@@ -16,7 +16,7 @@ use Rattle.form.specs.Outcome.{took, chained}
 use Rattle.form.specs.Reading.{kindAt, readRow, noMore, readRows}
 use Rattle.form.specs.Writing.{rowOk, rowsOk, rowText, rowsText}
 use Rattle.form.proofs.Chain.{chain-forth}
-use Rattle.form.proofs.Letters.{kind-letter, kindsMade, kind-made, line-at, raised-text, raised-narrow}
+use Rattle.form.proofs.Letters.{kind-letter, kindsMade, kind-made, line-at, raised-text, raised-readable}
 
 -- ---- no more rows, or one more
 
@@ -39,7 +39,7 @@ pub row-forth : (p : Part) (next : ℕ) (r : Row) (l : Line) (rest : List ℕ) �
     → allHold (risen (p .rising) next (l .limits)) 0 (r .numbers) ≡ true
     → readRow (p .rising) next l (lineText l (r .numbers) ++ rest) ≡ took (length (lineText l (r .numbers))) r
 row-forth p next r l rest m e h =
-    let n = raised-narrow (p .rising) next l (kind-made (p .kinds) (r .letter) l m e) in
+    let n = raised-readable (p .rising) next l (kind-made (p .kinds) (r .letter) l m e) in
     let m : Line = raised (p .rising) next l in
     let x : List ℕ = lineText l (r .numbers) in
     let f : readLine m (x ++ rest) ≡ got (length x) (r .numbers) =

@@ -4,9 +4,9 @@ use mathlib.Core.Bool.{true, false}
 use mathlib.Core.List.{List, [], _∷_, map}
 use Rattle.text.specs.Quoted.{bytes}
 use Rattle.text.specs.Number.{digitsIn, digitsOf}
-use Rattle.text.specs.Limit.{ranging}
+use Rattle.text.specs.Limit.{ranging, rangingCount}
 use Rattle.text.specs.Line.{Line}
-use Rattle.text.proofs.Limit.{narrow}
+use Rattle.text.proofs.Limit.{narrow, readable}
 use Rattle.text.proofs.Most.{numbersMost}
 use Rattle.form.specs.Parts.{Form, someLines, risingLines, oneLine, maybeLine, kindOf}
 use Rattle.form.proofs.Letters.{lineMade, kindsMade}
@@ -24,6 +24,10 @@ untagged = record { tag = []; limits = [] }
 wide : Line
 wide = record { tag = bytes "WIDE\t"; limits = ranging 0 10000000000 ∷ [] }
 
+-- all of whose numbers may be left out
+bare : Line
+bare = record { tag = bytes "BARE\t"; limits = rangingCount 1 9 9 ∷ [] }
+
 forms : List Form
 forms =
     store
@@ -34,12 +38,14 @@ forms =
     ∷ record { parts = someLines 1 2 (shelfLine ∷ otherLine ∷ []) ∷ []; room = 99 }
     ∷ record { parts = oneLine untagged ∷ []; room = 99 }
     ∷ record { parts = oneLine wide ∷ []; room = 99 }
+    -- a line that may have no number, and so no end
+    ∷ record { parts = oneLine bare ∷ []; room = 99 }
     -- a byte too little room
     ∷ record { parts = store .parts; room = 60 }
     ∷ []
 
-forms-right : map wellMade forms ≡ true ∷ false ∷ false ∷ false ∷ false ∷ false ∷ false ∷ []
-unfolding forms otherLine untagged wide store roundLine squareLine shelfLine noteLine endLine
-    wellMade partsMade told apart disjoint kindsMade lineMade narrow kindOf
+forms-right : map wellMade forms ≡ true ∷ false ∷ false ∷ false ∷ false ∷ false ∷ false ∷ false ∷ []
+unfolding forms otherLine untagged wide bare store roundLine squareLine shelfLine noteLine endLine
+    wellMade partsMade told apart disjoint kindsMade lineMade readable narrow kindOf
     partsMost kindsMost numbersMost digitsOf digitsIn
 forms-right = refl
