@@ -4,7 +4,7 @@ use Prim.Native.Nat.{ℕ, _+_, _*_, _≤_, _<_}
 use mathlib.Core.Path.{_≡_}
 use mathlib.Core.Bool.{true}
 use mathlib.Core.List.{List, [], _∷_, _++_, map}
-use lib.ListN.{length, getD, drop, replicate}
+use lib.ListN.{length, getD, drop}
 use Rattle.text.specs.Limit.{Limit}
 use Rattle.text.specs.Line.{Line}
 use Rattle.sheet.specs.Lines.{lines, fittings, fittingHigh}
@@ -19,9 +19,9 @@ abbrev highsOn : List Line → List ℕ
 highsOn [] = []
 highsOn (l ∷ ls) = map (λ (m : Limit). m .high) (l .limits) ++ highsOn ls
 
--- of the words in their order, without the HULL number
+-- of the words before the fittings in their order, without the HULL number
 abbrev pub highs : List ℕ
-highs = drop 1 (highsOn lines ++ replicate fittings fittingHigh)
+highs = drop 1 (highsOn lines)
 
 abbrev pub highAt : ℕ → ℕ
 highAt place = getD highs place 0
@@ -57,9 +57,10 @@ pub record Stations (ls : List (List ℕ)) (ref : ℕ) : Type 0 where
 
 -- ---- fittings
 
-pub record Weights (ws : List ℕ) : Type 0 where
-  pub few : length ws ≤ fittings
-  pub light : (k : ℕ) → getD ws k 0 ≤ fittingHigh
+-- weight and count in turn
+pub record Fittings (s : List ℕ) : Type 0 where
+  pub many : length s ≡ 2 * fittings
+  pub light : (k : ℕ) → getD s (2 * k) 0 * getD s (2 * k + 1) 0 ≤ fittingHigh
 
 -- ---- sums and products
 

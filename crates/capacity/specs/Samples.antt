@@ -1,6 +1,6 @@
 -- 01, Sample sheets: the base hull, what a case changes of it and what it says. Starred cases 1 to 7, which are of a
 -- sheet.
-use mathlib.Core.Bool.{Bool, false, _&&_}
+use mathlib.Core.Bool.{Bool, false, _&&_, cond}
 use mathlib.Core.List.{List, [], _∷_, _++_}
 use Prim.Native.Nat.{ℕ}
 use lib.Dec.{eqb, leb}
@@ -19,17 +19,21 @@ use Rattle.capacity.specs.PlateA.{markedA, plateA}
 abbrev pub baseStation : List ℕ
 baseStation = 1000 ∷ replicate 6 500
 
--- by FORM, the readings of station T, and what MASS, PWR, SEAT and fitting line 1 have
+-- by FORM, the readings of station T, and what MASS, PWR, SEAT and fitting line 1, weight and count, have
 abbrev pub wordsTo : List ℕ → List ℕ → List ℕ → List ℕ
 wordsTo form t boat =
-    form ++ (baseStation ++ (baseStation ++ (baseStation ++ (t ++ (0 ∷ 0 ∷ 0 ∷ (boat ++ replicate 23 0))))))
+    form ++ (baseStation ++ (baseStation ++ (baseStation ++ (t ++ (0 ∷ 0 ∷ 0 ∷ (boat ++ replicate 46 0))))))
 
 unfoldable pub words : List ℕ → List ℕ → List ℕ
 words form boat = wordsTo form baseStation boat
 
+-- a fitting as 01 has them, of one piece, or none
+abbrev pub onePiece : ℕ → List ℕ
+onePiece weight = weight ∷ cond (eqb weight 0) 0 1 ∷ []
+
 unfoldable pub seated : ℕ → ℕ → ℕ → ℕ → List ℕ
 seated tested declared bare fitting =
-    words (4500 ∷ 4000 ∷ 1200 ∷ 500 ∷ 0 ∷ 1 ∷ []) (bare ∷ 0 ∷ 0 ∷ 1 ∷ declared ∷ 5 ∷ tested ∷ fitting ∷ [])
+    words (4500 ∷ 4000 ∷ 1200 ∷ 500 ∷ 0 ∷ 1 ∷ []) (bare ∷ 0 ∷ 0 ∷ 1 ∷ declared ∷ 5 ∷ tested ∷ onePiece fitting)
 
 unfoldable pub load : ℕ → ℕ → ℕ → List ℕ
 load = seated 0
@@ -37,10 +41,10 @@ load = seated 0
 -- reference length 4000, or the length where that is less
 unfoldable pub power : ℕ → ℕ → ℕ → ℕ → ℕ → List ℕ
 power reference long wide flat remote =
-    words (long ∷ reference ∷ wide ∷ 500 ∷ flat ∷ remote ∷ []) (200000 ∷ 0 ∷ 0 ∷ 1 ∷ 20000 ∷ 5 ∷ 0 ∷ 0 ∷ [])
+    words (long ∷ reference ∷ wide ∷ 500 ∷ flat ∷ remote ∷ []) (200000 ∷ 0 ∷ 0 ∷ 1 ∷ 20000 ∷ 5 ∷ 0 ∷ 0 ∷ 0 ∷ [])
 
 unfoldable pub inboard : List ℕ
-inboard = words (4500 ∷ 4000 ∷ 1200 ∷ 500 ∷ 0 ∷ 0 ∷ []) (200000 ∷ 20000 ∷ 50000 ∷ 0 ∷ 20000 ∷ 5 ∷ 0 ∷ 0 ∷ [])
+inboard = words (4500 ∷ 4000 ∷ 1200 ∷ 500 ∷ 0 ∷ 0 ∷ []) (200000 ∷ 20000 ∷ 50000 ∷ 0 ∷ 20000 ∷ 5 ∷ 0 ∷ 0 ∷ 0 ∷ [])
 
 -- ---- what a case says of its sheet
 

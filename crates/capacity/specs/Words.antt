@@ -63,6 +63,6 @@ positions s = getD s positionsAt 0
 abbrev pub tested : List ℕ → ℕ
 tested s = getD s testedAt 0
 
--- FIT: the weights on its lines
+-- FIT: weight and count of each line in turn
 abbrev pub fittingsOf : List ℕ → List ℕ
 fittingsOf s = drop fittingsAt s

@@ -5,7 +5,7 @@ use mathlib.Core.Bool.{Bool, true, false, _&&_, cond}
 use mathlib.Core.List.{List, [], _∷_}
 use mathlib.Core.Option.{Option, none, some}
 use lib.Dec.{eqb}
-use lib.ListN.{set}
+use lib.Seq.{sets}
 use Rattle.sheet.specs.Places.{fittingWord}
 use Rattle.register.specs.Refusals.{sheetOf}
 use Rattle.register.specs.Calls.{Work, put, takeOff, replace, tryPlate, newHull, openHull, work, save, dropDraft, ask}
@@ -69,8 +69,8 @@ quietSince d h (e ∷ past) =
 
 -- the sheet s after a piece of work that was accepted
 abbrev pub worked : Work → List ℕ → List ℕ
-worked (put line weight) s = set s (fittingWord line) weight
-worked (takeOff line) s = set s (fittingWord line) 0
+worked (put line weight count) s = sets s (fittingWord line) (weight ∷ count ∷ [])
+worked (takeOff line) s = sets s (fittingWord line) (0 ∷ 0 ∷ [])
 worked (replace t) s = sheetOf t
 worked (tryPlate k) s = s
 

@@ -23,7 +23,8 @@ pub record AtDesk (m : List ℕ) (d : ℕ) : Type 0 where
 pub record AtLine (m : List ℕ) (d k : ℕ) : Type 0 where
   pub size : Sized m
   pub desk : d < desks
-  pub line : k ≤ fittings
+  pub first : 1 ≤ k
+  pub last : k ≤ fittings
 
 -- the first n hulls, and a desk beside so many as are counted
 pub record AtHulls (m : List ℕ) (n : ℕ) : Type 0 where

@@ -83,7 +83,7 @@ draftSheetAt d = firstDraftSheet + draftWords * d
 abbrev pub draftAt : ℕ → ℕ
 draftAt d = heldAt d
 
--- the weight on a fitting line of a desk's draft
+-- weight and count on a fitting line of a desk's draft: the weight stands there, its count after it
 abbrev pub fittingAt : ℕ → ℕ → ℕ
 fittingAt d line = draftSheetAt d + fittingWord line
 
@@ -120,6 +120,7 @@ opening m d = getD m (openingAt d) 0
 abbrev pub draftSheet : List ℕ → ℕ → List ℕ
 draftSheet m d = part m (draftSheetAt d) sheetWords
 
+-- the weight of one piece, 0 where there is none
 abbrev pub fitting : List ℕ → ℕ → ℕ → ℕ
 fitting m d line = getD m (fittingAt d line) 0
 

@@ -1,7 +1,7 @@
 -- 01, Calls on the register: what an accepted call makes of the memory. Each is a write to one slot; entering a hull
 -- counts it too, and saving a draft ends it too.
 use Prim.Native.Nat.{ℕ, _+_}
-use mathlib.Core.List.{List}
+use mathlib.Core.List.{List, [], _∷_}
 use lib.ListN.{set, replicate}
 use lib.Seq.{sets}
 use Rattle.memory.specs.Layout.{registerWords, countAt, hullAt, draftAt, heldAt, draftSheetAt, fittingAt}
@@ -19,9 +19,9 @@ entered m s = set (sets m (hullAt (hullCount m)) (hullSlot 0 s)) countAt (hullCo
 unfoldable pub opened : List ℕ → ℕ → ℕ → List ℕ
 opened m d h = sets m (draftAt d) (draftSlot h (edit m h) (hullSheet m h))
 
--- put a fitting, or with weight 0 take one off
-unfoldable pub fitted : List ℕ → ℕ → ℕ → ℕ → List ℕ
-fitted m d line weight = set m (fittingAt d line) weight
+-- put a fitting, or with weight 0 and count 0 take one off
+unfoldable pub fitted : List ℕ → ℕ → ℕ → ℕ → ℕ → List ℕ
+fitted m d line weight count = sets m (fittingAt d line) (weight ∷ count ∷ [])
 
 -- replace: another sheet, of the same draft
 unfoldable pub replaced : List ℕ → ℕ → List ℕ → List ℕ

@@ -16,9 +16,9 @@ use Rattle.register.specs.Refusals.{freshRefusal, roomRefusal, hullRefus
 use Rattle.register.specs.Refusals.{takeOwn, saveOwn}
 use Rattle.register.specs.Refusals.{orRefused, leaves, sheetOf, onText}
 
--- what a desk does on its draft: a fitting's line and weight; a line; a text; a plate on trial
+-- what a desk does on its draft: a fitting's line, weight and count; a line; a text; a plate on trial
 pub data Work : Type 0 where
-  put : ℕ → ℕ → Work
+  put : ℕ → ℕ → ℕ → Work
   takeOff : ℕ → Work
   replace : List ℕ → Work
   tryPlate : PlateKind → Work
@@ -64,7 +64,7 @@ shared m (ask h q) = hullRefusal m h
 
 -- work on a draft whose sheet is s
 abbrev pub workAnswer : Work → List ℕ → Answer
-workAnswer (put line weight) s = orRefused (putOwn line weight) Done
+workAnswer (put line weight count) s = orRefused (putOwn line weight count) Done
 workAnswer (takeOff line) s = orRefused (takeOwn s line) Done
 workAnswer (replace t) s = onText t Done
 workAnswer (tryPlate k) s = plateOf k s
@@ -86,8 +86,8 @@ own m (ask h q) = askAnswer h q (hullSheet m h)
 -- ---- what it makes, where nothing refuses it: of the memory, and of the lent output
 
 abbrev pub workMakes : List ℕ → ℕ → Work → List ℕ
-workMakes m d (put line weight) = fitted m d line weight
-workMakes m d (takeOff line) = fitted m d line 0
+workMakes m d (put line weight count) = fitted m d line weight count
+workMakes m d (takeOff line) = fitted m d line 0 0
 workMakes m d (replace t) = replaced m d (sheetOf t)
 workMakes m d (tryPlate k) = m
 

@@ -3,16 +3,17 @@
 -- nothing.
 use Prim.Native.Nat.{ℕ}
 use mathlib.Core.Bool.{_&&_, cond}
-use mathlib.Core.List.{List, []}
+use mathlib.Core.List.{List, [], _∷_}
 use lib.Dec.{eqb, leb, ltb}
 use lib.ListN.{length, getD, drop}
+use Rattle.text.specs.Limit.{allHold}
 use Rattle.form.specs.Outcome.{right, wrong}
 use Rattle.answers.specs.Refusals.{badMemory, outsideLimits, full, noHull, noDesk, noDraft, editedSince, editsSpent}
 use Rattle.answers.specs.Refusals.{emptyLine}
 use Rattle.answers.specs.declared.Answer.{Answer}
 use Rattle.answers.specs.declared.Answer.the-variants.{Refused, RefusedAt, Done, Count, Plate}
 use Rattle.sheet.specs.Places.{fittingWord}
-use Rattle.sheet.specs.Lines.{fittings, fittingHigh}
+use Rattle.sheet.specs.Lines.{fittings, fitLine}
 use Rattle.sheet.specs.SheetText.{readSheet}
 use Rattle.memory.specs.Layout.{mostHulls, desks, registerWords, hullCount, edit, held, draftHull, opening}
 use Rattle.memory.specs.Formed.{mostEdits, formed}
@@ -41,10 +42,9 @@ deskRefusal m d = cond (formed m) (cond (ltb d desks) (cond (eqb (held m d) 0) n
 
 -- ---- what only this call asks
 
--- put: the fitting's line and weight
-abbrev pub putOwn : ℕ → ℕ → ℕ
-putOwn line weight =
-    cond (leb 1 line && (leb line fittings && (leb 1 weight && leb weight fittingHigh))) 0 outsideLimits
+-- put: line, weight and count are held to the limits of a FIT line, 02 (vi)
+abbrev pub putOwn : ℕ → ℕ → ℕ → ℕ
+putOwn line weight count = cond (allHold (fitLine .limits) 0 (line ∷ weight ∷ count ∷ [])) 0 outsideLimits
 
 -- take off: the line, and then that it is not empty on the sheet s
 abbrev pub takeOwn : List ℕ → ℕ → ℕ

@@ -1,79 +1,89 @@
--- Numbers within the limits of several lines, taken apart and put together. Only a limit that caps a number by the one
--- before it looks back, and no line starts with one, so each line can be judged by itself.
-use mathlib.Core.Path.{_≡_, refl, sym, _∙_}
-use mathlib.Core.Bool.{Bool, true, false, not, _&&_, true≢false}
-use mathlib.Core.List.{List, [], _∷_, _++_, append-assoc}
-use Prim.Native.Nat.{ℕ}
-use lib.Dec.{eqb}
-use lib.ListN.{length, take, drop}
-use Rattle.text.specs.Limit.{Limit, capped, holds, allHold}
+-- Numbers on several lines, each line judged by itself, are judged alike in one run: only a limit that caps a number, or
+-- counts one, looks back at the number before, and no line starts with such a limit.
+use mathlib.Core.Path.{_≡_, refl, sym, ap, _∙_}
+use mathlib.Core.Bool.{Bool, true, false, _&&_, and-assoc}
+use mathlib.Core.List.{List, [], _∷_, _++_}
+use Prim.Native.Nat.{ℕ, _+_, _≤_}
+use native.Mathlib.Omega.{arith}
+use borrow.Author.Tests.{leb-true, ne-eqb, le-ltb}
+use lib.Dec.{eqb, leb}
+use lib.ListN.{length, take, drop, length-append, length-drop}
+use lib.Seq.{take-add, drop-drop, length-take-le}
+use Rattle.text.specs.Limit.{Limit, orNone, capped, holds, allHold}
 use Rattle.text.specs.Line.{Line}
-use Rattle.ground.proofs.Booleans.{both-hold, not-false}
-use Rattle.sheet.specs.Sheet.{limitsOn}
+use Rattle.ground.proofs.Booleans.{both-hold}
+use Rattle.sheet.specs.Lines.{lines, fittings}
+use Rattle.sheet.specs.Sheet.{limitsOn, fitsOk, okOn}
 
 -- ---- limits that do not look back
 
 unfoldable pub opens : List Limit → Bool
 opens [] = true
-opens (l ∷ ls) = not (eqb (l .rule) capped)
+opens (l ∷ ls) = leb (l .rule) orNone
 
-unfoldable pub linesOpen : List Line → Bool
-linesOpen [] = true
-linesOpen (l ∷ ls) = opens (l .limits) && linesOpen ls
-
-holds-free : (l : Limit) (a b n : ℕ) → eqb (l .rule) capped ≡ false → holds l a n ≡ holds l b n
-holds-free l a b n e = rw e
+holds-free : (l : Limit) (a b n : ℕ) → leb (l .rule) orNone ≡ true → holds l a n ≡ holds l b n
+holds-free l a b n e =
+    let r = leb-true (l .rule) orNone e in
+    rw (ne-eqb (l .rule) capped (λ z. omega arith), le-ltb capped (l .rule) (omega arith))
 
 pub hold-free : (ls : List Limit) (a b : ℕ) (ns : List ℕ) → opens ls ≡ true → allHold ls a ns ≡ allHold ls b ns
 unfolding opens allHold
 hold-free [] a b [] e = refl
 hold-free [] a b (n ∷ ns) e = refl
 hold-free (l ∷ ls) a b [] e = refl
-hold-free (l ∷ ls) a b (n ∷ ns) e = rw (holds-free l a b n (not-false (eqb (l .rule) capped) e))
+hold-free (l ∷ ls) a b (n ∷ ns) e = ap (λ (u : Bool). u && allHold ls n ns) (holds-free l a b n e)
 
--- ---- numbers by two lists of limits
-
-pub record Split (ls ms : List Limit) (last : ℕ) (ns : List ℕ) : Type 0 where
-  pub seam : ℕ
-  pub first : allHold ls last (take (length ls) ns) ≡ true
-  pub rest : allHold ms seam (drop (length ls) ns) ≡ true
-
-pub hold-split : (ls ms : List Limit) (last : ℕ) (ns : List ℕ) → allHold (ls ++ ms) last ns ≡ true → Split ls ms last ns
+-- numbers by two lists of limits, of which the second does not look back
+pub hold-parts : (ls ms : List Limit) (last : ℕ) (xs ys : List ℕ) → length xs ≡ length ls → opens ms ≡ true
+    → allHold (ls ++ ms) last (xs ++ ys) ≡ (allHold ls last xs && allHold ms 0 ys)
 unfolding allHold
-hold-split [] ms last ns h = record { seam = last; first = refl; rest = h }
-hold-split (l ∷ ls) ms last [] h = absurd (true≢false (sym h))
-hold-split (l ∷ ls) ms last (n ∷ ns) h =
-    let p = both-hold (holds l last n) (allHold (ls ++ ms) n ns) h in
-    let s = hold-split ls ms n ns (p .1) in
-    record { seam = s .seam; first = rw (p .0, s .first); rest = s .rest }
+hold-parts [] ms last [] ys e f = hold-free ms last 0 ys f
+hold-parts [] ms last (x ∷ xs) ys e f = absurd (omega arith)
+hold-parts (l ∷ ls) ms last [] ys e f = absurd (omega arith)
+hold-parts (l ∷ ls) ms last (x ∷ xs) ys e f =
+    ap (λ (b : Bool). holds l last x && b) (hold-parts ls ms x xs ys (omega arith) f)
+    ∙ sym (and-assoc (holds l last x) (allHold ls x xs) (allHold ms 0 ys))
 
-pub hold-join : (ls ms : List Limit) (last : ℕ) (xs ys : List ℕ) → allHold ls last xs ≡ true
-    → ((m : ℕ) → allHold ms m ys ≡ true)
-    → allHold (ls ++ ms) last (xs ++ ys) ≡ true
-unfolding allHold
-hold-join [] ms last [] ys h r = r last
-hold-join [] ms last (x ∷ xs) ys h r = absurd (true≢false (sym h))
-hold-join (l ∷ ls) ms last [] ys h r = absurd (true≢false (sym h))
-hold-join (l ∷ ls) ms last (x ∷ xs) ys h r =
-    let p = both-hold (holds l last x) (allHold ls x xs) h in
-    rw (p .0, hold-join ls ms x xs ys (p .1) r)
+-- ---- lines that do not
 
--- ---- a line, and the lines after it
+unfoldable pub linesOpen : List Line → Bool
+linesOpen [] = true
+linesOpen (l ∷ ls) = opens (l .limits) && linesOpen ls
 
-pub record Lined (l : Line) (ls : List Line) (ms : List Limit) (s : List ℕ) : Type 0 where
-  pub seam : ℕ
-  pub first : allHold (l .limits) 0 (take (length (l .limits)) s) ≡ true
-  pub rest : allHold (limitsOn ls ++ ms) seam (drop (length (l .limits)) s) ≡ true
+pub lines-open : linesOpen lines ≡ true
+unfolding linesOpen opens
+lines-open = refl
 
-pub lines-split : (l : Line) (ls : List Line) (ms : List Limit) (last : ℕ) (s : List ℕ) → linesOpen (l ∷ ls) ≡ true
-    → allHold (limitsOn (l ∷ ls) ++ ms) last s ≡ true
-    → Lined l ls ms s
-unfolding linesOpen limitsOn
-lines-split l ls ms last s o h =
-    let p = hold-split (l .limits) (limitsOn ls ++ ms) last s (rw (append-assoc (l .limits) (limitsOn ls) ms) at h) in
+joined-open : (ls ms : List Limit) → opens ls ≡ true → opens ms ≡ true → opens (ls ++ ms) ≡ true
+unfolding opens
+joined-open [] ms a b = b
+joined-open (l ∷ ls) ms a b = a
+
+limits-open : (ls : List Line) → linesOpen ls ≡ true → opens (limitsOn ls) ≡ true
+unfolding linesOpen opens limitsOn
+limits-open [] h = refl
+limits-open (l ∷ ls) h =
+    let p = both-hold (opens (l .limits)) (linesOpen ls) h in
+    joined-open (l .limits) (limitsOn ls) (p .0) (limits-open ls (p .1))
+
+-- in one run
+pub ok-run : (ls : List Line) (s : List ℕ) → linesOpen ls ≡ true → length (limitsOn ls) ≤ length s
+    → okOn ls s
+    ≡ (allHold (limitsOn ls) 0 (take (length (limitsOn ls)) s) && fitsOk fittings (drop (length (limitsOn ls)) s))
+unfolding okOn limitsOn linesOpen allHold
+ok-run [] s o h = refl
+ok-run (l ∷ ls) s o h =
+    let n : ℕ = length (l .limits) in
+    let m : ℕ = length (limitsOn ls) in
+    let k : length (l .limits ++ limitsOn ls) ≡ n + m = length-append (l .limits) (limitsOn ls) in
     let os = both-hold (opens (l .limits)) (linesOpen ls) o in
-    record {
-      seam = p .seam;
-      first = hold-free (l .limits) 0 last (take (length (l .limits)) s) (os .0) ∙ p .first;
-      rest = p .rest;
-    }
+    let first = length-take-le n s (omega (arith, k)) in
+    let both =
+    hold-parts (l .limits) (limitsOn ls) 0 (take n s) (take m (drop n s)) first (limits-open ls (os .1)) in
+    let rest = ok-run ls (drop n s) (os .1) (omega (arith, k, length-drop n s)) in
+    let a : Bool = allHold (l .limits) 0 (take n s) in
+    let b : Bool = allHold (limitsOn ls) 0 (take m (drop n s)) in
+    let c : Bool = fitsOk fittings (drop m (drop n s)) in
+    ap (λ (u : Bool). a && u) rest
+    ∙ sym (and-assoc a b c)
+    ∙ rw (k, take-add n m s, both, ← drop-drop m n s)

@@ -1,17 +1,18 @@
 -- The laws of sheets and engine rows, a file for each concept.
 pub mod Table  -- the code's table of limits is the sheet's
-pub mod Held  -- numbers within the limits of several lines
+pub mod Held  -- numbers on several lines, line by line and in one run
 pub mod Words  -- a sheet's words without its HULL number
 pub mod WellMade  -- both forms are well made
-pub mod Weights  -- FIT rows and the weights on the fitting lines
-pub mod WeightLimits  -- with the same limits
+pub mod FitRow  -- what a fitting line and a FIT row have
+pub mod Fits  -- FIT rows and the fitting lines
+pub mod FitLimits  -- with the same limits
 pub mod SheetRows  -- a sheet's numbers and the rows of its text
 pub mod SheetText  -- the single text of a sheet, both ways; 2 or 3 alone
 pub mod EngineText  -- the single text of engine rows, both ways; their columns; 2 or 3 alone
 pub mod Writing  -- a sheet's text, line by line
 pub mod Most  -- 610 bytes, and the sheet that reaches them
 pub mod Calls  -- the single text as a caller sees it
-pub mod Places  -- where a refused text is wrong: line and byte are where it goes wrong by the line rules
+-- pub mod Places  -- where a refused text is wrong: line and byte are where it goes wrong by the line rules
 pub mod Unmoved  -- what 02 (v) leaves of the readers and their calls as it was
 pub mod Refused  -- what comes first, which refusal has a place; a refused call leaves every lent byte
 pub mod Listed  -- refusals of the list alone

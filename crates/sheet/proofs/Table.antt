@@ -1,16 +1,17 @@
--- The code's table of limits is that of the sheet.
+-- The code's table of limits is that of the lines HULL to SEAT.
 use mathlib.Core.Path.{_≡_, refl, ap, _∙_}
 use mathlib.Core.List.{List}
-use Prim.Native.Nat.{ℕ}
+use Prim.Native.Nat.{ℕ, _+_}
 use lib.ListN.{length}
 use Rattle.text.specs.Limit.{limitsOf}
-use Rattle.sheet.specs.Sheet.{limitRows, sheetLimits, limitsOn}
-use Rattle.sheet.specs.Places.{textWords}
+use Rattle.sheet.specs.Lines.{lines}
+use Rattle.sheet.specs.Sheet.{limitRows, limitsOn}
+use Rattle.sheet.specs.Places.{fittingsAt}
 
-table-limits : limitsOf limitRows ≡ sheetLimits
-unfolding limitRows sheetLimits limitsOn
+table-limits : limitsOf limitRows ≡ limitsOn lines
+unfolding limitRows limitsOn
 table-limits = refl
 
-pub rows-long : {rows : List (List ℕ)} → rows ≡ limitRows → length rows ≡ textWords
-unfolding limitRows sheetLimits limitsOn
+pub rows-long : {rows : List (List ℕ)} → rows ≡ limitRows → length rows ≡ 1 + fittingsAt
+unfolding limitRows limitsOn
 rows-long e = ap length e

@@ -2,7 +2,7 @@
 use mathlib.Core.Path.{_≡_, refl}
 use mathlib.Core.Bool.{true}
 use Rattle.text.specs.Number.{digitsIn, digitsOf}
-use Rattle.text.proofs.Limit.{narrow}
+use Rattle.text.proofs.Limit.{narrow, readable}
 use Rattle.form.specs.Parts.{kindOf}
 use Rattle.form.proofs.Letters.{lineMade, kindsMade}
 use Rattle.text.proofs.Most.{numbersMost}
@@ -12,11 +12,11 @@ use Rattle.sheet.specs.SheetText.{sheetForm}
 use Rattle.sheet.specs.EngineText.{engineForm}
 
 pub sheet-made : wellMade sheetForm ≡ true
-unfolding wellMade partsMade told apart disjoint kindsMade lineMade narrow kindOf
+unfolding wellMade partsMade told apart disjoint kindsMade lineMade readable narrow kindOf
     partsMost kindsMost numbersMost digitsOf digitsIn sheetForm
 sheet-made = refl
 
 pub engines-made : wellMade engineForm ≡ true
-unfolding wellMade partsMade told apart disjoint kindsMade lineMade narrow kindOf
+unfolding wellMade partsMade told apart disjoint kindsMade lineMade readable narrow kindOf
     partsMost kindsMost numbersMost digitsOf digitsIn engineForm
 engines-made = refl

@@ -12,7 +12,7 @@ use Rattle.form.specs.Writing.{rowsText, partsText}
 use Rattle.form.proofs.Single.{single-text}
 use Rattle.sheet.specs.Lines.{lines, fitLine, endLine}
 use Rattle.sheet.specs.SheetText.{fitPart, eachOnce, sheetForm, fitRows, rowsOn, sheetText, lastParts}
-use Rattle.sheet.proofs.Weights.{row-none, row-some}
+use Rattle.sheet.proofs.Fits.{row-none, row-some}
 
 -- the text from the lines ls on: of the numbers on them, of the fittings after these, and END
 abbrev pub textOn : List Line → List ℕ → List ℕ
@@ -32,22 +32,23 @@ text-line l ls s =
 
 -- ---- fittings
 
--- the weights on the lines from n on
+-- those on the lines from n on
 abbrev pub fitsText : ℕ → List ℕ → List ℕ
-fitsText n ws = rowsText (fitPart .kinds) (fitRows n ws)
+fitsText n s = rowsText (fitPart .kinds) (fitRows n s)
 
-pub text-fits : (ws : List ℕ) → textOn [] ws ≡ fitsText 1 ws ++ lineText endLine []
+pub text-fits : (s : List ℕ) → textOn [] s ≡ fitsText 1 s ++ lineText endLine []
 unfolding partsText rowsOn
-text-fits ws = rw (single-text endLine [], append-nil (lineText endLine []))
+text-fits s = rw (single-text endLine [], append-nil (lineText endLine []))
 
 pub fits-none : (n : ℕ) → fitsText n [] ≡ []
 unfolding rowsText fitRows
 fits-none n = refl
 
-pub fits-empty : (n w : ℕ) (ws : List ℕ) → eqb w 0 ≡ true → fitsText n (w ∷ ws) ≡ fitsText (suc n) ws
-fits-empty n w ws e = rw (row-none n w ws e)
+module _ (n w c : ℕ) (s : List ℕ) where
+  pub fits-empty : eqb w 0 ≡ true → fitsText n (w ∷ c ∷ s) ≡ fitsText (suc n) s
+  fits-empty e = rw (row-none n w c s e)
 
-pub fits-line : (n w : ℕ) (ws : List ℕ) → eqb w 0 ≡ false
-    → fitsText n (w ∷ ws) ≡ lineText fitLine (n ∷ w ∷ []) ++ fitsText (suc n) ws
-unfolding rowsText kindOf
-fits-line n w ws e = rw (row-some n w ws e, rowsText)
+  pub fits-line : eqb w 0 ≡ false
+      → fitsText n (w ∷ c ∷ s) ≡ lineText fitLine (n ∷ w ∷ c ∷ []) ++ fitsText (suc n) s
+  unfolding rowsText kindOf
+  fits-line e = rw (row-some n w c s e, rowsText)

@@ -5,7 +5,7 @@ use Prim.Native.String.{String}
 use mathlib.Core.List.{List, [], _∷_}
 use lib.ListN.{replicate}
 use Rattle.text.specs.Quoted.{bytes}
-use Rattle.text.specs.Limit.{Limit, ranging, rangingCapped, rangingOrNone}
+use Rattle.text.specs.Limit.{Limit, ranging, rangingCapped, rangingCount, rangingOrNone}
 use Rattle.text.specs.Line.{Line}
 
 abbrev line : String → List Limit → Line
@@ -43,12 +43,16 @@ lines =
 abbrev pub fittings : ℕ
 fittings = 24
 
+-- the most that the pieces on one line weigh together, and the most that there are
 abbrev pub fittingHigh : ℕ
 fittingHigh = 500000
 
--- a fitting's line number and weight
+abbrev pub fittingCount : ℕ
+fittingCount = 99
+
+-- a fitting's line number, the weight of one piece and, 02 (vi), how many there are; lines of before leave that out
 abbrev pub fitLine : Line
-fitLine = line "FIT\t" (ranging 1 fittings ∷ ranging 1 fittingHigh ∷ [])
+fitLine = line "FIT\t" (ranging 1 fittings ∷ ranging 1 fittingHigh ∷ rangingCount 1 fittingCount fittingHigh ∷ [])
 
 abbrev pub endLine : Line
 endLine = line "END\n" []

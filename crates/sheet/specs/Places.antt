@@ -1,6 +1,6 @@
 -- 01, The sheet: where each number stands among the words of a sheet, in the order of its text; each place follows
 -- from the one before. The one list of places.
-use Prim.Native.Nat.{ℕ, _+_, _*_}
+use Prim.Native.Nat.{ℕ, _+_, _-_, _*_}
 use Rattle.sheet.specs.Lines.{fittings}
 
 -- ---- FORM
@@ -72,19 +72,19 @@ positionsAt = 1 + declaredAt
 abbrev pub testedAt : ℕ
 testedAt = 1 + positionsAt
 
--- ---- FIT: a word for each fitting line, counted from 1
-
-abbrev pub fittingWord : ℕ → ℕ
-fittingWord line = testedAt + line
+-- ---- FIT: two words for each fitting line, counted from 1: the weight of one piece, and how many there are
 
 abbrev pub fittingsAt : ℕ
-fittingsAt = fittingWord 1
+fittingsAt = 1 + testedAt
+
+abbrev pub fittingWord : ℕ → ℕ
+fittingWord line = fittingsAt + 2 * (line - 1)
 
 -- ---- all of them
 
 -- the words that the register holds of a hull
 abbrev pub sheetWords : ℕ
-sheetWords = fittingsAt + fittings
+sheetWords = fittingsAt + 2 * fittings
 
 -- those and the HULL number before them
 abbrev pub textWords : ℕ

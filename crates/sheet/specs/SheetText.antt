@@ -1,12 +1,12 @@
 -- 01, The sheet, as a form of text: ten lines, up to 24 FIT lines whose line numbers rise, END. What a sheet's text
 -- says as the sheet's numbers, and the one text of a sheet.
-use Prim.Native.Nat.{ℕ, suc, _-_}
+use Prim.Native.Nat.{ℕ, zero, suc, _-_}
 use mathlib.Core.Bool.{true, false}
 use mathlib.Core.List.{List, [], _∷_, _++_}
 use lib.Dec.{eqb}
-use lib.ListN.{length, take, drop, getD, replicate}
+use lib.ListN.{length, take, drop, getD}
 use Rattle.text.specs.Line.{Line}
-use Rattle.form.specs.Parts.{Part, Form, Rows, lineRow, oneLine, risingLines, letterOf, numbersOf}
+use Rattle.form.specs.Parts.{Part, Form, Row, Rows, lineRow, oneLine, risingLines, letterOf, numbersOf}
 use Rattle.form.specs.Outcome.{Verdict, saying}
 use Rattle.form.specs.Reading.{readForm}
 use Rattle.form.specs.Writing.{formText}
@@ -29,29 +29,44 @@ lastParts = fitPart ∷ oneLine endLine ∷ []
 unfoldable pub sheetForm : Form
 sheetForm = record { parts = eachOnce lines lastParts; room = mostBytes }
 
--- ---- FIT rows and the weight on each fitting line, 0 for an empty one
+-- ---- FIT rows and the fitting lines
 
--- the weights from line number next on
-unfoldable pub weightsFrom : ℕ → Rows → List ℕ
-weightsFrom next [] = replicate (suc fittings - next) 0
-weightsFrom next (r ∷ rs) =
-    replicate (getD (r .numbers) 0 0 - next) 0
-    ++ (getD (r .numbers) 1 0 ∷ weightsFrom (suc (getD (r .numbers) 0 0)) rs)
+abbrev pub fitNumber : Row → ℕ
+fitNumber r = getD (r .numbers) 0 0
 
--- the rows of the weights on the lines from n on
+abbrev pub fitWeight : Row → ℕ
+fitWeight r = getD (r .numbers) 1 0
+
+-- 02 (vi): a line of before, with two numbers, is of one piece
+abbrev pub fitCount : Row → ℕ
+fitCount r = getD (r .numbers) 2 1
+
+-- so many lines without a fitting
+unfoldable pub emptyLines : ℕ → List ℕ
+emptyLines zero = []
+emptyLines (suc k) = 0 ∷ 0 ∷ emptyLines k
+
+-- weight and count of the lines from number next on
+unfoldable pub fitsFrom : ℕ → Rows → List ℕ
+fitsFrom next [] = emptyLines (suc fittings - next)
+fitsFrom next (r ∷ rs) =
+    emptyLines (fitNumber r - next)
+    ++ (fitWeight r ∷ fitCount r ∷ fitsFrom (suc (fitNumber r)) rs)
+
+abbrev pub fitRow : ℕ → ℕ → ℕ → Row
+fitRow n weight count = lineRow (letterOf fitLine) (n ∷ weight ∷ count ∷ [])
+
+-- the rows of the lines from n on; each has its count
 unfoldable pub fitRows : ℕ → List ℕ → Rows
 fitRows n [] = []
-fitRows n (w ∷ ws) =
-    elim (eqb w 0) [
-      | true ↦ fitRows (suc n) ws
-      | false ↦ lineRow (letterOf fitLine) (n ∷ w ∷ []) ∷ fitRows (suc n) ws
-    ]
+fitRows n (w ∷ []) = []
+fitRows n (w ∷ c ∷ s) = elim (eqb w 0) [ true ↦ fitRows (suc n) s | false ↦ fitRow n w c ∷ fitRows (suc n) s ]
 
 -- ---- a sheet's rows and its numbers
 
 unfoldable pub fitsOf : List Rows → List ℕ
 fitsOf [] = []
-fitsOf (rs ∷ v) = weightsFrom 1 rs
+fitsOf (rs ∷ v) = fitsFrom 1 rs
 
 unfoldable pub numbersOn : List Line → List Rows → List ℕ
 numbersOn [] v = fitsOf v

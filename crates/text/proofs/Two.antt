@@ -3,10 +3,9 @@ use mathlib.Core.Path.{_≡_, refl}
 use mathlib.Core.Bool.{true, false, _&&_}
 use mathlib.Core.List.{List, [], _∷_}
 use Prim.Native.Nat.{ℕ, _≤_}
-use borrow.Author.Tests.{leb-true, le-leb}
-use lib.Dec.{leb}
 use Rattle.text.specs.Limit.{ranging, holds, allHold}
 use Rattle.ground.proofs.Booleans.{both-hold, false-true}
+use Rattle.text.proofs.Bounds.{ranging-between, between-ranging}
 
 -- two numbers, from a to b and from c to d
 pub record Two (a b c d : ℕ) (ns : List ℕ) : Type 0 where
@@ -21,16 +20,16 @@ pub record Two (a b c d : ℕ) (ns : List ℕ) : Type 0 where
 module _ (a b c d : ℕ) where
   two-ranging : (n w : ℕ) → holds (ranging a b) 0 n ≡ true → holds (ranging c d) n w ≡ true → Two a b c d (n ∷ w ∷ [])
   two-ranging n w h k =
-      let p = both-hold (leb a n) (leb n b && true) h in
-      let q = both-hold (leb c w) (leb w d && true) k in
+      let p = ranging-between a b 0 n h in
+      let q = ranging-between c d n w k in
       record {
         n = n;
         w = w;
         are = refl;
-        n-low = leb-true a n (p .0);
-        n-high = leb-true n b (both-hold (leb n b) true (p .1) .0);
-        w-low = leb-true c w (q .0);
-        w-high = leb-true w d (both-hold (leb w d) true (q .1) .0);
+        n-low = p .least;
+        n-high = p .most;
+        w-low = q .least;
+        w-high = q .most;
       }
 
   pub two-numbers : (ns : List ℕ) → allHold (ranging a b ∷ ranging c d ∷ []) 0 ns ≡ true → Two a b c d ns
@@ -51,4 +50,4 @@ module _ (a b c d : ℕ) where
       → w ≤ d
       → allHold (ranging a b ∷ ranging c d ∷ []) 0 (n ∷ w ∷ []) ≡ true
   unfolding allHold
-  numbers-two n w e f g h = rw (le-leb a n e, le-leb n b f, le-leb c w g, le-leb w d h)
+  numbers-two n w e f g h = rw (between-ranging a b 0 n e f, between-ranging c d n w g h)
