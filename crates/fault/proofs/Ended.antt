@@ -4,13 +4,14 @@ use mathlib.Core.Path.{_≡_, sym, ap, _∙_}
 use mathlib.Core.List.{List, _++_, append-assoc}
 use Prim.Native.Nat.{ℕ, suc, _+_, _≤_, _<_}
 use native.Mathlib.Omega.{arith}
-use lib.ListN.{length, take, drop, length-append, take-append-drop}
-use lib.Seq.{drop-append-seam, drop-drop, take-append-add, take-take}
+use lib.ListN.{length, take, drop, length-append}
+use lib.Seq.{drop-append-seam, drop-drop, take-append-add}
 use Rattle.ground.proofs.Booleans.{by-less}
 use Rattle.text.specs.Field.{fieldOf}
 use Rattle.text.proofs.Led.{Led}
 use Rattle.fault.specs.Rules.{Rule}
 use Rattle.fault.specs.Faulty.{Begun, Faulty}
+use Rattle.fault.proofs.Rules.{begun-sooner}
 
 -- the place after the field at k and the byte that ends it
 abbrev pub afterField : List ℕ → ℕ → ℕ
@@ -27,13 +28,7 @@ ended-before {R} {t} {k} {j} e p = by-less k (afterField t j) (λ h. absurd (not
   where
     not-before : k < afterField t j → ⊥
     not-before h =
-        let n : ℕ = afterField t j in
-        let c : take n t ≡ take (suc k) t ++ drop (suc k) (take n t) =
-        sym (rw (← take-take (suc k) n t (omega arith)) (take-append-drop (suc k) (take n t))) in
-        p .stuck (omega (arith, e .inside)) (record {
-          rest = drop (suc k) (take n t) ++ e .begun .rest;
-          whole = rw (c, append-assoc) at (e .begun .whole);
-        })
+        p .stuck (omega (arith, e .inside)) (begun-sooner t (suc k) (afterField t j) (omega arith) (e .begun))
 
 -- what stands after x, and x before it
 pub after-later : (x t : List ℕ) (k : ℕ) → afterField (x ++ t) (length x + k) ≡ length x + afterField t k

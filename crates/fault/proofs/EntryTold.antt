@@ -19,28 +19,29 @@ use Rattle.text.specs.Quoted.{dash}
 use Rattle.text.specs.Field.{fieldOf, begins}
 use Rattle.text.specs.Number.{numberOf}
 use Rattle.text.specs.Limit.{Limit, orNone, isNone, within}
-use Rattle.text.specs.Line.{ender, judged, readEntry, entryText}
+use Rattle.text.specs.Line.{judged, readEntry, entryText}
 use Rattle.text.proofs.Field.{begins-cons, field-more, field-split}
 use Rattle.text.proofs.Limit.{within-some}
 use Rattle.text.proofs.NumberSteps as Steps
 use Rattle.text.proofs.NumberTrip.{read-small, read-writes}
-use Rattle.text.proofs.EntryTrip.{ender-ends}
+use Rattle.text.proofs.EntryTrip.{Ends, ender-ends}
 use Rattle.fault.specs.Rules.{Rule, Then, Field, inDigits, asDash, Entry}
 use Rattle.fault.specs.Faulty.{Faulty}
-use Rattle.fault.specs.Reached.{Outside, FieldStops, inForm, inLimit, Refusal}
+use Rattle.fault.specs.Reached.{EndedBy, asDue, short, Outside, FieldStops, inForm, inLimit, Refusal}
 use Rattle.fault.proofs.Rules.{Some}
 use Rattle.fault.proofs.Stopped.{small-numeral}
 use Rattle.fault.proofs.EntryPlace.{no-number, number-unended, dash-unended}
 
-module _ (l : Limit) (ls : List Limit) (last : ℕ) (t : List ℕ) (S : Rule) (some : Some S) where
-  abbrev e : ℕ
-  e = ender ls
+pub ended-ends : {ls : List Limit} {e : ℕ} → EndedBy ls e → Ends e
+ended-ends {ls} (asDue q) = rw q (ender-ends ls)
+ended-ends (short s q) = rw q refl
 
+module _ (l : Limit) (ls : List Limit) (last e : ℕ) (t : List ℕ) (by : EndedBy ls e) (S : Rule) (some : Some S) where
   abbrev f : List ℕ
   f = fieldOf t
 
   abbrev Refused : ℕ → ℕ → Type 0
-  Refused = Refusal (Then (Entry (l .rule) e) S) (λ n. FieldStops n (l ∷ ls) last) t
+  Refused = Refusal (Then (Entry (l .rule) e) S) (λ n. FieldStops n l ls last) t
 
   abbrev Told : EntryRead → Type 0
   Told (Number n k) = Field (l .rule) (entryText l n)
@@ -61,7 +62,7 @@ module _ (l : Limit) (ls : List Limit) (last : ℕ) (t : List ℕ) (S : Rule) (s
   dash-refused d b =
       let x = begins-cons dash t (both-hold (eqb (l .rule) orNone) (begins dash t) d .1) in
       let y : f ≡ dash ∷ fieldOf (drop 1 t) = ap fieldOf x ∙ field-more dash (drop 1 t) refl in
-      in-form 1 (dash-unended (l .rule) e (ender-ends ls) S some t d b) (omega (arith, ap length y))
+      in-form 1 (dash-unended (l .rule) e (ended-ends by) S some t d b) (omega (arith, ap length y))
 
   -- ---- a number
 
@@ -73,14 +74,13 @@ module _ (l : Limit) (ls : List Limit) (last : ℕ) (t : List ℕ) (S : Rule) (s
   value-outside n v b i =
       let x : drop (length f) t ≡ e ∷ drop (length f + 1) t =
       begins-cons e (drop (length f) t) b ∙ rw (drop-drop 1 (length f) t) in
-      let y : Outside (l ∷ ls) last t =
+      let y : Outside l ls last t =
       record {
-        here = l;
-        more = ls;
         value = n;
+        end = e;
         rest = drop (length f + 1) t;
-        first = refl;
         few = read-small f n v;
+        ended = by;
         text = sym (field-split t) ∙ rw (x, read-writes f n v);
         outside = i;
       } in
@@ -89,13 +89,13 @@ module _ (l : Limit) (ls : List Limit) (last : ℕ) (t : List ℕ) (S : Rule) (s
   judged-told : (r : NumberRead) → (eqb (l .rule) orNone && begins dash t) ≡ false → numberOf f ≡ r
       → Told (judged r l last e (length f) (drop (length f) t))
   judged-told (Malformed i) d v =
-      in-form i (no-number (l .rule) e (ender-ends ls) S some t d i v) (Steps.number-place f i v)
+      in-form i (no-number (l .rule) e (ended-ends by) S some t d i v) (Steps.number-place f i v)
   judged-told (Value n) d v =
       by-test (begins e (drop (length f) t))
       (λ b.
       by-test (within l last n) (λ i. rw (b, i) (value-told n v i)) (λ i. rw (b, i) (value-outside n v b i)))
       (λ b.
-      rw b (in-form (length f) (number-unended (l .rule) e (ender-ends ls) S some t n v b) (omega arith)))
+      rw b (in-form (length f) (number-unended (l .rule) e (ended-ends by) S some t n v b) (omega arith)))
 
   -- ---- either
 
@@ -107,9 +107,9 @@ module _ (l : Limit) (ls : List Limit) (last : ℕ) (t : List ℕ) (S : Rule) (s
       by-test (begins e (drop 1 t)) (λ b. rw (d, b) (dash-told d)) (λ b. rw (d, b) (dash-refused d b)))
       (λ d. rw d (judged-told (numberOf f) d refl))
 
-  pub entry-field : (n k : ℕ) → readEntry l last (ender ls) t ≡ Number n k → Field (l .rule) (entryText l n)
+  pub entry-field : (n k : ℕ) → readEntry l last e t ≡ Number n k → Field (l .rule) (entryText l n)
   entry-field n k v = rw v at told
 
-  pub entry-refused : (number k : ℕ) → readEntry l last (ender ls) t ≡ Misread number k
-      → Refusal (Then (Entry (l .rule) (ender ls)) S) (λ n. FieldStops n (l ∷ ls) last) t number k
+  pub entry-refused : (number k : ℕ) → readEntry l last e t ≡ Misread number k
+      → Refusal (Then (Entry (l .rule) e) S) (λ n. FieldStops n l ls last) t number k
   entry-refused number k v = rw v at told

@@ -8,7 +8,7 @@ use Rattle.text.specs.Field.{fieldOf, agreed}
 use Rattle.text.specs.Number.{numberOf, restOf, digitsIn, digitsOf}
 use Rattle.text.specs.Line.{readEntry, readNumbers, readLine}
 use Rattle.text.proofs.LineExamples.{Case, case}
-use Rattle.text.proofs.Limit.{narrow}
+use Rattle.text.proofs.Limit.{narrow, readable}
 use Rattle.text.proofs.Most.{numbersMost}
 use Rattle.form.specs.Parts.{Part, someLines, oneLine, kindOf}
 use Rattle.form.specs.Outcome.{lost}
@@ -42,7 +42,7 @@ parts-right = refl
 
 pub store-made : wellMade store ≡ true
 unfolding store roundLine squareLine shelfLine noteLine endLine
-    wellMade partsMade told apart disjoint kindsMade lineMade narrow kindOf
+    wellMade partsMade told apart disjoint kindsMade lineMade readable narrow kindOf
     partsMost kindsMost numbersMost digitsOf digitsIn
 store-made = refl
 

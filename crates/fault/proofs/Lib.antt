@@ -1,5 +1,6 @@
 -- The laws of places at fault.
 pub mod Rules  -- rules, and texts that go wrong by them
+pub mod Choice  -- one rule or another, told by a text's start
 pub mod Going  -- readings one after another: what was read well leaves the rest of the text to decide
 pub mod Stopped  -- where the number reader stops in a field
 pub mod Numeral  -- a field that is no number: the number reader tells its place at fault and no other
@@ -7,10 +8,12 @@ pub mod Cut  -- a text cut off, with others after it: its first bytes and its fi
 pub mod Entry  -- the text of a field with the byte that must end it
 pub mod EntryPlace  -- where a field goes wrong, for each way in which its form can be wrong
 pub mod EntryTold  -- what the reader of a field tells of it
+pub mod OtherEnd  -- a field that two bytes may end, read with the one that does not
+pub mod Short  -- a field after which numbers may be left out: which of the two rules is left
+pub mod FirstNumber  -- the first number of a line: read, and refused
 pub mod Numbers  -- the numbers of a line, one field after another
 pub mod Line  -- a line of any form: taken, it goes on with the rest; refused, it has its place
 pub mod LineSamples  -- worked fields and lines that go wrong
-pub mod Choice  -- one rule or another, told by a text's first byte
 pub mod OneOf  -- a line of one of several kinds
 pub mod Raised  -- raising a limit leaves a line's rule
 pub mod Rest  -- what stands after a line

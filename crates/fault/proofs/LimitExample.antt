@@ -33,13 +33,13 @@ zero-right =
         two = bytes "0\nEND\n";
         joined = refl;
         by-one = refl;
-        by-two = record {
+        by-two = inl (record {
           one = bytes "0\n";
           two = bytes "END\n";
           joined = refl;
           by-one = zero;
           by-two = none (none end);
-        };
+        });
       });
     }
   where

@@ -21,7 +21,8 @@ use Rattle.fault.specs.Faulty.{Faulty}
 use Rattle.fault.specs.Reached.{LineStops, inTag, inNumbers, NumbersStop, Refusal}
 use Rattle.fault.proofs.Rules.{Some, sure-just, later, alike, Goes}
 use Rattle.fault.proofs.Going.{shift-fault, goes-led, goes-more, some-then}
-use Rattle.fault.proofs.Numbers.{some-fields, numbers-go, numbers-refused}
+use Rattle.fault.proofs.Short.{some-fields}
+use Rattle.fault.proofs.Numbers.{numbers-go, numbers-refused}
 
 pub some-line : {S : Rule} (l : Line) → Some S → Some (LineThen l S)
 some-line l s = some-then (l .tag) refl (some-fields (l .limits) s)

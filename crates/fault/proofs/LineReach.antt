@@ -15,11 +15,12 @@ use Rattle.text.specs.declared.LineRead.{LineRead}
 use Rattle.text.specs.Quoted.{tab, feed}
 use Rattle.text.specs.Field.{fieldOf, agreed}
 use Rattle.text.specs.Limit.{Limit}
-use Rattle.text.specs.Line.{Line, readNumbers, readLine, numbersText}
+use Rattle.text.specs.Line.{Line, readNumbers, readLine}
 use Rattle.text.proofs.Field.{field-stop, field-more, agreed-self}
-use Rattle.text.proofs.Limit.{narrow}
+use Rattle.text.proofs.Limit.{narrow, readable, readable-narrow}
 use Rattle.text.proofs.Line.{line-tagged, line-untagged, extent, extent-shift}
-use Rattle.fault.specs.Reached.{FieldStops, inForm, inLimit, lastOf, NumbersStop, LineStops, inTag, inNumbers}
+use Rattle.fault.specs.Reached.{FieldStops, inForm, inLimit, lastOf, tabbed, NumbersStop}
+use Rattle.fault.specs.Reached.{LineStops, inTag, inNumbers}
 use Rattle.fault.proofs.Ended.{afterField, after-later}
 use Rattle.fault.proofs.LineSettled.{numbers-read-on}
 
@@ -41,23 +42,25 @@ after-led x t into j h a =
 
 -- ---- numbers
 
-field-reach : (limits : List Limit) (last : ℕ) (t : List ℕ) (k j : ℕ) → FieldStops brokenLine limits last t k
+field-reach : (here : Limit) (more : List Limit) (last : ℕ) (t : List ℕ) (k j : ℕ)
+    → FieldStops brokenLine here more last t k
     → k < afterField t j
-field-reach limits last t k j (inForm q h) = omega (arith, first-field t j)
-field-reach limits last t k j (inLimit q z o) = absurd (omega arith)
+field-reach here more last t k j (inForm q h) = omega (arith, first-field t j)
+field-reach here more last t k j (inLimit q z o) = absurd (omega arith)
 
 numbers-reach : (ls : List Limit) (last : ℕ) (t : List ℕ) (k j : ℕ) → narrow ls ≡ true
     → NumbersStop brokenLine ls last t k
     → extent (readNumbers ls last t .ended) ≤ j
     → k < afterField t j
 numbers-reach ls last t k j w p h =
-    let x : List ℕ = numbersText ls (p .before) in
-    let r : LineRead = readNumbers (p .later) (lastOf last (p .before)) (p .rest) .ended in
+    let x : List ℕ = tabbed (p .done) (p .before) in
+    let r : LineRead = readNumbers (p .here ∷ p .later) (lastOf last (p .before)) (p .rest) .ended in
+    let v : narrow (p .done ++ (p .here ∷ p .later)) ≡ true = rw (p .limits) at w in
     let e : extent (readNumbers ls last t .ended) ≡ length x + extent r =
     rw (p .text, p .limits)
-    (ap extent (numbers-read-on (p .done) (p .later) last (p .before) (p .rest) (rw (p .limits) at w) (p .held))
+    (ap extent (numbers-read-on (p .done) (p .here) (p .later) last (p .before) (p .rest) v (p .many) (p .held))
     ∙ extent-shift _ r) in
-    let f = field-reach (p .later) (lastOf last (p .before)) (p .rest) (p .into) (j - length x) (p .stops) in
+    let f = field-reach (p .here) (p .later) (lastOf last (p .before)) (p .rest) (p .into) (j - length x) (p .stops) in
     rw (p .place, p .text) (after-led x (p .rest) (p .into) j (omega (arith, e)) f)
 
 -- ---- a line
@@ -72,7 +75,7 @@ agreed-taken (suc k) (a ∷ s) (b ∷ t) h e =
     let q : b ≡ a = cc in
     rw (eq-eqb b a q, agreed) (omega (arith, agreed-taken k s t (omega arith) (ap (drop 1) e)))
 
-pub line-reach : (l : Line) (t : List ℕ) (k j : ℕ) → narrow (l .limits) ≡ true → LineStops brokenLine l t k
+pub line-reach : (l : Line) (t : List ℕ) (k j : ℕ) → readable (l .limits) ≡ true → LineStops brokenLine l t k
     → extent (readLine l t .ended) ≤ j
     → k < afterField t j
 line-reach l t k j w (inTag q a e) h =
@@ -91,5 +94,6 @@ line-reach l t k j w (inNumbers rest into q e p) h =
     let a = line-tagged l (l .tag ++ rest) (agreed-self (l .tag) rest) in
     let g : extent (readLine l t .ended) ≡ length (l .tag) + extent r =
     rw (q, a, drop-append-seam (l .tag) rest) (extent-shift (length (l .tag)) r) in
-    let n = numbers-reach (l .limits) 0 rest into (j - length (l .tag)) w p (omega (arith, g)) in
+    let v = readable-narrow (l .limits) w in
+    let n = numbers-reach (l .limits) 0 rest into (j - length (l .tag)) v p (omega (arith, g)) in
     rw (e, q) (after-led (l .tag) rest into j (omega (arith, g)) n)

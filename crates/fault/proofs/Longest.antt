@@ -6,6 +6,7 @@ use Prim.Native.Nat.{ℕ, zero, suc, _+_, _*_, _≤_, max}
 use native.Mathlib.Nat.{suc-mul, mul-le-mul}
 use native.Mathlib.Omega.{arith}
 use lib.ListN.{length, length-append}
+use Rattle.text.specs.Quoted.{feed}
 use Rattle.text.specs.Limit.{Limit}
 use Rattle.text.specs.Line.{Line, ender}
 use Rattle.text.proofs.Number.{length-digits-ten}
@@ -35,10 +36,12 @@ entry-longest rule e t w =
 
 fields-longest : (S : Rule) (k : ℕ) → Within S k → (ls : List Limit) → Within (FieldsThen ls S) (11 * length ls + k)
 fields-longest S k few [] t w = omega (arith, few t w)
-fields-longest S k few (l ∷ ls) t w =
+fields-longest S k few (l ∷ ls) t (inl w) =
     let rest = fields-longest S k few ls in
     let first = entry-longest (l .rule) (ender ls) in
     omega (arith, then-longest (Entry (l .rule) (ender ls)) (FieldsThen ls S) 11 (11 * length ls + k) first rest t w)
+fields-longest S k few (l ∷ ls) t (inr (q, w)) =
+    omega (arith, then-longest (Entry (l .rule) feed) S 11 k (entry-longest (l .rule) feed) few t w)
 
 abbrev lineLongest : Line → ℕ
 lineLongest l = length (l .tag) + 11 * length (l .limits)

@@ -12,7 +12,7 @@ use lib.Dec.{eqb, ltb}
 use lib.ListN.{length, getD}
 use Rattle.text.specs.Line.{Line}
 use Rattle.ground.proofs.Booleans.{both-hold, by-test}
-use Rattle.text.proofs.Limit.{narrow}
+use Rattle.text.proofs.Limit.{readable}
 use Rattle.form.specs.Parts.{letterOf, kindOf}
 use Rattle.form.specs.Reading.{kindAt}
 use Rattle.form.proofs.Letters.{absent, lineMade, kindsMade}
@@ -36,7 +36,7 @@ distinct l ls m =
 
 pub tagged : (l : Line) → lineMade l ≡ true → 0 < length (l .tag)
 unfolding lineMade
-tagged l m = ltb-true 0 (length (l .tag)) (both-hold (ltb 0 (length (l .tag))) (narrow (l .limits)) m .0)
+tagged l m = ltb-true 0 (length (l .tag)) (both-hold (ltb 0 (length (l .tag))) (readable (l .limits)) m .0)
 
 pub first-kind : (l : Line) (ls : List Line) → kindOf (l ∷ ls) (letterOf l) ≡ some l
 unfolding kindOf

@@ -3,6 +3,7 @@
 use mathlib.Core.Logic.{inl, inr}
 use mathlib.Core.List.{List, [], _∷_}
 use Prim.Native.Nat.{ℕ}
+use Rattle.text.specs.Quoted.{feed}
 use Rattle.text.specs.Limit.{Limit}
 use Rattle.text.specs.Line.{Line, ender}
 use Rattle.fault.specs.Rules.{Rule, Just, Then, Entry, FieldsThen, LineThen, OneThen}
@@ -24,10 +25,18 @@ module _ (S : Rule) where
             record { one = w .one; two = w .two; joined = w .joined; by-one = w .by-one; by-two = r .again T x };
       }
 
+  -- all of it is the rest
+  whole-rest : (t : List ℕ) → S t → Rest (λ T. T) S t
+  whole-rest t s = record { rest = t; by = s; again = λ T x. x }
+
   fields-rest : (ls : List Limit) (t : List ℕ) → FieldsThen ls S t → Rest (FieldsThen ls) S t
-  fields-rest [] t s = record { rest = t; by = s; again = λ T x. x }
-  fields-rest (l ∷ ls) t w =
-      then-rest (Entry (l .rule) (ender ls)) (FieldsThen ls) t w (fields-rest ls (w .two) (w .by-two))
+  fields-rest [] t s = whole-rest t s
+  fields-rest (l ∷ ls) t (inl w) =
+      let r = then-rest (Entry (l .rule) (ender ls)) (FieldsThen ls) t w (fields-rest ls (w .two) (w .by-two)) in
+      record { rest = r .rest; by = r .by; again = λ T x. inl (r .again T x) }
+  fields-rest (l ∷ ls) t (inr (q, w)) =
+      let r = then-rest (Entry (l .rule) feed) (λ T. T) t w (whole-rest (w .two) (w .by-two)) in
+      record { rest = r .rest; by = r .by; again = λ T x. inr (q, r .again T x) }
 
   line-rest : (l : Line) (t : List ℕ) → LineThen l S t → Rest (LineThen l) S t
   line-rest l t w =

@@ -10,13 +10,13 @@ use lib.ListN.{drop}
 use Rattle.answers.specs.Refusals.{brokenLine, outsideLimits}
 use Rattle.text.specs.declared.LineRead.the-variants.{Taken, Fault}
 use Rattle.text.specs.Line.{Line, readLine, lineText}
-use Rattle.text.proofs.Limit.{narrow}
+use Rattle.text.proofs.Limit.{readable}
 use Rattle.text.proofs.LineTrip.{line-back}
 use Rattle.form.specs.Parts.{Part, Row, Rows, letterOf, raised, nextAfter}
 use Rattle.form.specs.Outcome.{Found, lost}
 use Rattle.form.specs.Reading.{kindAt, readRow, noMore, readRows}
 use Rattle.form.proofs.Chain.{lost-not-found, Broken, atFirst, atRest, chain-lost}
-use Rattle.form.proofs.Letters.{kind-made, raised-narrow}
+use Rattle.form.proofs.Letters.{kind-made, raised-readable}
 use Rattle.form.proofs.RowsTrip.{rows-none, rows-more}
 use Rattle.form.proofs.RowsBack.{kind-at}
 use Rattle.fault.specs.Rules.{Rule, LineThen, PartThen}
@@ -40,12 +40,12 @@ none-lost need k e = go (eqb need 0) refl
         omega arith
 
 module _ (p : Part) (S : Rule) where
-  -- a line's limits take numbers of at most ten digits, raised or not
+  -- a line can be read back, raised or not
   thin : {left need : ℕ} (next : ℕ) (l : Line) (t : List ℕ) → Fits p left need S
       → kindAt (p .kinds) t ≡ some l
-      → narrow (raised (p .rising) next l .limits) ≡ true
+      → readable (raised (p .rising) next l .limits) ≡ true
   thin next l t f e =
-      raised-narrow (p .rising) next l
+      raised-readable (p .rising) next l
       (kind-made (p .kinds) (letterOf l) l (f .made) (kind-at (p .kinds) t l e))
 
   -- "a line l, and then the lines that may still come" is what the part says, whatever stands after

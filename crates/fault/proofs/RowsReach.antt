@@ -16,7 +16,7 @@ use Rattle.form.specs.Parts.{Part, Row, Rows, raised, nextAfter}
 use Rattle.form.specs.Outcome.{Found, took, lost, ahead, chained}
 use Rattle.form.specs.Reading.{kindAt, readRow, readRows}
 use Rattle.form.specs.Writing.{rowsText}
-use Rattle.form.proofs.Letters.{kind-letter, kindsMade, kind-made, raised-narrow}
+use Rattle.form.proofs.Letters.{kind-letter, kindsMade, kind-made, raised-readable}
 use Rattle.form.proofs.RowsTrip.{rows-more}
 use Rattle.fault.specs.Reached.{nextOf, RowsStop}
 use Rattle.fault.proofs.OneOf.{tagged}
@@ -98,5 +98,5 @@ rows-reach p left need next t k j m s h =
         let c = chain-reached (readRow (p .rising) from (s .line) (s .rest)) next (s .rest) in
         let r = row-reached (p .rising) from (s .line) (s .rest) in
         let e = ap reached (rows-more p more least from (s .rest) (s .line) kind) in
-        line-reach l (s .rest) (s .into) i (raised-narrow (p .rising) from (s .line) made) (s .stops)
+        line-reach l (s .rest) (s .into) i (raised-readable (p .rising) from (s .line) made) (s .stops)
         (omega (arith, c, r, e))

@@ -17,7 +17,7 @@ use Rattle.form.specs.Parts.{Part, Row, Rows, kindOf, raised, nextAfter}
 use Rattle.form.specs.Outcome.{Found, took, lost, ahead}
 use Rattle.form.specs.Reading.{kindAt, readRow, readRows}
 use Rattle.form.specs.Writing.{rowOk, rowsOk, rowText, rowsText}
-use Rattle.form.proofs.Letters.{kind-letter, kindsMade, kind-made, line-at, raised-narrow}
+use Rattle.form.proofs.Letters.{kind-letter, kindsMade, kind-made, line-at, raised-readable}
 use Rattle.form.proofs.RowsTrip.{rows-more, row-forth}
 use Rattle.fault.specs.Reached.{nextOf, RowsStop}
 use Rattle.fault.proofs.OneOf.{tagged}
@@ -102,7 +102,7 @@ rows-settled p left need next t k m s =
     (λ q. absurd (omega arith)) (s .stops)
     ∙ rw (← kind-letter (p .kinds) (s .letter) (s .line) (s .kind)) (s .kind) in
     let line = line-settled (raised (p .rising) from (s .line)) (s .rest) (s .into)
-    (raised-narrow (p .rising) from (s .line) made) (s .stops) in
+    (raised-readable (p .rising) from (s .line) made) (s .stops) in
     let row = row-fault (p .rising) from (s .line) (s .rest) outsideLimits (s .into) line in
     let here : readRows p (suc more) least from (s .rest) ≡ lost outsideLimits (s .into) =
     rows-more p more least from (s .rest) (s .line) kind ∙ rw row in

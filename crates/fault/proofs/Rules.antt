@@ -3,7 +3,7 @@
 use mathlib.Core.Path.{_≡_, refl, sym, ap, _∙_}
 use mathlib.Core.Bool.{Bool, true, false}
 use mathlib.Core.List.{List, [], _++_, append-assoc}
-use Prim.Native.Nat.{ℕ, suc, _+_, _<_}
+use Prim.Native.Nat.{ℕ, suc, _+_, _≤_, _<_}
 use native.Mathlib.Nat.{add-suc}
 use native.Mathlib.Omega.{arith}
 use borrow.Author.Tests.{leb-true, leb-false}
@@ -16,6 +16,13 @@ use Rattle.fault.specs.Faulty.{Begun, Faulty}
 -- there is some text by S
 abbrev pub Some : Rule → Type 0
 Some S = Begun S []
+
+-- what begins a text by R does so cut off sooner
+pub begun-sooner : {R : Rule} (t : List ℕ) (k n : ℕ) → k ≤ n → Begun R (take n t) → Begun R (take k t)
+begun-sooner t k n h b =
+    let e : take n t ≡ take k t ++ drop k (take n t) =
+    sym (rw (← take-take k n t h) (take-append-drop k (take n t))) in
+    record { rest = drop k (take n t) ++ b .rest; whole = rw (e, append-assoc) at (b .whole) }
 
 -- rules that have the same texts go wrong alike
 pub alike : {R S : Rule} {t : List ℕ} {k : ℕ} → ((x : List ℕ) → R x → S x)
@@ -79,13 +86,7 @@ pub one-place : {R : Rule} {t : List ℕ} {j k : ℕ} → Faulty R t j → Fault
 one-place {R} {t} {j} {k} p q = go (leb j k) (leb k j) refl refl
   where
     not-before : (i n : ℕ) → Faulty R t i → Faulty R t n → i < n → ⊥
-    not-before i n a b h =
-        let e : take n t ≡ take (suc i) t ++ drop (suc i) (take n t) =
-        sym (rw (← take-take (suc i) n t (omega arith)) (take-append-drop (suc i) (take n t))) in
-        a .stuck (omega (arith, b .inside)) (record {
-          rest = drop (suc i) (take n t) ++ b .sound .rest;
-          whole = rw (e, append-assoc) at (b .sound .whole);
-        })
+    not-before i n a b h = a .stuck (omega (arith, b .inside)) (begun-sooner t (suc i) n (omega arith) (b .sound))
 
     go : (s u : Bool) → leb j k ≡ s → leb k j ≡ u → j ≡ k
     go true true a b = omega (arith, leb-true j k a, leb-true k j b)

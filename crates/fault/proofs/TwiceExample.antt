@@ -12,7 +12,7 @@ use Rattle.text.specs.Number.{numberOf, restOf, digitsIn, digitsOf}
 use Rattle.text.specs.Limit.{ranging}
 use Rattle.text.specs.Line.{Line, readEntry, readNumbers, readLine}
 use Rattle.text.specs.Place.{feeds, sinceFeed}
-use Rattle.text.proofs.Limit.{narrow}
+use Rattle.text.proofs.Limit.{narrow, readable}
 use Rattle.text.proofs.Most.{numbersMost}
 use Rattle.form.specs.Parts.{Form, Rows, oneLine, kindOf}
 use Rattle.form.specs.Outcome.{Verdict, wrong}
@@ -36,7 +36,7 @@ twice : Form
 twice = record { parts = oneLine few ∷ oneLine many ∷ oneLine end ∷ []; room = 20 }
 
 twice-made : wellMade twice ≡ true
-unfolding twice wellMade partsMade told apart disjoint kindsMade lineMade narrow kindOf
+unfolding twice wellMade partsMade told apart disjoint kindsMade lineMade readable narrow kindOf
     partsMost kindsMost numbersMost digitsOf digitsIn
 twice-made = refl
 
