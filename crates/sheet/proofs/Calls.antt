@@ -11,6 +11,7 @@ use Rattle.answers.specs.declared.Answer.the-variants.{Done, Count}
 use Rattle.form.specs.Outcome.{Verdict, right, wrong}
 use Rattle.sheet.specs.Sheet.{sheetOk}
 use Rattle.sheet.specs.SheetText.{readSheet, sheetText}
+use Rattle.sheet.specs.Renewed.{renewed, isNew}
 use Rattle.sheet.specs.TextCalls.{readAnswer, readInto, writeAnswer, writeInto}
 use Rattle.sheet.proofs.SheetText.{written-reads, reads-written}
 
@@ -36,16 +37,26 @@ done-right : (q : Verdict (List ℕ)) → readAnswer q ≡ Done → (s : List �
 done-right (right s) e = (s, refl)
 done-right (wrong number line byte) e = let z : _≡_ {A = ℕ} 0 1 = cc in absurd (omega arith)
 
--- writing what was read gives the text
+-- the text t was read, and what was read was written: the bytes u came out
+pub record WroteBack (t before out u : List ℕ) : Type 0 where
+  pub answer : writeAnswer (readInto (readSheet t) before) (length out) ≡ Count (length u)
+  pub bytes : take (length u) (writeInto (readInto (readSheet t) before) out) ≡ u
+
+written-back : (t before out u s : List ℕ) → readSheet t ≡ right s → sheetOk s ≡ true → u ≡ sheetText s
+    → length u ≤ length out
+    → WroteBack t before out u
+written-back t before out u s e ok q r =
+    let p = wrote s out ok (rw q at r) in
+    record { answer = rw (e, q) (p .answer); bytes = rw (e, q) (p .bytes) }
+
+-- writing what was read gives the text renewed, 02 (vi), and so the text itself where its FIT lines have three numbers
 pub read-then-write : (t before out : List ℕ) → readAnswer (readSheet t) ≡ Done
-    → length t ≤ length out
-    → (writeAnswer (readInto (readSheet t) before) (length out) ≡ Count (length t))
-    × (take (length t) (writeInto (readInto (readSheet t) before) out) ≡ t)
-read-then-write t before out d r =
+    → (length (renewed t) ≤ length out → WroteBack t before out (renewed t))
+    × (isNew t ≡ true → length t ≤ length out → WroteBack t before out t)
+read-then-write t before out d =
     let k = done-right (readSheet t) d in
-    let s : List ℕ = k .0 in
-    let w = reads-written t s (k .1) in
-    let n : length (sheetText s) ≡ length t = ap length (sym (w .text)) in
-    let p = wrote s out (w .within) (omega arith) in
-    rw (k .1)
-    (p .answer ∙ ap Count n, ap (λ (j : ℕ). take j (writeInto s out)) (sym n) ∙ p .bytes ∙ sym (w .text))
+    let w = reads-written t (k .0) (k .1) in
+    (
+      λ r. written-back t before out (renewed t) (k .0) (k .1) (w .within) (w .text) r,
+      λ n r. written-back t before out t (k .0) (k .1) (w .within) (w .same n) r,
+    )

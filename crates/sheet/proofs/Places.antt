@@ -25,7 +25,7 @@ pub engines-sayable : sayable (engineForm .parts) ≡ true
 unfolding sayable canBe engineForm
 engines-sayable = refl
 
-sheet-length : partsLongest (sheetForm .parts) ≡ 1175
+sheet-length : partsLongest (sheetForm .parts) ≡ 1439
 unfolding partsLongest kindsLongest sheetForm
 sheet-length = refl
 
@@ -33,7 +33,7 @@ engines-length : partsLongest (engineForm .parts) ≡ 1040
 unfolding partsLongest kindsLongest engineForm
 engines-length = refl
 
-pub sheet-longest : (t : List ℕ) → ByRules sheetForm t → length t ≤ 1175
+pub sheet-longest : (t : List ℕ) → ByRules sheetForm t → length t ≤ 1439
 sheet-longest t r = omega (arith, sheet-length, parts-longest (sheetForm .parts) t r)
 
 pub engines-longest : (t : List ℕ) → ByRules engineForm t → length t ≤ 1040

@@ -19,7 +19,8 @@ use Rattle.sheet.specs.Sheet.{limitsOn, sheetOk}
 use Rattle.sheet.specs.SheetText.{sheetForm, sheetOf, rowsOf, readSheet, sheetText}
 use Rattle.sheet.specs.Renewed.{renewed, isNew}
 use Rattle.sheet.proofs.WellMade.{sheet-made}
-use Rattle.sheet.proofs.Renewed.{new-renewed, form-renewed}
+use Rattle.sheet.proofs.Renewed.{new-renewed}
+use Rattle.sheet.proofs.RenewedForm.{form-renewed}
 use Rattle.sheet.proofs.SheetRows.{lines-full, ok-length, sheet-rows, rows-sheet, rows-ok, sheet-ok}
 
 -- for every sheet within the limits, reading what is written gives that sheet
@@ -42,6 +43,12 @@ reads-written t s e =
     let new : renewed t ≡ formText sheetForm (rowsOf (sheetOf v)) =
     ap renewed text ∙ form-renewed v within ∙ ap (formText sheetForm) (sym (rows-sheet v within)) in
     rw is (record { text = new; same = λ h. sym (new-renewed t h) ∙ new; within = sheet-ok v within })
+
+-- and renewed it reads alike
+pub renewed-reads : (t s : List ℕ) → readSheet t ≡ right s → readSheet (renewed t) ≡ right s
+renewed-reads t s e =
+    let w = reads-written t s e in
+    ap readSheet (w .text) ∙ written-reads s (w .within)
 
 -- a sheet that was read has all its words
 pub sheet-count : (t s : List ℕ) → readSheet t ≡ right s → length s ≡ textWords
