@@ -15,7 +15,7 @@ use Rattle.form.specs.Parts.{kindOf}
 use Rattle.form.specs.Outcome.{right, wrong}
 use Rattle.form.specs.Reading.{readRows, readParts, readForm}
 use Rattle.form.specs.Writing.{rowsText, partsText}
-use Rattle.sheet.specs.Sheet.{limitsOn, sheetLimits}
+use Rattle.sheet.specs.Sheet.{fitsOk, okOn}
 use Rattle.sheet.specs.SheetText.{sheetForm, fitRows, rowsOn, sheetText}
 use Rattle.sheet.specs.EngineText.{engineForm, readEngines}
 use Rattle.sheet.specs.TextCalls.{readAnswer, writeAnswer, enginesAnswer}
@@ -28,14 +28,14 @@ read-right = refl
 
 -- the least sheet there is, under a hull number, and its text of 156 bytes
 least : ℕ → List ℕ
-least hull = hull ∷ 2000 ∷ 2000 ∷ 500 ∷ 200 ∷ (replicate 33 0 ++ (1 ∷ 0 ∷ 0 ∷ 0 ∷ 0 ∷ 1 ∷ replicate 25 0))
+least hull = hull ∷ 2000 ∷ 2000 ∷ 500 ∷ 200 ∷ (replicate 33 0 ++ (1 ∷ 0 ∷ 0 ∷ 0 ∷ 0 ∷ 1 ∷ replicate 49 0))
 
 -- room enough, a byte too little; a sheet outside the limits, with room and without
 write-right :
     map (λ (room : ℕ). writeAnswer (least 0) room) (156 ∷ 155 ∷ [])
     ++ map (λ (room : ℕ). writeAnswer (least 16) room) (200 ∷ 0 ∷ [])
     ≡ Count 156 ∷ Refused 16 ∷ Refused 3 ∷ Refused 3 ∷ []
-unfolding least allHold sheetLimits limitsOn sheetText sheetForm rowsOn fitRows
+unfolding least allHold okOn fitsOk sheetText sheetForm rowsOn fitRows
     partsText rowsText kindOf numbersText digitsOf digitsIn
 write-right = refl
 

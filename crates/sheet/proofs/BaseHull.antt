@@ -36,3 +36,7 @@ withRest rest = sheetWith hull form mass power seats (bytes rest)
 
 abbrev pub sample : List ℕ
 sample = withRest "FIT\t1\t3334\nEND\n"
+
+-- the same as it is written, with the count
+abbrev pub newSample : List ℕ
+newSample = withRest "FIT\t1\t3334\t1\nEND\n"

@@ -55,8 +55,7 @@ pub read-then-write : (t before out : List ℕ) → readAnswer (readSheet t) ≡
     × (isNew t ≡ true → length t ≤ length out → WroteBack t before out t)
 read-then-write t before out d =
     let k = done-right (readSheet t) d in
-    let w = reads-written t (k .0) (k .1) in
-    (
+    let w = reads-written t (k .0) (k .1) in (
       λ r. written-back t before out (renewed t) (k .0) (k .1) (w .within) (w .text) r,
       λ n r. written-back t before out t (k .0) (k .1) (w .within) (w .same n) r,
     )

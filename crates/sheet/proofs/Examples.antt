@@ -8,14 +8,15 @@ use Rattle.text.specs.Quoted.{bytes}
 use Rattle.text.specs.Field.{fieldOf, agreed}
 use Rattle.text.specs.Number.{restOf, numberOf, digitsIn, digitsOf}
 use Rattle.text.specs.Line.{readEntry, readNumbers, readLine, numbersText}
-use Rattle.text.specs.Place.{feeds, sinceFeed}
+use Rattle.text.specs.Place.{feeds, sinceFeed, cutFrom}
 use Rattle.form.specs.Parts.{kindOf, numbersOf}
 use Rattle.form.specs.Outcome.{Verdict, right, wrong}
 use Rattle.form.specs.Reading.{readRows, readParts, readForm}
 use Rattle.form.specs.Writing.{rowsText, partsText}
-use Rattle.sheet.specs.SheetText.{sheetForm, weightsFrom, fitRows, fitsOf, numbersOn, rowsOn}
+use Rattle.sheet.specs.SheetText.{sheetForm, emptyLines, fitsFrom, fitRows, fitsOf, numbersOn, rowsOn}
 use Rattle.sheet.specs.SheetText.{readSheet, sheetText}
-use Rattle.sheet.proofs.BaseHull.{hull, form, mass, power, seats, sheetWith, withRest, sample}
+use Rattle.sheet.specs.Renewed.{tabs, withOne, renewed}
+use Rattle.sheet.proofs.BaseHull.{hull, form, mass, power, seats, sheetWith, withRest, sample, newSample}
 
 -- ---- 01's sheet, and its numbers
 
@@ -25,17 +26,18 @@ station = 1000 ∷ replicate 6 500
 numbers : List ℕ
 numbers =
     0 ∷ 4500 ∷ 4000 ∷ 1200 ∷ 500 ∷ 0 ∷ 1 ∷ (station ++ (station ++ (station ++ (station
-    ++ (0 ∷ 0 ∷ 0 ∷ 200000 ∷ 0 ∷ 0 ∷ 1 ∷ 20000 ∷ 5 ∷ 3 ∷ 3334 ∷ replicate 23 0)))))
+    ++ (0 ∷ 0 ∷ 0 ∷ 200000 ∷ 0 ∷ 0 ∷ 1 ∷ 20000 ∷ 5 ∷ 3 ∷ 3334 ∷ 1 ∷ replicate 46 0)))))
 
-sample-reads : readSheet sample ≡ right numbers
-unfolding station numbers readSheet sheetForm numbersOn numbersOf fitsOf weightsFrom
+-- its FIT line has two numbers, as 01 prints it: one piece
+sample-reads : (readSheet sample ≡ right numbers) × (readSheet newSample ≡ right numbers)
+unfolding station numbers readSheet sheetForm numbersOn numbersOf fitsOf fitsFrom emptyLines
     readForm readParts readRows kindOf readLine agreed readNumbers readEntry fieldOf numberOf restOf
-sample-reads = refl
+sample-reads = (refl, refl)
 
-sample-written : sheetText numbers ≡ sample
+sample-written : (sheetText numbers ≡ newSample) × (renewed sample ≡ newSample)
 unfolding station numbers sheetText sheetForm rowsOn fitRows
-    partsText rowsText kindOf numbersText digitsOf digitsIn
-sample-written = refl
+    partsText rowsText kindOf numbersText digitsOf digitsIn renewed withOne tabs cutFrom agreed
+sample-written = (refl, refl)
 
 -- ---- where a reader slips: each text, and how its reading must end
 

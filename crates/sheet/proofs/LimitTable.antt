@@ -26,6 +26,11 @@ alike (suc n) place low high = row place low high ∷ alike n (suc place) low hi
 unfoldable pub station : ℕ → List Row
 station place = row place 0 4000 ∷ alike 6 (suc place) 0 2500
 
+-- weight and count of so many fitting lines, from a place on
+unfoldable pub pieces : ℕ → ℕ → List Row
+pieces zero place = []
+pieces (suc n) place = row place 1 500000 ∷ row (1 + place) 1 99 ∷ pieces n (2 + place)
+
 unfoldable pub rows : List Row
 rows =
     -- HULL: hull number
@@ -42,8 +47,8 @@ rows =
     ∷ row 41 0 1 ∷ row 42 0 200000
     -- SEAT: designated positions, tested persons
     ∷ row 43 1 24 ∷ row 44 1 24
-    -- FIT: the weights on lines 1 to 24
-    ∷ alike 24 45 1 500000)))))
+    -- FIT: weight and count on lines 1 to 24
+    ∷ pieces 24 45)))))
 
 -- ---- a sheet's text, by tags of its own
 
@@ -70,7 +75,8 @@ tags =
 -- every fitting's line, then END
 unfoldable pub fitLines : ℕ → List ℕ → List ℕ
 fitLines k [] = bytes "END\n"
-fitLines k (w ∷ ws) = bytes "FIT\t" ++ (fields (k ∷ w ∷ []) ++ fitLines (suc k) ws)
+fitLines k (w ∷ []) = []
+fitLines k (w ∷ c ∷ s) = bytes "FIT\t" ++ (fields (k ∷ w ∷ c ∷ []) ++ fitLines (suc k) s)
 
 unfoldable pub linesOf : List Tagged → List ℕ → List ℕ
 linesOf [] s = fitLines 1 s
@@ -93,10 +99,14 @@ unfoldable pub spotsOn : ℕ → ℕ → List ℕ → List Spot
 spotsOn line byte [] = []
 spotsOn line byte (n ∷ ns) = spot line byte ∷ spotsOn line (byte + length (digitsOf n) + 1) ns
 
--- a fitting's weight, after its line number
+-- a fitting's weight, after its line number, and its count
 unfoldable pub fitSpots : ℕ → ℕ → List ℕ → List Spot
 fitSpots line k [] = []
-fitSpots line k (w ∷ ws) = spot line (6 + length (digitsOf k)) ∷ fitSpots (suc line) (suc k) ws
+fitSpots line k (w ∷ []) = []
+fitSpots line k (w ∷ c ∷ s) =
+    spot line (6 + length (digitsOf k))
+    ∷ spot line (7 + length (digitsOf k) + length (digitsOf w))
+    ∷ fitSpots (suc line) (suc k) s
 
 unfoldable pub spotsFrom : ℕ → List Tagged → List ℕ → List Spot
 spotsFrom line [] s = fitSpots line 1 s
