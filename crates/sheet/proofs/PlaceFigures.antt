@@ -93,13 +93,13 @@ figures-right = (refl, refl)
 -- ---- each byte
 
 -- the place of each byte of a text, from the given one on
-places : ℕ → ℕ → List ℕ → List (Verdict ℕ)
+unfoldable pub places : ℕ → ℕ → List ℕ → List (Verdict ℕ)
 places line byte [] = []
 places line byte (b ∷ t) =
     wrong 2 line byte ∷ elim (eqb b feed) [ true ↦ places (suc line) 1 t | false ↦ places line (suc byte) t ]
 
 -- f of every number from k on, as many as there are bytes
-each : {A : Type 0} → (ℕ → A) → ℕ → List ℕ → List A
+unfoldable pub each : {A : Type 0} → (ℕ → A) → ℕ → List ℕ → List A
 each f k [] = []
 each f k (b ∷ t) = f k ∷ each f (suc k) t
 
