@@ -55,14 +55,14 @@ pub const POSITIONS: usize = DECLARED + 1;
 
 pub const TESTED: usize = POSITIONS + 1;
 
-// FIT: a word for each fitting line
+// FIT: two words for each fitting line, the weight of one piece and how many there are
 pub const FITTED: usize = TESTED + 1;
 
 pub const FITTINGS: usize = 24;
 
 // The words that the register holds of a hull; in a text the HULL number stands before them, and every word one place
 // further on.
-pub const SHEET_WORDS: usize = FITTED + FITTINGS;
+pub const SHEET_WORDS: usize = FITTED + 2 * FITTINGS;
 
 pub const HULL_NUMBER: usize = 0;
 
@@ -95,10 +95,13 @@ pub const LINE_WORDS: usize = IN_TEXT + FITTED;
 
 // ---- limits
 
-// The greatest line number and weight of a fitting, and the greatest power and weight of an engine.
+// The greatest line number of a fitting, the most that the pieces on one line weigh together, and the most that there
+// are; and the greatest power and weight of an engine.
 pub const FITTING_LINES: u32 = 24;
 
 pub const FITTING_HIGH: u32 = 500_000;
+
+pub const FITTING_COUNT: u32 = 99;
 
 pub const ENGINE_POWER_HIGH: u32 = 200_000;
 
@@ -109,10 +112,10 @@ pub const MOST_ROWS: usize = 40;
 // The longest text that is read, and the longest that a sheet can have.
 pub const MOST_TEXT: usize = 4096;
 
-pub const SHEET_TEXT: usize = 610;
+pub const SHEET_TEXT: usize = 658;
 
-// The limits of a sheet's numbers, line by line in the order of the text.
-pub const LIMITS: [Limit; TEXT_WORDS] = [
+// The limits of the numbers on the lines HULL to SEAT, in the order of the text.
+pub const LIMITS: [Limit; LINE_WORDS] = [
     // HULL
     [0, 15, PLAIN],
     // FORM
@@ -168,29 +171,4 @@ pub const LIMITS: [Limit; TEXT_WORDS] = [
     // SEAT
     [1, 24, PLAIN],
     [1, 24, OR_NONE],
-    // the weight on each fitting line
-    [1, FITTING_HIGH, OR_NONE],
-    [1, FITTING_HIGH, OR_NONE],
-    [1, FITTING_HIGH, OR_NONE],
-    [1, FITTING_HIGH, OR_NONE],
-    [1, FITTING_HIGH, OR_NONE],
-    [1, FITTING_HIGH, OR_NONE],
-    [1, FITTING_HIGH, OR_NONE],
-    [1, FITTING_HIGH, OR_NONE],
-    [1, FITTING_HIGH, OR_NONE],
-    [1, FITTING_HIGH, OR_NONE],
-    [1, FITTING_HIGH, OR_NONE],
-    [1, FITTING_HIGH, OR_NONE],
-    [1, FITTING_HIGH, OR_NONE],
-    [1, FITTING_HIGH, OR_NONE],
-    [1, FITTING_HIGH, OR_NONE],
-    [1, FITTING_HIGH, OR_NONE],
-    [1, FITTING_HIGH, OR_NONE],
-    [1, FITTING_HIGH, OR_NONE],
-    [1, FITTING_HIGH, OR_NONE],
-    [1, FITTING_HIGH, OR_NONE],
-    [1, FITTING_HIGH, OR_NONE],
-    [1, FITTING_HIGH, OR_NONE],
-    [1, FITTING_HIGH, OR_NONE],
-    [1, FITTING_HIGH, OR_NONE],
 ];

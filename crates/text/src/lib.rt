@@ -4,7 +4,8 @@
 // What a number of a line may be: its least and greatest value, and a rule.
 pub type Limit = [u32; 3];
 
-// The rules: none beyond the two values; or 0 for none, written `-`; or not above the number before it.
+// The rules: none beyond the two values; or 0 for none, written `-`; or not above the number before it. Any rule above
+// CAPPED is the most that the number, times the one before it, may make; such a number may be left out of a line.
 pub const PLAIN: u32 = 0;
 
 pub const OR_NONE: u32 = 1;
