@@ -1,5 +1,6 @@
 -- Worked fields and numbers, computed: one statement over each list of them.
 use mathlib.Core.Path.{_≡_, refl}
+use mathlib.Core.Bool.{true, false}
 use mathlib.Core.List.{List, [], _∷_, map}
 use Prim.Native.Nat.{ℕ, zero, suc, _-_}
 use Prim.Native.String.{String}
@@ -10,7 +11,7 @@ use Rattle.text.specs.declared.EntryRead.the-variants.{Number, Misread}
 use Rattle.text.specs.Quoted.{bytes, tab}
 use Rattle.text.specs.Field.{fieldOf}
 use Rattle.text.specs.Number.{elevenDigits, restOf, numberOf, digitsIn, digitsOf}
-use Rattle.text.specs.Limit.{Limit, ranging, rangingCapped, rangingOrNone, limitsOf}
+use Rattle.text.specs.Limit.{Limit, ranging, rangingCapped, rangingOrNone, rangingCount, spare, limitsOf}
 use Rattle.text.specs.Line.{readEntry}
 
 -- ---- a number: 1 to 10 digits, no leading zero but 0 itself
@@ -65,6 +66,14 @@ entries =
     ∷ case (rangingOrNone 1 24) "-5\t" (Misread 2 1)
     ∷ case (rangingCapped 2000 6000) "4000\t" (Number 4000 5)
     ∷ case (rangingCapped 2000 6000) "4001\t" (Misread 3 0)
+    ∷ case (rangingCount 1 99 8000) "2\t" (Number 2 2)
+    ∷ case (rangingCount 1 99 7999) "2\t" (Misread 3 0)
+    ∷ case (rangingCount 1 99 8000) "3\t" (Misread 3 0)
+    ∷ case (rangingCount 1 99 8000) "0\t" (Misread 3 0)
+    ∷ case (rangingCount 1 99 800000) "99\t" (Number 99 3)
+    ∷ case (rangingCount 1 99 800000) "100\t" (Misread 3 0)
+    ∷ case (rangingCount 1 99 8000) "-\t" (Misread 2 0)
+    ∷ case (rangingCount 0 9 3) "1\t" (Misread 3 0)
     ∷ []
 
 entries-right :
@@ -75,9 +84,18 @@ entries-right = refl
 -- ---- a limit as the code's tables have it: low, high, and the number of its rule; what a row lacks is 0
 
 tables-right :
-    limitsOf ((0 ∷ 1 ∷ 0 ∷ []) ∷ (1 ∷ 24 ∷ 1 ∷ []) ∷ (2000 ∷ 6000 ∷ 2 ∷ []) ∷ [] ∷ [])
-    ≡ ranging 0 1 ∷ rangingOrNone 1 24 ∷ rangingCapped 2000 6000 ∷ ranging 0 0 ∷ []
+    limitsOf ((0 ∷ 1 ∷ 0 ∷ []) ∷ (1 ∷ 24 ∷ 1 ∷ []) ∷ (2000 ∷ 6000 ∷ 2 ∷ []) ∷ (1 ∷ 99 ∷ 500000 ∷ []) ∷ [] ∷ [])
+    ≡ ranging 0 1 ∷ rangingOrNone 1 24 ∷ rangingCapped 2000 6000 ∷ rangingCount 1 99 500000 ∷ ranging 0 0 ∷ []
 tables-right = refl
+
+-- ---- which numbers may be left out: those of a count, and what follows it; where there are none, nothing is
+
+spare-right :
+    map spare
+    ([] ∷ (ranging 1 9 ∷ []) ∷ (rangingOrNone 1 9 ∷ []) ∷ (rangingCapped 1 9 ∷ []) ∷ (rangingCount 1 9 3 ∷ [])
+    ∷ (rangingCount 1 9 500000 ∷ ranging 1 9 ∷ []) ∷ (ranging 1 9 ∷ rangingCount 1 9 500000 ∷ []) ∷ [])
+    ≡ false ∷ false ∷ false ∷ false ∷ true ∷ true ∷ false ∷ []
+spare-right = refl
 
 -- ---- for the computed statements of the nouns above
 

@@ -24,3 +24,4 @@ pub mod PlaceInLine  -- a place is found again in the lines of the text
 pub mod PlaceSamples  -- worked places, computed
 pub mod Examples  -- worked fields and numbers, computed
 pub mod LineExamples  -- worked lines, computed: where each is refused
+pub mod CountExamples  -- worked lines with a number that may be left out, computed
