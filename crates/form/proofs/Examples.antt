@@ -87,7 +87,7 @@ readings =
     ∷ []
 
 -- how a reading ended, whatever was said
-ended : Verdict (List Rows) → Verdict ℕ
+unfoldable pub ended : Verdict (List Rows) → Verdict ℕ
 ended (right v) = right 0
 ended (wrong number line byte) = wrong number line byte
 

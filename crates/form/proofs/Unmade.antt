@@ -13,6 +13,7 @@ use Rattle.form.proofs.Letters.{lineMade, kindsMade}
 use Rattle.form.proofs.Most.{kindsMost, partsMost}
 use Rattle.form.proofs.Made.{disjoint, apart, told, partsMade, wellMade}
 use Rattle.form.proofs.Examples.{roundLine, squareLine, shelfLine, noteLine, endLine, store}
+use Rattle.form.proofs.CountExamples.{lotLine, yard}
 
 -- begins as a shelf's line does
 otherLine : Line
@@ -31,6 +32,7 @@ bare = record { tag = bytes "BARE\t"; limits = rangingCount 1 9 9 ∷ [] }
 forms : List Form
 forms =
     store
+    ∷ yard
     -- as many shelves as there are before a line that begins alike, also past a part that may be absent
     ∷ record { parts = risingLines 0 3 shelfLine ∷ oneLine otherLine ∷ []; room = 99 }
     ∷ record { parts = risingLines 0 3 shelfLine ∷ maybeLine noteLine ∷ oneLine otherLine ∷ []; room = 99 }
@@ -42,10 +44,11 @@ forms =
     ∷ record { parts = oneLine bare ∷ []; room = 99 }
     -- a byte too little room
     ∷ record { parts = store .parts; room = 60 }
+    ∷ record { parts = yard .parts; room = 29 }
     ∷ []
 
-forms-right : map wellMade forms ≡ true ∷ false ∷ false ∷ false ∷ false ∷ false ∷ false ∷ false ∷ []
-unfolding forms otherLine untagged wide bare store roundLine squareLine shelfLine noteLine endLine
+forms-right : map wellMade forms ≡ true ∷ true ∷ false ∷ false ∷ false ∷ false ∷ false ∷ false ∷ false ∷ false ∷ []
+unfolding forms otherLine untagged wide bare store roundLine squareLine shelfLine noteLine endLine yard lotLine
     wellMade partsMade told apart disjoint kindsMade lineMade readable narrow kindOf
     partsMost kindsMost numbersMost digitsOf digitsIn
 forms-right = refl
