@@ -38,6 +38,7 @@ pub mod Theorems  -- a refusal's place, of every form
 pub mod Verdicts  -- and of a whole text, with line and byte
 pub mod Longest  -- how long a text by the rules can be
 pub mod Readers  -- and of the reader that a call cites
-pub mod Examples  -- the form of samples: where its texts go wrong
+pub mod Examples  -- the forms of samples: where their texts go wrong
 pub mod LimitExample  -- a text that breaks a limit, and is by the rules
+pub mod ShortExample  -- a line with its count and one without, put together by the rules
 pub mod TwiceExample  -- two parts of one kind of line: what is outside the first is not let through

@@ -7,9 +7,12 @@ use Rattle.answers.specs.Refusals.{brokenLine, outsideLimits}
 use Rattle.text.specs.declared.NumberRead.the-variants.{Malformed}
 use Rattle.text.specs.Quoted.{bytes}
 use Rattle.text.specs.Number.{restOf, numberOf}
+use Rattle.text.specs.Line.{Line}
 use Rattle.text.proofs.LineExamples.{seatLine, Case, case, reads, refusedWith, misformed, misformed-right, outside}
 use Rattle.text.proofs.LineExamples.{outside-right}
-use Rattle.fault.specs.Rules.{Rule, Just, Numeral, LineThen}
+use Rattle.text.proofs.CountExamples as Count
+use Rattle.text.proofs.CountExamples.{fitLine, stackLine, unstacked, unstacked-right}
+use Rattle.fault.specs.Rules.{Just, Numeral, LineThen}
 use Rattle.fault.specs.Faulty.{Faulty}
 use Rattle.fault.specs.Reached.{LineStops}
 use Rattle.fault.proofs.Rules.{Some}
@@ -41,33 +44,38 @@ fields-wrong = no-numbers fields refl
 
 -- ---- lines, with nothing after them
 
-abbrev Seat : Rule
-Seat = LineThen seatLine (Just [])
-
 some-end : Some (Just [])
 some-end = record { rest = []; whole = refl }
 
-abbrev Wrong : Case → Type 0
-Wrong c = Faulty Seat (bytes (c .text)) (c .place)
+abbrev Wrong : Line → Case → Type 0
+Wrong l c = Faulty (LineThen l (Just [])) (bytes (c .text)) (c .place)
 
-wrong : (cs : List Case) → map (reads seatLine) cs ≡ map (refusedWith brokenLine) cs → Every Wrong cs
-wrong [] e = tt
-wrong (c ∷ cs) e =
-    (line-refused seatLine (bytes (c .text)) brokenLine (c .place) some-end (cc) .form refl, wrong cs (cc))
+wrong : (l : Line) (cs : List Case) → map (reads l) cs ≡ map (refusedWith brokenLine) cs → Every (Wrong l) cs
+wrong l [] e = tt
+wrong l (c ∷ cs) e =
+    (line-refused l (bytes (c .text)) brokenLine (c .place) some-end (cc) .form refl, wrong l cs (cc))
 
-misformed-wrong : Every Wrong misformed
-misformed-wrong = wrong misformed misformed-right
+abbrev Stops : ℕ → Line → Case → Type 0
+Stops number l c = LineStops number l (bytes (c .text)) (c .place)
 
-abbrev Stops : ℕ → Case → Type 0
-Stops number c = LineStops number seatLine (bytes (c .text)) (c .place)
+stop : (number : ℕ) (l : Line) (cs : List Case) → map (reads l) cs ≡ map (refusedWith number) cs
+    → Every (Stops number l) cs
+stop number l [] e = tt
+stop number l (c ∷ cs) e =
+    (line-refused l (bytes (c .text)) number (c .place) some-end (cc) .limits, stop number l cs (cc))
 
-stop : (number : ℕ) (cs : List Case) → map (reads seatLine) cs ≡ map (refusedWith number) cs → Every (Stops number) cs
-stop number [] e = tt
-stop number (c ∷ cs) e =
-    (line-refused seatLine (bytes (c .text)) number (c .place) some-end (cc) .limits, stop number cs (cc))
+seats-wrong : Every (Wrong seatLine) misformed
+seats-wrong = wrong seatLine misformed misformed-right
 
-misformed-stop : Every (Stops brokenLine) misformed
-misformed-stop = stop brokenLine misformed misformed-right
+seats-stop : Every (Stops brokenLine seatLine) misformed × Every (Stops outsideLimits seatLine) outside
+seats-stop = (stop brokenLine seatLine misformed misformed-right, stop outsideLimits seatLine outside outside-right)
 
-outside-stop : Every (Stops outsideLimits) outside
-outside-stop = stop outsideLimits outside outside-right
+-- with a number that may be left out
+fits-wrong : Every (Wrong fitLine) Count.misformed × Every (Wrong stackLine) unstacked
+fits-wrong = (wrong fitLine Count.misformed Count.misformed-right, wrong stackLine unstacked unstacked-right)
+
+fits-stop : Every (Stops brokenLine fitLine) Count.misformed × Every (Stops outsideLimits fitLine) Count.outside
+fits-stop = (
+  stop brokenLine fitLine Count.misformed Count.misformed-right,
+  stop outsideLimits fitLine Count.outside Count.outside-right,
+)
