@@ -15,7 +15,7 @@ use Rattle.text.specs.Line.{Line, Reading, readNumbers, readLine}
 use Rattle.text.proofs.Field.{agreed-whole, agreed-most, agreed-take}
 use Rattle.text.proofs.Led.{Led}
 use Rattle.text.proofs.Line.{line-tagged, line-untagged}
-use Rattle.text.proofs.LineTrip.{shift-taken}
+use Rattle.text.proofs.NumbersTrip.{shift-taken}
 use Rattle.fault.specs.Rules.{Rule, Just, Then, FieldsThen, LineThen}
 use Rattle.fault.specs.Faulty.{Faulty}
 use Rattle.fault.specs.Reached.{LineStops, inTag, inNumbers, NumbersStop, Refusal}

@@ -13,7 +13,7 @@ use Rattle.text.specs.Line.{ender, stopsShort, readEntry, readNumbers}
 use Rattle.text.proofs.Entry.{by-entry}
 use Rattle.text.proofs.EntryTrip.{entry-back}
 use Rattle.text.proofs.Line.{numbers-short, numbers-whole, short-spare}
-use Rattle.text.proofs.LineTrip.{shift-taken}
+use Rattle.text.proofs.NumbersTrip.{shift-taken}
 use Rattle.fault.specs.Rules.{Rule, FieldsThen}
 use Rattle.fault.specs.Reached.{asDue, short, NumbersStop, Refusal}
 use Rattle.fault.proofs.Rules.{Some, Goes}

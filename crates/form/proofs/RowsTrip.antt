@@ -10,7 +10,8 @@ use lib.ListN.{length, length-append}
 use Rattle.text.specs.Limit.{allHold}
 use Rattle.text.specs.Line.{Line, readLine, lineText}
 use Rattle.ground.proofs.Booleans.{both-hold}
-use Rattle.text.proofs.LineTrip.{got, line-forth}
+use Rattle.text.proofs.NumbersTrip.{got}
+use Rattle.text.proofs.LineTrip.{line-forth}
 use Rattle.form.specs.Parts.{Part, Row, Rows, kindOf, risen, raised, nextAfter}
 use Rattle.form.specs.Outcome.{took, chained}
 use Rattle.form.specs.Reading.{kindAt, readRow, noMore, readRows}

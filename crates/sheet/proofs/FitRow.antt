@@ -1,15 +1,15 @@
 -- What a fitting line and a FIT row have: the weight of one piece and how many there are, within their limits.
-use mathlib.Core.Path.{_≡_, refl, sym, _∙_}
-use mathlib.Core.Bool.{Bool, true, false, true≢false, _&&_, _||_, and-true}
+use mathlib.Core.Path.{_≡_, refl}
+use mathlib.Core.Bool.{true, false, _&&_}
 use mathlib.Core.Logic.{_⊎_, inl, inr}
 use mathlib.Core.List.{List, [], _∷_}
-use Prim.Native.Nat.{ℕ, zero, suc, _*_, _≤_, max}
+use Prim.Native.Nat.{ℕ, zero, suc, _≤_, max}
 use native.Mathlib.Omega.{arith}
-use borrow.Author.Tests.{eq-eqb, ne-eqb, eqb-true}
+use borrow.Author.Tests.{ne-eqb}
 use lib.Dec.{eqb}
 use lib.ListN.{drop}
-use Rattle.text.specs.Limit.{Limit, limit, plain, ranging, rangingCount, holds, allHold}
-use Rattle.ground.proofs.Booleans.{both-hold, false-true, both-true}
+use Rattle.text.specs.Limit.{Limit, ranging, rangingCount, holds, allHold}
+use Rattle.ground.proofs.Booleans.{both-hold, false-true}
 use Rattle.text.proofs.Bounds.{Between, ranging-between, between-ranging, Counted, count-counted, counted-count}
 use Rattle.form.specs.Parts.{Row, letterOf}
 use Rattle.form.specs.Writing.{rowOk}

@@ -9,14 +9,13 @@ use native.Mathlib.Omega.{arith}
 use borrow.Author.Tests.{ne-eqb, eqb-true}
 use lib.Dec.{eqb}
 use lib.ListN.{length}
-use Rattle.text.specs.Limit.{allHold}
 use Rattle.ground.proofs.Booleans.{both-hold, both-true, false-true, by-test}
-use Rattle.form.specs.Parts.{Row, Rows, nextAfter}
+use Rattle.form.specs.Parts.{Rows, nextAfter}
 use Rattle.form.specs.Writing.{rowOk, rowsOk}
 use Rattle.sheet.specs.Lines.{fittings}
 use Rattle.sheet.specs.Sheet.{fitOk, fitsOk}
 use Rattle.sheet.specs.SheetText.{fitPart, fitNumber, fitWeight, fitCount, emptyLines, fitsFrom, fitRow, fitRows}
-use Rattle.sheet.proofs.FitRow.{fit-pieces, pieces-fit, empty-count, Fitted, fitted, row-fits}
+use Rattle.sheet.proofs.FitRow.{empty-count, fitted}
 
 -- ---- an empty line has no row, and a fitting has one
 

@@ -6,9 +6,11 @@ pub mod WellMade  -- both forms are well made
 pub mod FitRow  -- what a fitting line and a FIT row have
 pub mod Fits  -- FIT rows and the fitting lines
 pub mod FitLimits  -- with the same limits
+pub mod Full  -- a sheet within the limits has all its numbers
 pub mod SheetRows  -- a sheet's numbers and the rows of its text
 pub mod Lined  -- a line as it is written
 pub mod Renewed  -- a text of before with counts written in, line by line
+pub mod RenewedRows  -- of FIT rows
 pub mod RenewedForm  -- and of a sheet's rows
 pub mod SheetText  -- the single text of a sheet, both ways; 2 or 3 alone
 pub mod EngineText  -- the single text of engine rows, both ways; their columns; 2 or 3 alone

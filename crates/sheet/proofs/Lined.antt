@@ -16,7 +16,7 @@ use Rattle.text.specs.Place.{feeds}
 use Rattle.ground.proofs.Booleans.{both-hold, false-true, by-test, by-equal}
 use Rattle.text.proofs.Field.{field-stop, field-more}
 use Rattle.text.proofs.EntryTrip.{entry-field}
-use Rattle.text.proofs.Place.{feeds-none, feeds-other, feeds-append}
+use Rattle.text.proofs.Place.{feeds-other, feeds-append}
 use Rattle.sheet.specs.Renewed.{tabs}
 
 -- x is one line, with so many tabs

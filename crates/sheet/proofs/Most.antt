@@ -1,7 +1,7 @@
 -- The greatest length of a sheet's text, 658 bytes, and the sheet that reaches it. Weight and count of a fitting have
 -- seven digits together at most: their product is limited, and the two limits taken apart would allow eight.
 use mathlib.Core.Path.{_≡_, refl}
-use mathlib.Core.Bool.{Bool, true, false}
+use mathlib.Core.Bool.{true}
 use mathlib.Core.List.{List, [], _∷_, _++_, map}
 use Prim.Native.Nat.{ℕ, zero, suc, _+_, _*_, _≤_}
 use native.Mathlib.Nat.{mul-le-mul}

@@ -1,48 +1,27 @@
 -- A sheet's numbers and the rows of its text are the same thing, with the same limits, but that a FIT row may leave out
 -- its count.
-use mathlib.Core.Path.{_≡_, refl, sym, ap, _∙_}
-use mathlib.Core.Bool.{Bool, true, false, true≢false, _&&_}
+use mathlib.Core.Path.{_≡_, refl, sym, ap}
+use mathlib.Core.Bool.{true, false, true≢false, _&&_}
 use mathlib.Core.List.{List, [], _∷_, _++_, append-nil}
-use Prim.Native.Nat.{ℕ, _+_, _*_}
+use Prim.Native.Nat.{ℕ, _+_}
 use native.Mathlib.Omega.{arith}
-use lib.ListN.{length, take, drop, length-append, length-take, length-drop, take-append-drop}
+use lib.ListN.{length, take, drop, take-append-drop}
 use lib.Seq.{take-at, drop-at}
-use Rattle.text.specs.Limit.{Limit, allHold}
+use Rattle.text.specs.Limit.{allHold}
 use Rattle.text.specs.Line.{Line}
-use Rattle.ground.proofs.Booleans.{both-hold, both-true, false-true}
+use Rattle.ground.proofs.Booleans.{both-hold}
 use Rattle.text.proofs.Limit.{full, hold-length}
 use Rattle.form.specs.Parts.{Rows, lineRow, oneLine, letterOf, numbersOf}
 use Rattle.form.specs.Writing.{partOk, partsOk, formOk}
 use Rattle.form.proofs.Held.{part-held, held-part}
 use Rattle.form.proofs.Single.{single, single-ok}
 use Rattle.sheet.specs.Lines.{lines, fittings, endLine}
-use Rattle.sheet.specs.Sheet.{limitsOn, okOn, fitsOk, sheetOk}
+use Rattle.sheet.specs.Sheet.{okOn, sheetOk}
 use Rattle.sheet.specs.SheetText.{fitPart, eachOnce, sheetForm, fitRows, fitsOf, lastParts}
 use Rattle.sheet.specs.SheetText.{numbersOn, sheetOf, rowsOn, rowsOf}
-use Rattle.sheet.proofs.Fits.{countedRows, fits-rows, rows-fits, fits-length}
+use Rattle.sheet.proofs.Fits.{countedRows, fits-rows, rows-fits}
 use Rattle.sheet.proofs.FitLimits.{fits-few, fits-ok, fits-held}
-
--- ---- lines of which no number may be left out
-
-unfoldable pub linesFull : List Line → Bool
-linesFull [] = true
-linesFull (l ∷ ls) = full (l .limits) && linesFull ls
-
-pub lines-full : linesFull lines ≡ true
-unfolding linesFull full
-lines-full = refl
-
-pub ok-length : (ls : List Line) (s : List ℕ) → linesFull ls ≡ true → okOn ls s ≡ true
-    → length s ≡ length (limitsOn ls) + 2 * fittings
-unfolding okOn limitsOn linesFull
-ok-length [] s f h = omega (arith, fits-length fittings s h)
-ok-length (l ∷ ls) s f h =
-    let n : ℕ = length (l .limits) in
-    let fs = both-hold (full (l .limits)) (linesFull ls) f in
-    let hs = both-hold (allHold (l .limits) 0 (take n s)) (okOn ls (drop n s)) h in
-    let first = hold-length (l .limits) 0 (take n s) (fs .0) (hs .0) in
-    let rest = ok-length ls (drop n s) (fs .1) (hs .1) in
-    omega (arith, length-append (l .limits) (limitsOn ls), length-take n s, length-drop n s)
+use Rattle.sheet.proofs.Full.{linesFull, lines-full}
 
 -- ---- from numbers to rows and back
 

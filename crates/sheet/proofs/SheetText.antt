@@ -1,12 +1,11 @@
 -- Demand 2, the single text: a sheet within the limits that is written reads back as itself, and a text that reads as a
 -- sheet is what that sheet is written as. Both follow from the form's.
-use mathlib.Core.Path.{_≡_, refl, sym, ap, _∙_}
+use mathlib.Core.Path.{_≡_, sym, ap, _∙_}
 use mathlib.Core.Bool.{true}
 use mathlib.Core.List.{List}
 use mathlib.Core.Logic.{_⊎_}
 use Prim.Native.Nat.{ℕ, _+_, _≤_}
 use lib.ListN.{length}
-use Rattle.form.specs.Parts.{Rows}
 use Rattle.form.specs.Outcome.{right, wrong}
 use Rattle.form.specs.Reading.{readForm}
 use Rattle.form.specs.Writing.{formText}
@@ -21,7 +20,8 @@ use Rattle.sheet.specs.Renewed.{renewed, isNew}
 use Rattle.sheet.proofs.WellMade.{sheet-made}
 use Rattle.sheet.proofs.Renewed.{new-renewed}
 use Rattle.sheet.proofs.RenewedForm.{form-renewed}
-use Rattle.sheet.proofs.SheetRows.{lines-full, ok-length, sheet-rows, rows-sheet, rows-ok, sheet-ok}
+use Rattle.sheet.proofs.Full.{lines-full, ok-length}
+use Rattle.sheet.proofs.SheetRows.{sheet-rows, rows-sheet, rows-ok, sheet-ok}
 
 -- for every sheet within the limits, reading what is written gives that sheet
 pub written-reads : (s : List ℕ) → sheetOk s ≡ true → readSheet (sheetText s) ≡ right s

@@ -6,7 +6,7 @@ use native.Mathlib.Omega.{arith}
 use borrow.Author.Tests.{leb-true, le-leb, lt-ltb, ne-eqb}
 use lib.Dec.{eqb, leb}
 use Rattle.ground.proofs.Booleans.{both-hold}
-use Rattle.text.specs.Limit.{orNone, capped, ranging, rangingCount, counts, holds}
+use Rattle.text.specs.Limit.{orNone, capped, ranging, rangingCount, holds}
 
 pub record Between (low high n : ℕ) : Type 0 where
   pub least : low ≤ n

@@ -11,7 +11,7 @@ use Rattle.text.specs.Field.{fieldOf, agreed}
 use Rattle.text.specs.Number.{restOf, numberOf, digitsIn, digitsOf}
 use Rattle.text.specs.Limit.{ranging, rangingOrNone, rangingCount, allHold}
 use Rattle.text.specs.Line.{Line, Reading, readEntry, readNumbers, readLine, numbersText, lineText}
-use Rattle.text.proofs.LineTrip.{got}
+use Rattle.text.proofs.NumbersTrip.{got}
 use Rattle.text.proofs.LineExamples.{Case, case, reads, refusedWith}
 
 -- 1..24, 1..500000, and perhaps how many of these, up to 99: 500000 together at most

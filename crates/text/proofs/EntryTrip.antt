@@ -3,6 +3,7 @@ use mathlib.Core.Path.{_≡_, refl, sym, ap, _∙_}
 use mathlib.Core.Bool.{true, false, _&&_, _||_, and-false}
 use mathlib.Core.List.{List, [], _∷_, _++_, append-nil, append-assoc}
 use Prim.Native.Nat.{ℕ, _+_, _<_}
+use native.Mathlib.Omega.{arith}
 use borrow.Author.Tests.{eq-eqb}
 use lib.Dec.{eqb}
 use lib.ListN.{length, drop, length-append}
@@ -42,6 +43,18 @@ pub entry-field : (l : Limit) (n e : ℕ) (rest : List ℕ) → Ends e → field
 entry-field l n e rest w =
     by-test (isNone l n) (λ d. rw d (field-more dash (e ∷ rest) refl ∙ rw (field-stop e rest w)))
     (λ d. rw d (field-digits n (e ∷ rest) ∙ rw (field-stop e rest w, append-nil)))
+
+-- what follows the field of what is written, and what follows its ending byte
+module _ (l : Limit) (n e : ℕ) (u : List ℕ) where
+  pub after-field : Ends e → drop (length (fieldOf (entryText l n ++ (e ∷ u)))) (entryText l n ++ (e ∷ u)) ≡ e ∷ u
+  after-field w = rw (entry-field l n e u w) (drop-append-seam (entryText l n) (e ∷ u))
+
+  pub after-entry : drop (length (entryText l n) + 1) (entryText l n ++ (e ∷ u)) ≡ u
+  after-entry = sym (drop-drop 1 (length (entryText l n)) _) ∙ rw (drop-append-seam (entryText l n) (e ∷ u))
+
+-- how long an entry is, with its end and what follows
+pub entry-long : (x y : List ℕ) (e : ℕ) → length x + 1 + length y ≡ length (x ++ (e ∷ y))
+entry-long x y e = rw length-append (omega arith)
 
 module _ (l : Limit) (last e n : ℕ) (rest : List ℕ) (w : Ends e) (h : holds l last n ≡ true) (m : n < elevenDigits)
   where

@@ -14,6 +14,7 @@ pub mod Laid  -- bytes laid into a lent slice, piece by piece
 pub mod Writing  -- a line's text number by number, and the loop that writes it
 pub mod Led  -- a text that another leads
 pub mod EntryTrip  -- from a number with its ending byte to its text and back
+pub mod NumbersTrip  -- from the numbers of a line to their text and back
 pub mod LineTrip  -- from a line's numbers to its text and back
 pub mod Two  -- a line of two numbers
 pub mod Most  -- the greatest length of a line
