@@ -25,7 +25,7 @@ extern "C" {
 #endif
 
 /* The size of a register's memory, in words of 32 bits. */
-#define WB_REGISTER_WORDS 1673
+#define WB_REGISTER_WORDS 2249
 
 /* Hulls are numbered 0 to 15 in the order in which they were entered, desks 0 to 7, fitting lines 1 to 24. */
 #define WB_HULLS 16
@@ -34,7 +34,7 @@ extern "C" {
 
 /* The most engine rows that there may be, and the longest text that a sheet can have, in bytes. */
 #define WB_ENGINE_ROWS 40
-#define WB_SHEET_TEXT 610
+#define WB_SHEET_TEXT 658
 
 /* A text of more bytes, of a sheet or of engine rows, is refused with 2 before any of it is read, and its place is 0 and 0. */
 #define WB_MOST_TEXT 4096
@@ -50,8 +50,10 @@ extern "C" {
  *     MASS bare fuel machinery
  *     PWR outboard declared
  *     SEAT positions tested        tested is written - where it is 0
- *     FIT line weight              one for each fitting, line 1..24, rising; none where there is no fitting
+ *     FIT line weight count        one for each fitting, line 1..24, rising; none where there is no fitting
  *     END
+ *
+ * A FIT line may also end after its weight: it is then read as one with a count of 1, and written with it. Both kinds may stand in one text.
  *
  * Engine rows are a text of their own: 1 to 40 lines ENG power weight, the powers rising, power 1..200000, weight 0..1000000. A number has 1 to
  * 10 digits, and only 0 itself starts with 0.
@@ -62,7 +64,8 @@ extern "C" {
  *     2    the first byte up to and with which no text of such lines begins, whatever its numbers: a digit after a leading 0, an eleventh digit, a
  *          carriage return, the F of a 25th FIT line, whatever follows END's line. Where the text stops early, the place after its last byte, which
  *          after a line feed is byte 1 of the next line
- *     3    the first byte of the number that is outside its limits, or not above the one before
+ *     3    the first byte of the number that is outside its limits, or not above the one before; where a fitting's weight times its count is above
+ *          500000, that is the count
  */
 
 /* Why a call was refused. */
@@ -103,7 +106,13 @@ typedef struct wb_station {
     uint32_t b, q, r, s, t, u, v;
 } wb_station;
 
-/* A sheet: its 69 numbers in the order of its text. In millimetres, grams, cubic centimetres and watts. */
+/* A fitting line: count pieces of weight grams each, which together weigh at most 500000; both are 0 if the line is empty, and neither alone. */
+typedef struct wb_fitting {
+    uint32_t weight; /* of one piece, 1..500000 */
+    uint32_t count;  /* 1..99 */
+} wb_fitting;
+
+/* A sheet: its 93 numbers in the order of its text. In millimetres, grams, cubic centimetres and watts. */
 typedef struct wb_sheet {
     uint32_t hull;               /* 0..15 */
     uint32_t length;             /* 2000..6000 */
@@ -123,7 +132,7 @@ typedef struct wb_sheet {
     uint32_t declared;           /* declared power, 0..200000 */
     uint32_t positions;          /* designated positions, 1..24 */
     uint32_t tested;             /* persons for which it was tested, 1..24, or 0 for none */
-    uint32_t fitting[WB_FITTINGS]; /* the weight on line i + 1, 1..500000, or 0 if the line is empty */
+    wb_fitting fitting[WB_FITTINGS]; /* what is on line i + 1 */
 } wb_sheet;
 
 /*
@@ -154,14 +163,14 @@ wb_answer wb_new_hull(uint32_t *mem, size_t mem_len, const uint8_t *text, size_t
 wb_answer wb_open(uint32_t *mem, size_t mem_len, uint32_t desk, uint32_t hull);
 
 /*
- * Puts a fitting of so many grams on a line of the desk's draft, in place of one that is there. The rest of the draft, the hulls and the other drafts
- * are left alone.
- * Answers: done. Refuses: 1, 6, 7; 3 for a line outside 1..24 or a weight outside 1..500000.
+ * Puts a fitting on a line of the desk's draft, count pieces of weight grams each, in place of what is there. The rest of the draft, the hulls and the
+ * other drafts are left alone.
+ * Answers: done. Refuses: 1, 6, 7; 3 for a line outside 1..24, a weight outside 1..500000, a count outside 1..99, or a weight times count above 500000.
  */
-wb_answer wb_put(uint32_t *mem, size_t mem_len, uint32_t desk, uint32_t line, uint32_t weight);
+wb_answer wb_put(uint32_t *mem, size_t mem_len, uint32_t desk, uint32_t line, uint32_t weight, uint32_t count);
 
 /*
- * Takes off the fitting on a line of the desk's draft. The rest of the draft, the hulls and the other drafts are left alone.
+ * Takes off the fitting on a line of the desk's draft, all its pieces. The rest of the draft, the hulls and the other drafts are left alone.
  * Answers: done. Refuses: 1, 6, 7; 3 for a line outside 1..24; 17 where the line is empty.
  */
 wb_answer wb_take_off(uint32_t *mem, size_t mem_len, uint32_t desk, uint32_t line);
@@ -236,14 +245,15 @@ wb_answer wb_write_hull(const uint32_t *mem, size_t mem_len, uint32_t hull, uint
 /* ---- texts, without a register ---- */
 
 /*
- * Reads a sheet from its text, the HULL number too. All 69 numbers of sheet are written; the text is only read.
+ * Reads a sheet from its text, the HULL number too. All 93 numbers of sheet are written; the text is only read.
  * Answers: done. Refuses: 2 or 3 with the place of the text's first fault.
  */
 wb_answer wb_read_sheet(const uint8_t *text, size_t text_len, wb_sheet *sheet);
 
 /*
- * Writes a sheet's one text from the start of out. Reading it gives the same sheet, and writing what was read the same bytes. Bytes of out after the
- * text are left alone, and the text is not ended by a 0. WB_SHEET_TEXT bytes are always room enough. The sheet is only read.
+ * Writes a sheet's one text from the start of out, each FIT line with its count. Reading it gives the same sheet, and writing what was read the same
+ * bytes, of a text whose FIT lines all have their counts. Bytes of out after the text are left alone, and the text is not ended by a 0. WB_SHEET_TEXT
+ * bytes are always room enough. The sheet is only read.
  * Answers: first is how many bytes were written. Refuses: 3 for a sheet outside the limits; 16 where out is shorter than the text.
  */
 wb_answer wb_write_sheet(const wb_sheet *sheet, uint8_t *out, size_t out_len);
