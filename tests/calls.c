@@ -32,16 +32,19 @@ static void check_header(void)
     const size_t later[] = {offsetof(wb_sheet, aft), offsetof(wb_sheet, well), offsetof(wb_sheet, flooding), offsetof(wb_sheet, bare),
                             offsetof(wb_sheet, fuel), offsetof(wb_sheet, machinery), offsetof(wb_sheet, outboard), offsetof(wb_sheet, declared),
                             offsetof(wb_sheet, positions), offsetof(wb_sheet, tested), offsetof(wb_sheet, fitting)};
+    const size_t pieces[] = {offsetof(wb_fitting, weight), offsetof(wb_fitting, count)};
     const size_t readings[] = {offsetof(wb_station, b), offsetof(wb_station, q), offsetof(wb_station, r), offsetof(wb_station, s),
                                offsetof(wb_station, t), offsetof(wb_station, u), offsetof(wb_station, v)};
     begin_part("the header");
-    insist(sizeof(wb_sheet) == 276 && sizeof(wb_answer) == 16 && sizeof(wb_station) == 28, "the size of a structure");
+    insist(sizeof(wb_sheet) == 372 && sizeof(wb_answer) == 16 && sizeof(wb_station) == 28 && sizeof(wb_fitting) == 8, "the size of a structure");
     for (size_t i = 0; i < sizeof offsets / sizeof *offsets; i++)
         insist(offsets[i] == 4 * i, "the place of a sheet's member before the stations");
     for (size_t i = 0; i < sizeof later / sizeof *later; i++)
         insist(later[i] == 4 * (35 + i), "the place of a sheet's member after the stations");
     for (size_t i = 0; i < sizeof readings / sizeof *readings; i++)
         insist(readings[i] == 4 * i, "the place of a station's member");
+    for (size_t i = 0; i < sizeof pieces / sizeof *pieces; i++)
+        insist(pieces[i] == 4 * i, "the place of a fitting's member");
     insist(offsetof(wb_answer, refusal) == 0 && offsetof(wb_answer, first) == 4 && offsetof(wb_answer, second) == 8 &&
                offsetof(wb_answer, third) == 12, "the place of an answer's member");
     insist(WB_REGISTER_WORDS == DESK_AT(WB_DESKS) && DESK_AT(0) == HULL_AT(WB_HULLS) && WB_ENGINE_ROWS == 40, "a size that the header gives");
@@ -74,7 +77,7 @@ static void lend_random_sheet(void)
 
 static void lend_for(enum kind kind)
 {
-    static const size_t sizes[] = {0, 1, 200, 300, 609, 610, 611, 4096};
+    static const size_t sizes[] = {0, 1, 200, 300, WB_SHEET_TEXT - 1, WB_SHEET_TEXT, WB_SHEET_TEXT + 1, 4096};
     if (kind == READ_ENGINES) {
         lent[TEXT].size = random_engine_text(lent_bytes(TEXT));
         lend_slices(one_in(3) ? random_between(0, 41) : 40, one_in(3) ? random_between(0, 41) : 40);
@@ -85,7 +88,7 @@ static void lend_for(enum kind kind)
     if (kind == WRITE_SHEET || kind == READ_SHEET)
         lend_random_sheet();
     if (kind == WRITE_SHEET || kind == WRITE_HULL)
-        lend_out(one_in(2) ? 610 : one_in(2) ? random_between(190, 610) : ONE_OF(sizes));
+        lend_out(one_in(2) ? WB_SHEET_TEXT : one_in(2) ? random_between(190, WB_SHEET_TEXT) : ONE_OF(sizes));
 }
 
 /* ---- the memory, harmed or only changed ---- */
@@ -121,7 +124,7 @@ static uint32_t weighty_word(void)
 
 static void harm_memory(void)
 {
-    static const uint32_t sizes[] = {0, 1, 1105, 1672, 1674, 3346};
+    static const uint32_t sizes[] = {0, 1, DESK_AT(0), WB_REGISTER_WORDS - 1, WB_REGISTER_WORDS + 1, 2 * WB_REGISTER_WORDS};
     if (one_in(5)) {
         lent[MEMORY].size = 4 * ONE_OF(sizes);
         return;
@@ -155,11 +158,13 @@ static struct call random_call(void)
     static const enum kind often[] = {NEW_HULL, NEW_HULL, OPEN, OPEN, OPEN, OPEN, PUT, PUT, TAKE_OFF, REPLACE, REPLACE, TRIAL_A, TRIAL_C, TRIAL_U,
                                       SAVE, SAVE, DROP, PLATE_A, PLATE_C, PLATE_U, WRITE_HULL, READ_SHEET, WRITE_SHEET, READ_ENGINES};
     struct call call;
+    wb_fitting fitting = random_fitting();
     call.kind = one_in(400) ? FRESH : ONE_OF(often);
     call.desk = random_desk();
     call.hull = random_hull();
     call.line = one_in(6) ? hostile_number() : random_between(1, 24);
-    call.weight = one_in(6) ? hostile_number() : random_between(1, 500000);
+    call.weight = one_in(6) ? hostile_number() : fitting.weight + one_in(8);
+    call.count = one_in(6) ? hostile_number() : fitting.count;
     return call;
 }
 

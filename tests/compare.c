@@ -111,9 +111,9 @@ static void print_words(enum buffer buffer)
 static void print_call(void)
 {
     unsigned long uses = kinds[current.kind].reads | kinds[current.kind].writes;
-    printf("  seed %llu, call %lu (%s): %s, desk %lu, hull %lu, line %lu, weight %lu\n", (unsigned long long)seed, made, part,
+    printf("  seed %llu, call %lu (%s): %s, desk %lu, hull %lu, line %lu, weight %lu, count %lu\n", (unsigned long long)seed, made, part,
            kinds[current.kind].name, (unsigned long)current.desk, (unsigned long)current.hull, (unsigned long)current.line,
-           (unsigned long)current.weight);
+           (unsigned long)current.weight, (unsigned long)current.count);
     for (int buffer = 0; buffer < BUFFERS; buffer++)
         if (uses & BIT(buffer))
             printf("  lent %s: %lu bytes, told of %lu elements more\n", buffer_names[buffer], (unsigned long)lent[buffer].size,
@@ -267,7 +267,7 @@ static wb_answer call_office(const struct office *office, struct call call, cons
     case OPEN:
         return office->open(mem, len, call.desk, call.hull);
     case PUT:
-        return office->put(mem, len, call.desk, call.line, call.weight);
+        return office->put(mem, len, call.desk, call.line, call.weight, call.count);
     case TAKE_OFF:
         return office->take_off(mem, len, call.desk, call.line);
     case REPLACE:

@@ -13,7 +13,7 @@ enum kind { FRESH, NEW_HULL, OPEN, PUT, TAKE_OFF, REPLACE, TRIAL_A, TRIAL_C, TRI
 /* The buffers that a call can be lent. */
 enum buffer { MEMORY, TEXT, OUT, POWERS, WEIGHTS, SHEET, BUFFERS };
 
-#define ROOM_WORDS 4096
+#define ROOM_WORDS 5120
 
 struct contents {
     size_t size;   /* in bytes; a buffer of words has a multiple of four */
@@ -26,7 +26,7 @@ extern struct contents lent[BUFFERS];
 
 struct call {
     enum kind kind;
-    uint32_t desk, hull, line, weight;
+    uint32_t desk, hull, line, weight, count;
 };
 
 /* Makes a call on what is lent. Ends the program with a report at the first difference. */

@@ -28,13 +28,11 @@ static void find_places(void)
     }
 }
 
-/* Every line, every number in as many digits as it may have. */
-static void take_sheet(void)
+/* Every line, every number in as many digits as it may have; some lines without a count. */
+static void take_sheet(uint32_t short_lines)
 {
-    wb_sheet sheet;
-    for (int number = 0; number < SHEET_NUMBERS; number++)
-        numbers_of(&sheet)[number] = highest(number);
-    whole_size = text_of(&sheet, whole);
+    wb_sheet sheet = highest_sheet();
+    whole_size = short_text_of(&sheet, short_lines, whole);
     engines = 0;
     find_places();
 }
@@ -195,12 +193,17 @@ static void try_random_texts(void)
 void try_fault_places(void)
 {
     begin_part("places in the fullest sheet's text");
-    take_sheet();
+    take_sheet(0);
     try_cuts();
     try_foreign_bytes();
     try_fields();
     try_telling_bytes();
     try_all_bytes();
+    begin_part("places in a sheet's text with counts on every other line");
+    take_sheet(0x555555);
+    try_cuts();
+    try_fields();
+    try_telling_bytes();
     begin_part("places in random sheets' texts");
     try_random_texts();
     begin_part("places in the fullest engine text");

@@ -19,6 +19,11 @@ static int is_breadth(int number)
     return (number - 7) % 7 == 0;
 }
 
+static int is_count(int number)
+{
+    return number >= FIRST_FITTING && (number - FIRST_FITTING) % 2 == 1;
+}
+
 uint32_t lowest(int number)
 {
     static const uint32_t form[] = {0, 2000, 2000, 500, 200, 0, 0}, rest[] = {0, 0, 0, 1, 0, 0, 0, 0, 1, 1};
@@ -37,7 +42,19 @@ uint32_t highest(int number)
         return form[number];
     if (number < 35)
         return is_breadth(number) ? 4000 : 2500;
-    return number < FIRST_FITTING ? rest[number - 35] : 500000;
+    if (number < FIRST_FITTING)
+        return rest[number - 35];
+    return is_count(number) ? 99 : 500000;
+}
+
+uint32_t heaviest(uint32_t count)
+{
+    return 500000 / count;
+}
+
+int64_t grams_on(const wb_fitting *fitting)
+{
+    return (int64_t)fitting->weight * fitting->count;
 }
 
 wb_sheet base_hull(void)
@@ -58,6 +75,14 @@ wb_sheet base_hull(void)
     return sheet;
 }
 
+wb_sheet highest_sheet(void)
+{
+    wb_sheet sheet;
+    for (int number = 0; number < SHEET_NUMBERS; number++)
+        numbers_of(&sheet)[number] = is_count(number) ? 1 : highest(number);
+    return sheet;
+}
+
 static uint32_t number_at_limit(int number)
 {
     uint32_t low = lowest(number), high = highest(number);
@@ -75,12 +100,32 @@ static uint32_t number_at_limit(int number)
     }
 }
 
+wb_fitting random_fitting(void)
+{
+    wb_fitting fitting = {0, one_in(3) ? 1 : number_at_limit(FIRST_FITTING + 1)};
+    uint32_t most = heaviest(fitting.count);
+    switch (random_between(0, 3)) {
+    case 0:
+        fitting.weight = most;
+        break;
+    case 1:
+        fitting.weight = one_in(2) ? 1 : most - 1;
+        break;
+    case 2:
+        fitting.weight = random_between(1, most);
+        break;
+    default:
+        fitting.weight = random_between(1, most < 20000 ? most : 20000);
+    }
+    return fitting;
+}
+
 static void random_fittings(wb_sheet *sheet)
 {
     uint32_t gaps = random_between(0, 3);
     for (int i = 0; i < WB_FITTINGS; i++)
         if (gaps == 0 || (gaps < 3 && one_in(4 * gaps)))
-            sheet->fitting[i] = one_in(2) ? number_at_limit(FIRST_FITTING) : random_between(1, 20000);
+            sheet->fitting[i] = random_fitting();
 }
 
 /* The length x the transom's width at the end of a row of plate A's power table, or a millimetre of length beside it. */
@@ -113,7 +158,7 @@ static void make_small(wb_sheet *sheet)
     sheet->machinery = random_between(0, 50000);
     sheet->declared = one_in(2) ? ONE_OF(powers) : random_between(0, 60000);
     memset(sheet->fitting, 0, sizeof sheet->fitting);
-    sheet->fitting[random_between(0, 23)] = random_between(0, 9999);
+    sheet->fitting[random_between(0, 23)] = (wb_fitting){random_between(1, 500), random_between(1, 20)};
 }
 
 wb_sheet random_sheet(void)
@@ -137,6 +182,18 @@ wb_sheet random_sheet(void)
 
 size_t text_of(const wb_sheet *sheet, uint8_t *text)
 {
+    return short_text_of(sheet, 0, text);
+}
+
+static int fit_line(char *at, int line, const wb_fitting *fitting, int is_short)
+{
+    if (is_short && fitting->count == 1)
+        return sprintf(at, "FIT\t%d\t%" PRIu32 "\n", line, fitting->weight);
+    return sprintf(at, "FIT\t%d\t%" PRIu32 "\t%" PRIu32 "\n", line, fitting->weight, fitting->count);
+}
+
+size_t short_text_of(const wb_sheet *sheet, uint32_t lines, uint8_t *text)
+{
     char *start = (char *)text, *at = start;
     at += sprintf(at, "HULL\t%" PRIu32 "\nFORM\t%" PRIu32 "\t%" PRIu32 "\t%" PRIu32 "\t%" PRIu32 "\t%" PRIu32 "\t%" PRIu32 "\n", sheet->hull,
                   sheet->length, sheet->reference, sheet->transom_width, sheet->transom_height, sheet->flat, sheet->remote);
@@ -150,8 +207,8 @@ size_t text_of(const wb_sheet *sheet, uint8_t *text)
     at += sprintf(at, "PWR\t%" PRIu32 "\t%" PRIu32 "\nSEAT\t%" PRIu32 "\t", sheet->outboard, sheet->declared, sheet->positions);
     at += sheet->tested ? sprintf(at, "%" PRIu32 "\n", sheet->tested) : sprintf(at, "-\n");
     for (int i = 0; i < WB_FITTINGS; i++)
-        if (sheet->fitting[i])
-            at += sprintf(at, "FIT\t%d\t%" PRIu32 "\n", i + 1, sheet->fitting[i]);
+        if (sheet->fitting[i].weight || sheet->fitting[i].count)
+            at += fit_line(at, i + 1, &sheet->fitting[i], lines >> i & 1);
     at += sprintf(at, "END\n");
     return (size_t)(at - start);
 }
@@ -254,10 +311,10 @@ static size_t random_byte_like(const uint8_t *text, size_t size, uint8_t byte)
 
 static size_t odd_field(uint8_t *text, size_t size)
 {
-    static const char *const odd[] = {"", "0", "00", "01", "-", "--", "-1", "+1", "1.", " 1", "1 ", "16", "25", "24", "1", "2001", "6001", "1999",
-                                      "2501", "4001", "5000001", "2000001", "500001", "200001", "1000001", "4294967295", "4294967296", "4294967297",
-                                      "4294969296", "9999999999", "0000000001", "10000000000", "12345678901", "18446744073709551617", "x", "Q", "R",
-                                      "FIT", "END", "STN", "FORM", "ENG", "HULL", "hull", "\r"};
+    static const char *const odd[] = {"", "0", "00", "01", "-", "--", "-1", "+1", "1.", " 1", "1 ", "16", "25", "24", "1", "2", "99", "100", "2001", "6001",
+                                      "1999", "2501", "4001", "5000001", "2000001", "500001", "200001", "1000001", "4294967295", "4294967296",
+                                      "4294967297", "4294969296", "9999999999", "0000000001", "10000000000", "12345678901", "18446744073709551617",
+                                      "x", "Q", "R", "FIT", "END", "STN", "FORM", "ENG", "HULL", "hull", "\r"};
     size_t fields = count_fields(text, size);
     return fields ? replace_field(text, size, random_between(0, (uint32_t)fields - 1), ONE_OF(odd)) : size;
 }
@@ -334,7 +391,7 @@ static size_t damage(uint8_t *text, size_t size)
     case 4:
         return size > 4 ? size - 4 : 0;
     case 5:
-        return insert_bytes(text, size, size, one_in(2) ? "END\n" : one_in(2) ? "\n" : "FIT\t24\t1\n");
+        return insert_bytes(text, size, size, one_in(2) ? "END\n" : one_in(2) ? "\n" : one_in(2) ? "FIT\t24\t1\n" : "FIT\t24\t1\t1\n");
     case 6:
         return damage_line(text, size);
     case 7:
@@ -356,6 +413,13 @@ static size_t perhaps_damaged(uint8_t *text, size_t size)
     return size;
 }
 
+/* Both numbers are within their limits, and all pieces weigh too much by a gram or more. */
+static void make_too_heavy(wb_fitting *fitting)
+{
+    fitting->count = random_between(2, 99);
+    fitting->weight = heaviest(fitting->count) + (one_in(2) ? 1 : random_between(1, 500000 - heaviest(fitting->count)));
+}
+
 size_t random_sheet_text(uint8_t *text)
 {
     wb_sheet sheet = random_sheet();
@@ -363,7 +427,9 @@ size_t random_sheet_text(uint8_t *text)
         int number = (int)random_between(one_in(2) ? 0 : FIRST_FITTING, SHEET_NUMBERS - 1);
         numbers_of(&sheet)[number] = one_in(2) ? highest(number) + 1 : lowest(number) - (lowest(number) > 0);
     }
-    return perhaps_damaged(text, text_of(&sheet, text));
+    if (one_in(12))
+        make_too_heavy(&sheet.fitting[random_between(0, WB_FITTINGS - 1)]);
+    return perhaps_damaged(text, short_text_of(&sheet, one_in(2) ? 0 : random_word(), text));
 }
 
 size_t random_engine_text(uint8_t *text)
@@ -383,7 +449,7 @@ size_t random_engine_text(uint8_t *text)
 
 uint32_t hostile_number(void)
 {
-    static const uint32_t numbers[] = {0, 1, 2, 7, 8, 15, 16, 17, 24, 25, 255, 256, 257, 1491, 1492, 1500, 65534, 65535, 65536, 500000, 500001, 200000, 200001,
-                                       1000000, 1000001, 0x7FFFFFFF, 0x80000000, 0x80000001, 0xFFFFFFFE, 0xFFFFFFFF};
+    static const uint32_t numbers[] = {0, 1, 2, 7, 8, 15, 16, 17, 24, 25, 98, 99, 100, 255, 256, 257, 1491, 1492, 1500, 65534, 65535, 65536, 500000,
+                                       500001, 200000, 200001, 1000000, 1000001, 0x7FFFFFFF, 0x80000000, 0x80000001, 0xFFFFFFFE, 0xFFFFFFFF};
     return one_in(4) ? random_between(0, 15) | (uint32_t)1 << random_between(0, 31) : ONE_OF(numbers);
 }

@@ -4,20 +4,32 @@
 
 #include "willowblink.h"
 
-#define SHEET_NUMBERS 69
-#define FIRST_FITTING 45
+#define SHEET_NUMBERS 93
+#define FIRST_FITTING 45 /* from here on a weight and a count in turn */
 
 /* The place of some of a sheet's numbers. */
 enum { HULL_NUMBER = 0, LENGTH_NUMBER = 1, REFERENCE_NUMBER = 2, FIRST_READING = 7, AFT_NUMBER = 35, MACHINERY_NUMBER = 40, TESTED_NUMBER = 44 };
 
-/* The limits of a sheet's number, by its place, as a text may have them. */
+/* The limits of a sheet's number, by its place, as a text may have them. Those of a count hang on the weight too: see heaviest. */
 uint32_t lowest(int number);
 uint32_t highest(int number);
 
+/* The most that one of so many pieces may weigh. */
+uint32_t heaviest(uint32_t count);
+
 uint32_t *numbers_of(wb_sheet *sheet);
+
+/* What all pieces on a line weigh, in grams. */
+int64_t grams_on(const wb_fitting *fitting);
 
 /* The base hull of the samples: 4500 by 1200, positions 5, not tested, declared 20000. */
 wb_sheet base_hull(void);
+
+/* Every number at its highest, and every line 500000 g of one piece: no text is longer. */
+wb_sheet highest_sheet(void);
+
+/* A fitting within the limits, often of the most that a line may weigh. */
+wb_fitting random_fitting(void);
 
 /* A sheet within the limits: anything, at the limits, or one that a plate can be made of. */
 wb_sheet random_sheet(void);
@@ -25,8 +37,11 @@ wb_sheet random_sheet(void);
 /* Texts of at most so many bytes are made and damaged here. */
 #define TEXT_ROOM 16000
 
-/* The text of a sheet, whose numbers may be anything; its size is the answer. */
+/* The text of a sheet, whose numbers may be anything; its size is the answer. A line is left out only where both its numbers are 0. */
 size_t text_of(const wb_sheet *sheet, uint8_t *text);
+
+/* The same without the count on the lines whose bit is set, the lowest bit for line 1, if it is 1 there: such a line says the same without it. */
+size_t short_text_of(const wb_sheet *sheet, uint32_t lines, uint8_t *text);
 
 /* Engine rows, rising, and their text. */
 void random_rows(uint32_t *powers, uint32_t *weights, size_t rows);

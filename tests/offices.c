@@ -21,7 +21,7 @@ const struct office reference = {
  * that looked at it would not show. Here the calls are declared as taking all 64 bits, under names of our own that the linker knows as theirs.
  */
 wb_answer wide_open(uint32_t *, size_t, uint64_t, uint64_t) __asm__("wb_open");
-wb_answer wide_put(uint32_t *, size_t, uint64_t, uint64_t, uint64_t) __asm__("wb_put");
+wb_answer wide_put(uint32_t *, size_t, uint64_t, uint64_t, uint64_t, uint64_t) __asm__("wb_put");
 wb_answer wide_take_off(uint32_t *, size_t, uint64_t, uint64_t) __asm__("wb_take_off");
 wb_answer wide_replace(uint32_t *, size_t, uint64_t, const uint8_t *, size_t) __asm__("wb_replace");
 wb_answer wide_trial_a(const uint32_t *, size_t, uint64_t) __asm__("wb_trial_a");
@@ -45,9 +45,9 @@ static wb_answer open_soiled(uint32_t *mem, size_t len, uint32_t desk, uint32_t 
     return wide_open(mem, len, soiled(desk), soiled(hull));
 }
 
-static wb_answer put_soiled(uint32_t *mem, size_t len, uint32_t desk, uint32_t line, uint32_t weight)
+static wb_answer put_soiled(uint32_t *mem, size_t len, uint32_t desk, uint32_t line, uint32_t weight, uint32_t count)
 {
-    return wide_put(mem, len, soiled(desk), soiled(line), soiled(weight));
+    return wide_put(mem, len, soiled(desk), soiled(line), soiled(weight), soiled(count));
 }
 
 static wb_answer take_off_soiled(uint32_t *mem, size_t len, uint32_t desk, uint32_t line)

@@ -10,7 +10,7 @@ struct office {
     wb_answer (*fresh)(uint32_t *, size_t);
     wb_answer (*new_hull)(uint32_t *, size_t, const uint8_t *, size_t);
     wb_answer (*open)(uint32_t *, size_t, uint32_t, uint32_t);
-    wb_answer (*put)(uint32_t *, size_t, uint32_t, uint32_t, uint32_t);
+    wb_answer (*put)(uint32_t *, size_t, uint32_t, uint32_t, uint32_t, uint32_t);
     wb_answer (*take_off)(uint32_t *, size_t, uint32_t, uint32_t);
     wb_answer (*replace)(uint32_t *, size_t, uint32_t, const uint8_t *, size_t);
     wb_answer (*trial_a)(const uint32_t *, size_t, uint32_t);

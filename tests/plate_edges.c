@@ -16,7 +16,7 @@ static void set_net(wb_sheet *sheet, int64_t net, int64_t factor)
 {
     int64_t boat = sheet->bare;
     for (int line = 0; line < WB_FITTINGS; line++)
-        boat += sheet->fitting[line];
+        boat += grams_on(&sheet->fitting[line]);
     set_water(sheet, net + GRAM * (boat + factor * ((int64_t)sheet->fuel + sheet->machinery)));
 }
 
@@ -80,7 +80,7 @@ static wb_sheet laden_hull(uint32_t outboard, uint32_t declared)
     sheet.fuel = 500000;
     sheet.machinery = 499000;
     for (uint32_t line = 0; line < WB_FITTINGS; line++)
-        sheet.fitting[line] = 5000 + 100 * line;
+        sheet.fitting[line] = (wb_fitting){500 + 10 * line, 1 + line % 13};
     sheet.outboard = outboard;
     sheet.declared = declared;
     return sheet;
@@ -104,13 +104,29 @@ static void try_laden_loads(void)
     }
 }
 
-/* What one number of the base hull adds to both loads, in kilograms. */
-static void expect_added(wb_sheet sheet, int number, uint32_t more, int a, int c)
+/* Both loads of a sheet, by what they are above those of the base hull, in kilograms. */
+static void expect_more(wb_sheet sheet, int a, int c)
 {
-    numbers_of(&sheet)[number] += more;
     expect_load('A', &sheet, (uint32_t)(327 + a));
     sheet.tested = 24;
     expect_load('C', &sheet, (uint32_t)(326 + c));
+}
+
+/* What one number of the base hull adds to them. */
+static void expect_added(wb_sheet sheet, int number, uint32_t more, int a, int c)
+{
+    numbers_of(&sheet)[number] += more;
+    expect_more(sheet, a, c);
+}
+
+/* 50 kg on a line, as one piece and as more. */
+static void expect_pieces_added(wb_sheet sheet, int line)
+{
+    static const wb_fitting pieces[] = {{50000, 1}, {25000, 2}, {5000, 10}, {1000, 50}, {625, 80}};
+    for (size_t i = 0; i < sizeof pieces / sizeof *pieces; i++) {
+        sheet.fitting[line] = pieces[i];
+        expect_more(sheet, -10, -10);
+    }
 }
 
 /* Every number of the volume and the weights, one at a time. */
@@ -134,7 +150,7 @@ static void try_shares(void)
         expect_added(inboard, 35 + i, 50000, tanks ? 5 * grams[i] : grams[i], grams[i]);
     }
     for (int line = 0; line < WB_FITTINGS; line++)
-        expect_added(outboard, FIRST_FITTING + line, 50000, -10, -10);
+        expect_pieces_added(outboard, line);
 }
 
 /* ---- whole boats, with the figures worked out apart ---- */
@@ -164,8 +180,8 @@ static void try_no_two_alike(void)
     sheet.declared = 33000;
     sheet.positions = 7;
     sheet.tested = 5;
-    sheet.fitting[4] = 8600;
-    sheet.fitting[23] = 13700;
+    sheet.fitting[4] = (wb_fitting){8600, 1};
+    sheet.fitting[23] = (wb_fitting){13700, 1};
     expect_plate('A', &sheet, 0, 536, 75000);
     expect_plate('C', &sheet, 0, 535, 4);
     expect_plate('U', &sheet, 0, 1191, 0);
@@ -175,22 +191,44 @@ static void try_no_two_alike(void)
     expect_plate('U', &sheet, 0, 1150, 0);
 }
 
+/*
+ * 24 lines of 99 pieces of 5050 g: with the bare boat they weigh 12198800 g, of 55000000 g of water. The aft structure brings plate A to a half and
+ * plate C to a whole kilogram.
+ */
+static void try_dozens(void)
+{
+    static const struct {
+        uint32_t aft, a, c;
+    } loads[] = {{0, 8560, 8560}, {1299, 8560, 8560}, {1300, 8561, 8560}, {3799, 8561, 8560}, {3800, 8561, 8561}};
+    begin_part("24 lines of 99 pieces");
+    lend_rows(weightless_powers, weightless, 1);
+    for (size_t i = 0; i < sizeof loads / sizeof *loads; i++) {
+        wb_sheet sheet = base_hull();
+        sheet.length = sheet.reference = 6000;
+        for (int number = FIRST_READING; number < AFT_NUMBER; number++)
+            numbers_of(&sheet)[number] = highest(number);
+        for (int line = 0; line < WB_FITTINGS; line++)
+            sheet.fitting[line] = (wb_fitting){5050, 99};
+        sheet.aft = loads[i].aft;
+        expect_load('A', &sheet, loads[i].a);
+        expect_load('C', &sheet, loads[i].c);
+    }
+}
+
 /* Every number at its highest, the most that can be marked, and the least. */
 static void try_ends(void)
 {
     static const uint32_t power = 200000, weight = 1000000;
-    wb_sheet sheet;
+    wb_sheet sheet = highest_sheet();
     begin_part("the most and the least on plates A and C");
     lend_rows(&power, &weight, 1);
-    for (int number = 0; number < SHEET_NUMBERS; number++)
-        numbers_of(&sheet)[number] = highest(number);
     expect_plate('A', &sheet, 0, 7000, 225000);
     expect_plate('C', &sheet, 0, 7000, 24);
     sheet.outboard = 0;
     expect_plate('A', &sheet, 0, 6200, 0);
     sheet.well = sheet.flooding = sheet.fuel = sheet.machinery = 0;
     for (int line = 0; line < WB_FITTINGS; line++)
-        sheet.fitting[line] = 0;
+        sheet.fitting[line] = (wb_fitting){0, 0};
     sheet.bare = 1;
     sheet.declared = 1500;
     expect_plate('A', &sheet, 0, 12000, 0);
@@ -198,7 +236,7 @@ static void try_ends(void)
     for (int number = FIRST_READING; number < FIRST_FITTING; number++)
         numbers_of(&sheet)[number] = number > AFT_NUMBER && number <= MACHINERY_NUMBER ? highest(number) : lowest(number);
     for (int line = 0; line < WB_FITTINGS; line++)
-        sheet.fitting[line] = 500000;
+        sheet.fitting[line] = (wb_fitting){250000, 2};
     expect_plate('A', &sheet, 12, 0, 0);
     expect_plate('C', &sheet, 12, 0, 0);
 }
@@ -514,6 +552,7 @@ void try_plate_edges(void)
     try_laden_loads();
     try_shares();
     try_no_two_alike();
+    try_dozens();
     try_ends();
     try_power_rows();
     try_flat_line();

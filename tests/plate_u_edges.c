@@ -69,7 +69,7 @@ static void try_water_shares(void)
         }
 }
 
-/* 50 kg more of each number from the aft structure to the machinery, then of a fitting on each line. */
+/* 50 kg more of each number from the aft structure to the machinery, then of a fitting on each line, by one piece and by forty. */
 static void try_weight_shares(void)
 {
     static const struct {
@@ -81,15 +81,24 @@ static void try_weight_shares(void)
         {0, 20000, 400000, {530, 498, 498, 498, 498, 514}, 498},
     };
     begin_part("shares of each weight in plate U");
-    for (size_t i = 0; i < sizeof hulls / sizeof *hulls; i++)
-        for (int number = AFT_NUMBER; number < SHEET_NUMBERS; number = number == MACHINERY_NUMBER ? FIRST_FITTING : number + 1) {
-            wb_sheet sheet = base_hull();
-            sheet.outboard = hulls[i].outboard;
-            sheet.declared = hulls[i].declared;
-            sheet.machinery = hulls[i].machinery;
+    for (size_t i = 0; i < sizeof hulls / sizeof *hulls; i++) {
+        wb_sheet hull = base_hull();
+        hull.outboard = hulls[i].outboard;
+        hull.declared = hulls[i].declared;
+        hull.machinery = hulls[i].machinery;
+        for (int number = AFT_NUMBER; number <= MACHINERY_NUMBER; number++) {
+            wb_sheet sheet = hull;
             numbers_of(&sheet)[number] += 50000;
-            expect_pounds(&sheet, number < FIRST_FITTING ? hulls[i].pounds[number - AFT_NUMBER] : hulls[i].fitting);
+            expect_pounds(&sheet, hulls[i].pounds[number - AFT_NUMBER]);
         }
+        for (int line = 0; line < WB_FITTINGS; line++) {
+            wb_sheet sheet = hull;
+            sheet.fitting[line] = (wb_fitting){50000, 1};
+            expect_pounds(&sheet, hulls[i].fitting);
+            sheet.fitting[line] = (wb_fitting){1250, 40};
+            expect_pounds(&sheet, hulls[i].fitting);
+        }
+    }
 }
 
 /* ---- a boat of which no two stations, volumes or weights are alike ---- */
@@ -110,10 +119,10 @@ static wb_sheet launch(void)
     sheet.bare = 612000;
     sheet.fuel = 42000;
     sheet.machinery = 138000;
-    sheet.fitting[0] = 14800;
-    sheet.fitting[1] = 16200;
-    sheet.fitting[12] = 22000;
-    sheet.fitting[23] = 9400;
+    sheet.fitting[0] = (wb_fitting){3700, 4};
+    sheet.fitting[1] = (wb_fitting){5400, 3};
+    sheet.fitting[12] = (wb_fitting){22000, 1};
+    sheet.fitting[23] = (wb_fitting){940, 10};
     return sheet;
 }
 
@@ -132,7 +141,7 @@ static void try_last_grams(void)
     for (size_t form = 0; form < sizeof forms / sizeof *forms; form++)
         for (int i = 0; i < 7; i++) {
             wb_sheet sheet = launch();
-            uint32_t *number = i < 6 ? &numbers_of(&sheet)[AFT_NUMBER + i] : &sheet.fitting[12];
+            uint32_t *number = i < 6 ? &numbers_of(&sheet)[AFT_NUMBER + i] : &sheet.fitting[12].weight;
             uint32_t last = forms[form].last[i], pounds = forms[form].pounds;
             sheet.outboard = forms[form].outboard;
             sheet.declared = forms[form].declared;
@@ -205,9 +214,9 @@ static void expect_exact(wb_sheet sheet, uint32_t pounds)
     expect_pounds(&sheet, pounds - 1);
     sheet.bare -= 2;
     expect_pounds(&sheet, pounds);
-    sheet.fitting[6]++;
+    sheet.fitting[6] = (wb_fitting){1, 1};
     expect_pounds(&sheet, pounds);
-    sheet.fitting[6]++;
+    sheet.fitting[6].count++; /* a second piece of a gram */
     expect_pounds(&sheet, pounds - 1);
     sheet.aft++;
     expect_pounds(&sheet, pounds);
@@ -244,7 +253,7 @@ static void try_exact_sheets(void)
         sheet.bare = boats[i].bare;
         sheet.fuel = boats[i].fuel;
         sheet.machinery = boats[i].machinery;
-        sheet.fitting[23] = boats[i].fitting;
+        sheet.fitting[23] = (wb_fitting){boats[i].fitting / 2, 2};
         expect_exact(sheet, boats[i].pounds);
     }
 }
@@ -294,8 +303,10 @@ static void try_whole_pounds(void)
     high.flooding = 4321;
     high.fuel = 12345;
     high.machinery = 98765;
-    for (uint32_t line = 0; line < WB_FITTINGS; line++)
-        boat += high.fitting[line] = 100 + line;
+    for (uint32_t line = 0; line < WB_FITTINGS; line++) {
+        high.fitting[line] = (wb_fitting){100 + line, 1 + line % 11};
+        boat += grams_on(&high.fitting[line]);
+    }
     with_tanks = boat + high.fuel;
     wb_sheet low = high;
     low.declared = 1491;
@@ -332,8 +343,8 @@ static void try_ends(void)
         expect_pounds(&sheet, forms[i].most);
         for (int number = FIRST_READING; number <= AFT_NUMBER; number++)
             numbers_of(&sheet)[number] = 0;
-        for (int number = FIRST_FITTING; number < SHEET_NUMBERS; number++)
-            numbers_of(&sheet)[number] = 500000;
+        for (int line = 0; line < WB_FITTINGS; line++)
+            sheet.fitting[line] = (wb_fitting){500000, 1};
         sheet.well = sheet.flooding = 5000000;
         sheet.bare = 2000000;
         sheet.fuel = sheet.machinery = 500000;
@@ -345,6 +356,22 @@ static void try_ends(void)
     sheet.machinery = 500000;
     set_water(&sheet, GRAM * (7000000 + 200000));
     expect_pounds(&sheet, 2204);
+}
+
+/* 24 lines of 99 pieces of 5050 g: with the bare boat they weigh 12198800 g, of 55000000 g of water. */
+static void try_dozens(void)
+{
+    wb_sheet sheet = base_hull();
+    begin_part("24 lines of 99 pieces on plate U");
+    sheet.length = sheet.reference = 6000;
+    for (int number = FIRST_READING; number < AFT_NUMBER; number++)
+        numbers_of(&sheet)[number] = highest(number);
+    for (int line = 0; line < WB_FITTINGS; line++)
+        sheet.fitting[line] = (wb_fitting){5050, 99};
+    sheet.aft = 2043;
+    expect_pounds(&sheet, 18872);
+    sheet.aft = 2044;
+    expect_pounds(&sheet, 18873);
 }
 
 /* ---- what the other plates ask and plate U does not ---- */
@@ -380,7 +407,7 @@ static void try_full_register(void)
     }
     for (uint32_t desk = 0; desk < WB_DESKS; desk++) {
         expect(attempt((struct call){.kind = OPEN, .desk = desk, .hull = 2 * desk + 1}), 0, 0, 0);
-        expect(attempt((struct call){.kind = PUT, .desk = desk, .line = desk + 1, .weight = 100000}), 0, 0, 0);
+        expect(attempt((struct call){.kind = PUT, .desk = desk, .line = desk + 1, .weight = 25000, .count = 4}), 0, 0, 0);
     }
     for (uint32_t hull = 0; hull < WB_HULLS; hull++)
         expect(attempt((struct call){.kind = PLATE_U, .hull = hull}), 0, hulls[hull], 0);
@@ -399,6 +426,7 @@ void try_plate_u_edges(void)
     try_exact_sheets();
     try_whole_pounds();
     try_ends();
+    try_dozens();
     try_other_plates();
     try_full_register();
 }

@@ -7,13 +7,23 @@
 
 #include <string.h>
 
-/* ---- the sheet: 68 words in the order of the text, without the HULL number ---- */
+/* ---- the sheet: 92 words in the order of the text, without the HULL number ---- */
 
 enum { LENGTH, REFERENCE, WIDTH, HEIGHT, FLAT, REMOTE, STATIONS, AFT = STATIONS + 4 * 7, WELL, FLOODING, BARE, FUEL, MACHINERY, OUTBOARD, DECLARED,
-       POSITIONS, TESTED, FITTINGS, SHEET_WORDS = FITTINGS + WB_FITTINGS };
+       POSITIONS, TESTED, FITTINGS, SHEET_WORDS = FITTINGS + 2 * WB_FITTINGS };
 
 #define HIGHEST_HULL 15
-#define HEAVIEST_FITTING 500000
+
+/* A fitting line: the weight of one piece and how many there are, both 0 where the line is empty. */
+enum { WEIGHT, COUNT, FITTING_WORDS };
+#define HEAVIEST_FITTING 500000 /* all its pieces together */
+#define MOST_PIECES 99
+
+/* Where the weight on a line, 1 to 24, stands in a sheet; its count comes next. */
+static size_t fitting_at(uint32_t line)
+{
+    return FITTINGS + (size_t)FITTING_WORDS * (line - 1);
+}
 
 struct limits {
     uint32_t low, high;
@@ -40,14 +50,37 @@ static const struct {
 
 #define LINES (sizeof lines / sizeof *lines)
 
+static int is_weight(uint32_t weight)
+{
+    return weight >= 1 && weight <= HEAVIEST_FITTING;
+}
+
+/* Whether there may be so many pieces of a weight. The product is worked in 64 bits, where that of any two numbers fits. */
+static int is_count(uint32_t weight, uint32_t count)
+{
+    return count >= 1 && count <= MOST_PIECES && (uint64_t)weight * count <= HEAVIEST_FITTING;
+}
+
+static int is_fitting(uint32_t weight, uint32_t count)
+{
+    return is_weight(weight) && is_count(weight, count);
+}
+
+static int is_empty(const uint32_t *fitting)
+{
+    return fitting[WEIGHT] == 0 && fitting[COUNT] == 0;
+}
+
 static int sheet_within_limits(const uint32_t *sheet)
 {
     for (int i = 0; i < FITTINGS; i++)
         if (sheet[i] < sheet_limits[i].low || sheet[i] > sheet_limits[i].high)
             return 0;
-    for (int i = FITTINGS; i < SHEET_WORDS; i++)
-        if (sheet[i] > HEAVIEST_FITTING)
+    for (uint32_t line = 1; line <= WB_FITTINGS; line++) {
+        const uint32_t *fitting = sheet + fitting_at(line);
+        if (!is_empty(fitting) && !is_fitting(fitting[WEIGHT], fitting[COUNT]))
             return 0;
+    }
     return sheet[REFERENCE] <= sheet[LENGTH];
 }
 
@@ -117,8 +150,8 @@ static int read_tag(struct reader *text, const char *tag)
     return 1;
 }
 
-/* A number with the byte that must end it: its form is judged before its limits. After a 0 or ten digits there is only that byte. */
-static uint32_t read_number(struct reader *text, uint8_t ender, uint32_t low, uint32_t high, uint32_t *number)
+/* A number that one of two bytes must end: its form is judged before its limits. After a 0 or ten digits there is only what ends it. */
+static uint32_t read_ended(struct reader *text, uint8_t ender, uint8_t other_ender, uint32_t low, uint32_t high, uint32_t *number)
 {
     const uint8_t *first = text->at;
     uint64_t value = 0;
@@ -127,7 +160,7 @@ static uint32_t read_number(struct reader *text, uint8_t ender, uint32_t low, ui
     do
         value = 10 * value + (uint64_t)(*text->at++ - '0');
     while (next_is_digit(text) && value > 0 && text->at - first < MOST_DIGITS);
-    if (!next_is(text, ender))
+    if (!next_is(text, ender) && !next_is(text, other_ender))
         return WB_BROKEN_LINE;
     if (value < low || value > high) {
         text->at = first;
@@ -136,6 +169,11 @@ static uint32_t read_number(struct reader *text, uint8_t ender, uint32_t low, ui
     pass(text);
     *number = (uint32_t)value;
     return WB_ACCEPTED;
+}
+
+static uint32_t read_number(struct reader *text, uint8_t ender, uint32_t low, uint32_t high, uint32_t *number)
+{
+    return read_ended(text, ender, ender, low, high, number);
 }
 
 /* The lines from FORM to SEAT into the first words of a sheet. */
@@ -161,24 +199,39 @@ static uint32_t read_lines(struct reader *text, uint32_t *sheet)
     return WB_ACCEPTED;
 }
 
+/* The weight of one piece and, unless the line ends there, how many there are; otherwise there is one. What all weigh is judged at the count. */
+static uint32_t read_pieces(struct reader *text, uint32_t *fitting)
+{
+    uint32_t fault = read_ended(text, '\t', '\n', 1, HEAVIEST_FITTING, &fitting[WEIGHT]);
+    fitting[COUNT] = 1;
+    if (fault || text->at[-1] == '\n')
+        return fault;
+    struct reader at_count = *text;
+    fault = read_number(text, '\n', 1, MOST_PIECES, &fitting[COUNT]);
+    if (fault || is_count(fitting[WEIGHT], fitting[COUNT]))
+        return fault;
+    *text = at_count;
+    return WB_OUTSIDE_LIMITS;
+}
+
 /* The FIT lines, their numbers rising, then END and nothing more. */
-static uint32_t read_fittings(struct reader *text, uint32_t *fittings)
+static uint32_t read_fittings(struct reader *text, uint32_t *sheet)
 {
     uint32_t line = 0;
-    memset(fittings, 0, WB_FITTINGS * sizeof *fittings);
-    for (int count = 0; count < WB_FITTINGS && next_is(text, 'F'); count++) {
+    memset(sheet + FITTINGS, 0, (SHEET_WORDS - FITTINGS) * sizeof *sheet);
+    for (int lines_read = 0; lines_read < WB_FITTINGS && next_is(text, 'F'); lines_read++) {
         if (!read_tag(text, "FIT\t"))
             return WB_BROKEN_LINE;
         uint32_t fault = read_number(text, '\t', line + 1, WB_FITTINGS, &line);
         if (!fault)
-            fault = read_number(text, '\n', 1, HEAVIEST_FITTING, &fittings[line - 1]);
+            fault = read_pieces(text, sheet + fitting_at(line));
         if (fault)
             return fault;
     }
     return read_tag(text, "END\n") && text->at == text->end ? WB_ACCEPTED : WB_BROKEN_LINE;
 }
 
-/* A whole text into the HULL number and the 68 words after it. */
+/* A whole text into the HULL number and the 92 words after it. */
 static wb_answer read_text(const uint8_t *bytes, size_t size, uint32_t *numbers)
 {
     if (size > LONGEST_TEXT)
@@ -190,7 +243,7 @@ static wb_answer read_text(const uint8_t *bytes, size_t size, uint32_t *numbers)
     if (!fault)
         fault = read_lines(&text, numbers + 1);
     if (!fault)
-        fault = read_fittings(&text, numbers + 1 + FITTINGS);
+        fault = read_fittings(&text, numbers + 1);
     return fault ? refused_at(fault, &text) : accepted(0, 0);
 }
 
@@ -248,9 +301,13 @@ static wb_answer write_text(uint32_t hull, const uint32_t *sheet, uint8_t *out, 
             else
                 at = write_number(at, sheet[word], field == lines[line].fields ? '\n' : '\t');
     }
-    for (uint32_t line = 1; line <= WB_FITTINGS; line++)
-        if (sheet[FITTINGS + line - 1] > 0)
-            at = write_number(write_number(write_tag(at, "FIT\t"), line, '\t'), sheet[FITTINGS + line - 1], '\n');
+    for (uint32_t line = 1; line <= WB_FITTINGS; line++) {
+        const uint32_t *fitting = sheet + fitting_at(line);
+        if (is_empty(fitting))
+            continue;
+        at = write_number(write_tag(at, "FIT\t"), line, '\t');
+        at = write_number(write_number(at, fitting[WEIGHT], '\t'), fitting[COUNT], '\n');
+    }
     at = write_tag(at, "END\n");
     size_t size = (size_t)(at - text);
     if (out_len < size)
@@ -285,12 +342,12 @@ static int64_t water(const uint32_t *sheet)
     return n + 180000 * ((int64_t)sheet[AFT] - sheet[WELL] - sheet[FLOODING]);
 }
 
-/* M: bare boat and fittings. */
+/* M: bare boat and fittings, each line all its pieces. */
 static int64_t boat(const uint32_t *sheet)
 {
     int64_t grams = sheet[BARE];
-    for (int i = FITTINGS; i < SHEET_WORDS; i++)
-        grams += sheet[i];
+    for (uint32_t line = 1; line <= WB_FITTINGS; line++)
+        grams += (int64_t)sheet[fitting_at(line) + WEIGHT] * sheet[fitting_at(line) + COUNT];
     return grams;
 }
 
@@ -545,14 +602,16 @@ wb_answer ref_open(uint32_t *mem, size_t mem_len, uint32_t desk, uint32_t hull)
     return accepted(from[EDIT], 0);
 }
 
-wb_answer ref_put(uint32_t *mem, size_t mem_len, uint32_t desk, uint32_t line, uint32_t weight)
+wb_answer ref_put(uint32_t *mem, size_t mem_len, uint32_t desk, uint32_t line, uint32_t weight, uint32_t count)
 {
     uint32_t fault = judge_draft(mem, mem_len, desk);
     if (fault)
         return refused(fault);
-    if (!is_line(line) || weight < 1 || weight > HEAVIEST_FITTING)
+    if (!is_line(line) || !is_fitting(weight, count))
         return refused(WB_OUTSIDE_LIMITS);
-    mem[desk_at(desk) + DRAFT_SHEET + FITTINGS + line - 1] = weight;
+    uint32_t *fitting = mem + desk_at(desk) + DRAFT_SHEET + fitting_at(line);
+    fitting[WEIGHT] = weight;
+    fitting[COUNT] = count;
     return accepted(0, 0);
 }
 
@@ -563,10 +622,10 @@ wb_answer ref_take_off(uint32_t *mem, size_t mem_len, uint32_t desk, uint32_t li
         return refused(fault);
     if (!is_line(line))
         return refused(WB_OUTSIDE_LIMITS);
-    uint32_t *fitting = mem + desk_at(desk) + DRAFT_SHEET + FITTINGS + line - 1;
-    if (*fitting == 0)
+    uint32_t *fitting = mem + desk_at(desk) + DRAFT_SHEET + fitting_at(line);
+    if (is_empty(fitting))
         return refused(WB_EMPTY_LINE);
-    *fitting = 0;
+    fitting[WEIGHT] = fitting[COUNT] = 0;
     return accepted(0, 0);
 }
 
@@ -659,7 +718,7 @@ wb_answer ref_read_sheet(const uint8_t *text, size_t text_len, wb_sheet *sheet)
 
 wb_answer ref_write_sheet(const wb_sheet *sheet, uint8_t *out, size_t out_len)
 {
-    const uint32_t *numbers = (const uint32_t *)sheet; /* a wb_sheet is its 69 numbers and nothing else */
+    const uint32_t *numbers = (const uint32_t *)sheet; /* a wb_sheet is its 93 numbers and nothing else */
     if (numbers[0] > HIGHEST_HULL || !sheet_within_limits(numbers + 1))
         return refused(WB_OUTSIDE_LIMITS);
     return write_text(numbers[0], numbers + 1, out, out_len);

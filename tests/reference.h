@@ -7,7 +7,7 @@
 wb_answer ref_fresh(uint32_t *mem, size_t mem_len);
 wb_answer ref_new_hull(uint32_t *mem, size_t mem_len, const uint8_t *text, size_t text_len);
 wb_answer ref_open(uint32_t *mem, size_t mem_len, uint32_t desk, uint32_t hull);
-wb_answer ref_put(uint32_t *mem, size_t mem_len, uint32_t desk, uint32_t line, uint32_t weight);
+wb_answer ref_put(uint32_t *mem, size_t mem_len, uint32_t desk, uint32_t line, uint32_t weight, uint32_t count);
 wb_answer ref_take_off(uint32_t *mem, size_t mem_len, uint32_t desk, uint32_t line);
 wb_answer ref_replace(uint32_t *mem, size_t mem_len, uint32_t desk, const uint8_t *text, size_t text_len);
 wb_answer ref_trial_a(const uint32_t *mem, size_t mem_len, uint32_t desk);

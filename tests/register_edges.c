@@ -39,7 +39,7 @@ static struct call judging_call(uint32_t turn)
 {
     static const enum kind judging[JUDGING] = {NEW_HULL, OPEN, PUT, TAKE_OFF, REPLACE, TRIAL_A, TRIAL_C, TRIAL_U, SAVE, DROP, PLATE_A, PLATE_C, PLATE_U,
                                                WRITE_HULL};
-    return (struct call){.kind = judging[turn % JUDGING], .desk = turn % 3, .hull = turn % 4, .line = turn % 24 + 1, .weight = 5};
+    return (struct call){.kind = judging[turn % JUDGING], .desk = turn % 3, .hull = turn % 4, .line = turn % 24 + 1, .weight = 5, .count = 12};
 }
 
 static void lend_good_things(void)
@@ -87,11 +87,12 @@ static void change_word(uint32_t word, uint32_t number, int formed, uint32_t tur
     memcpy(mem, before, sizeof before);
 }
 
-/* The words whose limits hang on another word are left out here: the count, and lengths. */
+/* The words whose limits hang on another word are left out here: the count of hulls, lengths, weights and counts of fittings. */
 static int alone(uint32_t word)
 {
     uint32_t at = word < DESK_AT(0) ? (word - 1) % HULL_WORDS : (word - DESK_AT(0)) % DESK_WORDS - 2;
-    return word != 0 && at != LENGTH_NUMBER && at != REFERENCE_NUMBER && !(word < DESK_AT(0) && at == 0);
+    int of_fitting = at >= FIRST_FITTING && at < SHEET_NUMBERS;
+    return word != 0 && at != LENGTH_NUMBER && at != REFERENCE_NUMBER && !of_fitting && !(word < DESK_AT(0) && at == 0);
 }
 
 static void change_every_word(uint32_t hulls, uint32_t drafts)
@@ -109,7 +110,7 @@ static void change_every_word(uint32_t hulls, uint32_t drafts)
         if (low > 0)
             change_word(word, low - 1, 0, turn++);
         /* a desk's mark set to 1 makes a draft of what was free there */
-        if (!alone(word) || (word >= DESK_AT(drafts) && (word - DESK_AT(0)) % DESK_WORDS == 0))
+        if ((high < 0xFFFFFFFF && !alone(word)) || (word >= DESK_AT(drafts) && (word - DESK_AT(0)) % DESK_WORDS == 0))
             continue;
         change_word(word, low, 1, turn++);
         change_word(word, high, 1, turn++);
@@ -137,6 +138,32 @@ static void change_bound_words(void)
     }
 }
 
+/* The two words of a fitting line, which hang on each other, in every slot and on every line. */
+static void change_fittings(void)
+{
+    static const struct {
+        uint32_t weight, count;
+        int formed;
+    } lines[] = {
+        {0, 0, 1}, {1, 1, 1}, {1, 99, 1}, {500000, 1, 1}, {250000, 2, 1}, {5050, 99, 1}, {166666, 3, 1}, {0, 1, 0}, {0, 99, 0}, {1, 0, 0},
+        {500000, 0, 0}, {1, 100, 0}, {500001, 1, 0}, {500000, 2, 0}, {250001, 2, 0}, {5051, 99, 0}, {166667, 3, 0}, {500000, 99, 0},
+        /* products that 32 bits would take for 0, 2, 95 or 1 */
+        {65536, 65536, 0}, {0x80000000, 2, 0}, {0x80000001, 2, 0}, {43383509, 99, 0}, {0xFFFFFFFF, 0xFFFFFFFF, 0},
+    };
+    uint32_t turn = 0;
+    build(16, 8);
+    lend_good_things();
+    for (uint32_t slot = 0; slot < WB_HULLS + WB_DESKS; slot++)
+        for (uint32_t line = 1; line <= WB_FITTINGS; line++) {
+            uint32_t sheet = slot < WB_HULLS ? HULL_AT(slot) + 1 : DESK_AT(slot - WB_HULLS) + 3, at = sheet + WEIGHT_IN_SHEET(line), is = mem[at];
+            for (size_t i = 0; i < sizeof lines / sizeof *lines; i++) {
+                mem[at] = lines[i].weight;
+                change_word(at + 1, lines[i].count, lines[i].formed, turn++);
+            }
+            mem[at] = is;
+        }
+}
+
 /* A seventeenth hull would stand where the desks are. It is refused also where the words of a free desk would make it a good one. */
 static void try_seventeen_hulls(void)
 {
@@ -154,7 +181,7 @@ static void try_seventeen_hulls(void)
 
 static void try_wrong_sizes(void)
 {
-    static const uint32_t words[] = {0, 1, 2, 1104, 1105, 1672, 1674, 1675, 3346, 4096};
+    static const uint32_t words[] = {0, 1, 2, DESK_AT(0) - 1, DESK_AT(0), 1673, 2248, 2250, 2251, 4096, 4498};
     begin_part("memories of the wrong size");
     build(16, 8);
     lend_good_things();
@@ -199,7 +226,7 @@ static void try_last_edits(void)
     expect(attempt((struct call){.kind = SAVE, .desk = 4}), 0, 65535, 0);
     expect(attempt((struct call){.kind = SAVE, .desk = 5}), 8, 0, 0); /* and not 9 */
     expect(attempt((struct call){.kind = OPEN, .desk = 4, .hull = 1}), 0, 65535, 0);
-    expect(attempt((struct call){.kind = PUT, .desk = 4, .line = 1, .weight = 1}), 0, 0, 0);
+    expect(attempt((struct call){.kind = PUT, .desk = 4, .line = 1, .weight = 1, .count = 1}), 0, 0, 0);
     expect(attempt((struct call){.kind = SAVE, .desk = 4}), 9, 0, 0);
     expect(attempt((struct call){.kind = SAVE, .desk = 4}), 9, 0, 0);
     expect(attempt((struct call){.kind = DROP, .desk = 4}), 0, 0, 0);
@@ -218,12 +245,13 @@ static void try_ended_drafts(void)
     before[DESK_AT(1)] = 0;
     insist(memcmp(before, mem, sizeof before) == 0, "drop changed more than the desk's mark");
     expect(attempt((struct call){.kind = OPEN, .desk = 0, .hull = 1}), 0, 3, 0);
-    expect(attempt((struct call){.kind = PUT, .desk = 0, .line = 24, .weight = 500000}), 0, 0, 0);
+    expect(attempt((struct call){.kind = PUT, .desk = 0, .line = 24, .weight = 5050, .count = 99}), 0, 0, 0);
     memcpy(before, mem, sizeof before);
     expect(attempt((struct call){.kind = SAVE, .desk = 0}), 0, 4, 0);
     before[DESK_AT(0)] = 0;
     before[HULL_AT(1)] = 4;
-    before[HULL_AT(1) + 68] = 500000;
+    before[HULL_AT(1) + 91] = 5050;
+    before[HULL_AT(1) + 92] = 99;
     insist(memcmp(before, mem, sizeof before) == 0, "save changed something else than the hull's slot and the desk's mark");
 }
 
@@ -240,14 +268,16 @@ static void expect_all(const struct call *calls, const uint32_t *refusals, size_
 static void try_order(void)
 {
     static const struct call calls[] = {
-        {OPEN, 8, 16, 0, 0}, {OPEN, 0, 16, 0, 0}, {PUT, 8, 0, 0, 0}, {PUT, 7, 0, 0, 0}, {PUT, 0, 0, 0, 1}, {PUT, 0, 0, 25, 1}, {PUT, 0, 0, 1, 0},
-        {PUT, 0, 0, 24, 500001}, {TAKE_OFF, 8, 0, 0, 0}, {TAKE_OFF, 7, 0, 0, 0}, {TAKE_OFF, 0, 0, 0, 0}, {TAKE_OFF, 0, 0, 25, 0},
-        {REPLACE, 8, 0, 0, 0}, {REPLACE, 7, 0, 0, 0}, {REPLACE, 0, 0, 0, 0}, {TRIAL_A, 8, 0, 0, 0}, {TRIAL_A, 7, 0, 0, 0}, {TRIAL_C, 8, 0, 0, 0},
-        {TRIAL_C, 7, 0, 0, 0}, {TRIAL_C, 0, 0, 0, 0}, {TRIAL_U, 8, 0, 0, 0}, {TRIAL_U, 7, 0, 0, 0}, {SAVE, 8, 0, 0, 0}, {SAVE, 7, 0, 0, 0},
-        {SAVE, 0, 0, 0, 0}, {DROP, 8, 0, 0, 0}, {DROP, 7, 0, 0, 0}, {PLATE_A, 0, 16, 0, 0}, {PLATE_C, 0, 16, 0, 0}, {PLATE_C, 0, 15, 0, 0},
-        {PLATE_U, 0, 16, 0, 0}, {WRITE_HULL, 0, 16, 0, 0}, {WRITE_HULL, 0, 15, 0, 0}, {NEW_HULL, 0, 0, 0, 0},
+        {OPEN, 8, 16, 0, 0, 0}, {OPEN, 0, 16, 0, 0, 0}, {PUT, 8, 0, 0, 0, 0}, {PUT, 7, 0, 0, 0, 0}, {PUT, 0, 0, 0, 1, 1}, {PUT, 0, 0, 25, 1, 1},
+        {PUT, 0, 0, 1, 0, 1}, {PUT, 0, 0, 24, 500001, 1}, {PUT, 0, 0, 1, 1, 0}, {PUT, 0, 0, 24, 1, 100}, {PUT, 0, 0, 1, 250001, 2},
+        {TAKE_OFF, 8, 0, 0, 0, 0}, {TAKE_OFF, 7, 0, 0, 0, 0}, {TAKE_OFF, 0, 0, 0, 0, 0}, {TAKE_OFF, 0, 0, 25, 0, 0}, {REPLACE, 8, 0, 0, 0, 0},
+        {REPLACE, 7, 0, 0, 0, 0}, {REPLACE, 0, 0, 0, 0, 0}, {TRIAL_A, 8, 0, 0, 0, 0}, {TRIAL_A, 7, 0, 0, 0, 0}, {TRIAL_C, 8, 0, 0, 0, 0},
+        {TRIAL_C, 7, 0, 0, 0, 0}, {TRIAL_C, 0, 0, 0, 0, 0}, {TRIAL_U, 8, 0, 0, 0, 0}, {TRIAL_U, 7, 0, 0, 0, 0}, {SAVE, 8, 0, 0, 0, 0},
+        {SAVE, 7, 0, 0, 0, 0}, {SAVE, 0, 0, 0, 0, 0}, {DROP, 8, 0, 0, 0, 0}, {DROP, 7, 0, 0, 0, 0}, {PLATE_A, 0, 16, 0, 0, 0},
+        {PLATE_C, 0, 16, 0, 0, 0}, {PLATE_C, 0, 15, 0, 0, 0}, {PLATE_U, 0, 16, 0, 0, 0}, {WRITE_HULL, 0, 16, 0, 0, 0}, {WRITE_HULL, 0, 15, 0, 0, 0},
+        {NEW_HULL, 0, 0, 0, 0, 0},
     };
-    static const uint32_t refusals[] = {6, 5, 6, 7, 3, 3, 3, 3, 6, 7, 3, 3, 6, 7, 2, 6, 7, 6, 7, 10, 6, 7, 6, 7, 8, 6, 7, 5, 5, 10, 5, 5, 16, 4};
+    static const uint32_t refusals[] = {6, 5, 6, 7, 3, 3, 3, 3, 3, 3, 3, 6, 7, 3, 3, 6, 7, 2, 6, 7, 6, 7, 10, 6, 7, 6, 7, 8, 6, 7, 5, 5, 10, 5, 5, 16, 4};
     size_t count = sizeof calls / sizeof *calls;
     uint32_t bad_memory[sizeof calls / sizeof *calls];
     begin_part("order of the register's refusals");
@@ -273,13 +303,15 @@ static void try_high_numbers(void)
     for (int bit = 4; bit < 32; bit++) {
         uint32_t high = (uint32_t)1 << bit | (uint32_t)bit % 8;
         for (size_t i = 0; i < sizeof by_desk / sizeof *by_desk; i++) {
-            expect(attempt((struct call){by_desk[i], high, 0, 1, 1}), 6, 0, 0);
-            expect(attempt((struct call){by_desk[i], 8, 0, 1, 1}), 6, 0, 0);
+            expect(attempt((struct call){by_desk[i], high, 0, 1, 1, 1}), 6, 0, 0);
+            expect(attempt((struct call){by_desk[i], 8, 0, 1, 1, 1}), 6, 0, 0);
         }
         for (size_t i = 0; i < sizeof by_hull / sizeof *by_hull; i++)
-            expect(attempt((struct call){by_hull[i], 0, high, 1, 1}), 5, 0, 0);
-        expect(attempt((struct call){PUT, 0, 0, (uint32_t)1 << bit | 9, 1}), 3, 0, 0);
-        expect(attempt((struct call){TAKE_OFF, 0, 0, (uint32_t)1 << bit | 9, 0}), 3, 0, 0);
+            expect(attempt((struct call){by_hull[i], 0, high, 1, 1, 1}), 5, 0, 0);
+        expect(attempt((struct call){PUT, 0, 0, (uint32_t)1 << bit | 9, 1, 1}), 3, 0, 0);
+        expect(attempt((struct call){PUT, 0, 0, 9, (uint32_t)1 << bit | 9, 1}), bit < 19 ? 0 : 3, 0, 0);
+        expect(attempt((struct call){PUT, 0, 0, 9, 9, (uint32_t)1 << bit | 9}), bit < 7 ? 0 : 3, 0, 0);
+        expect(attempt((struct call){TAKE_OFF, 0, 0, (uint32_t)1 << bit | 9, 0, 0}), 3, 0, 0);
     }
 }
 
@@ -296,7 +328,7 @@ static void expect_hull(wb_sheet sheet, uint32_t hull)
 /* Texts into the register: their HULL number is judged and then ignored. */
 static void try_texts(void)
 {
-    static const struct call calls[] = {{NEW_HULL, 0, 0, 0, 0}, {REPLACE, 3, 0, 0, 0}};
+    static const struct call calls[] = {{NEW_HULL, 0, 0, 0, 0, 0}, {REPLACE, 3, 0, 0, 0, 0}};
     begin_part("texts into the register");
     for (uint32_t i = 0; i < 2; i++) {
         wb_sheet sheet = base_hull();
@@ -306,12 +338,26 @@ static void try_texts(void)
         lend_text("HULL\t15\n");
         expect(attempt(calls[i]), 2, 2, 1);
         sheet.hull = 15;
-        sheet.fitting[23] = 7;
+        sheet.fitting[23] = (wb_fitting){7, 12};
         lend_text_of(&sheet);
         expect(attempt(calls[i]), 0, i == 0, 0); /* the new hull is the second, number 1 */
         expect(attempt((struct call){.kind = SAVE, .desk = 3}), 0, 1, 0);
         expect_hull(sheet, i == 0);
     }
+}
+
+/* ---- fittings, at desk 3 ---- */
+
+static void insist_line(uint32_t line, uint32_t weight, uint32_t count, const char *what)
+{
+    insist(mem[WEIGHT_AT(3, line)] == weight && mem[COUNT_AT(3, line)] == count, what);
+}
+
+static void expect_put(uint32_t line, uint32_t weight, uint32_t count, uint32_t refusal)
+{
+    expect(attempt((struct call){.kind = PUT, .desk = 3, .line = line, .weight = weight, .count = count}), refusal, 0, 0);
+    if (refusal == 0)
+        insist_line(line, weight, count, "the fitting is not on its line, both numbers");
 }
 
 /* Putting and taking off, line by line. */
@@ -322,13 +368,58 @@ static void try_fittings(void)
     enter_alone(&sheet);
     for (uint32_t line = 1; line <= WB_FITTINGS; line++) {
         expect(attempt((struct call){.kind = TAKE_OFF, .desk = 3, .line = line}), 17, 0, 0);
-        expect(attempt((struct call){.kind = PUT, .desk = 3, .line = line, .weight = line}), 0, 0, 0);
-        insist(mem[FITTING_AT(3, line)] == line, "the fitting is not on its line");
-        expect(attempt((struct call){.kind = PUT, .desk = 3, .line = line, .weight = 500000}), 0, 0, 0);
+        expect_put(line, line, 100 - line, 0);
+        expect_put(line, 500000, 1, 0);
+        expect_put(line, 120, 12, 0);
         expect(attempt((struct call){.kind = TAKE_OFF, .desk = 3, .line = line}), 0, 0, 0);
-        insist(mem[FITTING_AT(3, line)] == 0, "the fitting is still on its line");
-        expect(attempt((struct call){.kind = PUT, .desk = 3, .line = line, .weight = 1}), 0, 0, 0);
+        insist_line(line, 0, 0, "something of the fitting is still on its line");
+        expect(attempt((struct call){.kind = TAKE_OFF, .desk = 3, .line = line}), 17, 0, 0);
+        expect_put(line, 1, 1, 0);
     }
+}
+
+/* Weights and counts at their limits and beside, and products that 32 bits would take for less; each on a line that is empty and on one that is not. */
+static void try_pieces(void)
+{
+    static const struct {
+        uint32_t weight, count, refusal;
+    } puts[] = {
+        {1, 1, 0}, {500000, 1, 0}, {250000, 2, 0}, {166666, 3, 0}, {5050, 99, 0}, {1, 99, 0}, {5102, 98, 0}, {0, 0, 3}, {0, 1, 3}, {0, 99, 3},
+        {1, 0, 3}, {500000, 0, 3}, {1, 100, 3}, {5, 100, 3}, {500001, 1, 3}, {500000, 2, 3}, {250001, 2, 3}, {166667, 3, 3}, {5051, 99, 3},
+        {5103, 98, 3}, {500000, 99, 3}, {99, 5050, 3}, {2, 250000, 3}, {65536, 65536, 3}, {0x80000000, 2, 3}, {0x80000001, 2, 3}, {2, 0x80000001, 3},
+        {43383509, 99, 3}, {500000, 8590, 3}, {0xFFFFFFFF, 1, 3}, {1, 0xFFFFFFFF, 3}, {0xFFFFFFFF, 0xFFFFFFFF, 3},
+    };
+    for (size_t i = 0; i < sizeof puts / sizeof *puts; i++) {
+        wb_sheet sheet = base_hull();
+        enter_alone(&sheet);
+        expect_put(24, puts[i].weight, puts[i].count, puts[i].refusal);
+        expect_put(1, 120, 12, 0);
+        expect_put(1, puts[i].weight, puts[i].count, puts[i].refusal);
+    }
+    for (uint32_t count = 1; count <= 99; count++) {
+        expect_put(7, heaviest(count), count, 0);
+        expect_put(7, heaviest(count) + 1, count, 3);
+    }
+}
+
+/* Nothing is left of a line that a text does not have: in a draft that is replaced or opened over, and in a hull entered where other words were. */
+static void try_emptied_lines(void)
+{
+    wb_sheet sheet = base_hull();
+    begin_part("lines that a text empties");
+    enter_alone(&sheet);
+    for (int opened = 0; opened < 2; opened++) {
+        for (uint32_t line = 1; line <= WB_FITTINGS; line++)
+            expect_put(line, 120, 12, 0);
+        expect(attempt((struct call){.kind = opened ? OPEN : REPLACE, .desk = 3}), 0, 0, 0);
+        for (uint32_t line = 1; line <= WB_FITTINGS; line++)
+            insist_line(line, 0, 0, "something of a fitting is still in the draft");
+    }
+    build(1, 0);
+    lend_text_of(&sheet);
+    expect(attempt((struct call){.kind = NEW_HULL}), 0, 1, 0);
+    for (uint32_t word = HULL_AT(1) + 1 + WEIGHT_IN_SHEET(1); word < HULL_AT(2); word++)
+        insist(mem[word] == 0, "a new hull has something on an empty line");
 }
 
 void try_register_edges(void)
@@ -337,6 +428,7 @@ void try_register_edges(void)
     change_every_word(16, 8);
     change_every_word(5, 3);
     change_bound_words();
+    change_fittings();
     try_seventeen_hulls();
     try_wrong_sizes();
     try_far_lengths();
@@ -346,4 +438,6 @@ void try_register_edges(void)
     try_high_numbers();
     try_texts();
     try_fittings();
+    try_pieces();
+    try_emptied_lines();
 }

@@ -15,14 +15,24 @@ static void samples_1_to_4(void)
     expect_load('C', &sheet, 326);
 
     sheet.declared = 20000;
-    sheet.fitting[0] = 3333;
+    sheet.fitting[0] = (wb_fitting){3333, 1};
     expect_load('C', &sheet, 326);
-    sheet.fitting[0] = 3334;
+    sheet.fitting[0] = (wb_fitting){3334, 1};
     expect_load('C', &sheet, 325);
     expect_load('A', &sheet, 326);
 
+    /* the same grams by the piece */
+    sheet.fitting[0] = (wb_fitting){1111, 3};
+    expect_load('C', &sheet, 326);
+    expect_load('A', &sheet, 326);
+    expect_plate('U', &sheet, 0, 718, 0);
+    sheet.fitting[0] = (wb_fitting){1667, 2};
+    expect_load('C', &sheet, 325);
+    expect_load('A', &sheet, 326);
+    expect_plate('U', &sheet, 0, 718, 0);
+
     /* A load of 1 is not refused with 12, but it carries nobody: the call goes on to 14, or to 15 where persons were tested. */
-    sheet.fitting[0] = 0;
+    sheet.fitting[0] = (wb_fitting){0, 0};
     sheet.bare = 1828333;
     expect_plate('C', &sheet, 14, 0, 0);
     sheet.tested = 5;

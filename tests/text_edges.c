@@ -20,11 +20,11 @@ static void expect_read(uint32_t refusal, uint32_t line, uint32_t byte)
 
 /* ---- limits ---- */
 
-/* The field of a sheet's number, where a fitting is the only one; tags and stations' letters are fields too. */
+/* The field of a sheet's number, where a fitting is on the only line of them; tags and stations' letters are fields too. */
 static size_t field_of(int number)
 {
     static const int first[] = {0, 1, 7, 14, 21, 28, 35, 38, 41, 43, FIRST_FITTING}, tags[] = {1, 1, 2, 2, 2, 2, 1, 1, 1, 1, 2};
-    size_t field = (size_t)(number < FIRST_FITTING ? number : FIRST_FITTING);
+    size_t field = (size_t)(number < FIRST_FITTING ? number : FIRST_FITTING + (number - FIRST_FITTING) % 2);
     for (size_t line = 0; line < sizeof first / sizeof *first && first[line] <= number; line++)
         field += (size_t)tags[line];
     return field;
@@ -52,16 +52,23 @@ static void expect_outside(wb_sheet sheet, int number)
     expect(attempt((struct call){.kind = WRITE_SHEET}), 3, 0, 0);
 }
 
+/* One piece of a gram where the number is a fitting's: neither of the two may be 0 alone. */
+static void fill_line(wb_sheet *sheet, int number)
+{
+    if (number >= FIRST_FITTING)
+        sheet->fitting[(number - FIRST_FITTING) / 2] = (wb_fitting){1, 1};
+}
+
 static void try_limits(void)
 {
     begin_part("limits of every number");
     for (int number = 0; number < SHEET_NUMBERS; number++) {
-        int may_be_zero = number == TESTED_NUMBER || number >= FIRST_FITTING;
-        uint32_t low = may_be_zero ? 0 : lowest(number), high = highest(number);
+        uint32_t low = number == TESTED_NUMBER ? 0 : lowest(number), high = highest(number);
         const uint32_t within[] = {low, low + 1, high, high - 1}, outside[] = {high + 1, high + 256, high + 65536, 0xFFFFFFFF, low - 1};
         wb_sheet sheet = base_hull();
         sheet.length = 6000;
         sheet.reference = 2000;
+        fill_line(&sheet, number);
         for (size_t i = 0; i < sizeof within / sizeof *within; i++) {
             numbers_of(&sheet)[number] = within[i];
             expect_within(sheet);
@@ -78,6 +85,24 @@ static void try_limits(void)
         sheet.reference++;
         expect_outside(sheet, REFERENCE_NUMBER);
     }
+}
+
+/* What all pieces of a line weigh, each number within limits of its own: it is judged at the count. */
+static void try_products(void)
+{
+    begin_part("weight of one times count");
+    for (uint32_t count = 1; count <= 99; count++)
+        for (int line = 0; line < WB_FITTINGS; line += 23) {
+            int number = FIRST_FITTING + 2 * line + (count > 1); /* of one piece alone it is the weight that is outside */
+            wb_sheet sheet = base_hull();
+            sheet.fitting[line] = (wb_fitting){heaviest(count), count};
+            expect_within(sheet);
+            sheet.fitting[line].weight++;
+            expect_outside(sheet, number);
+            sheet.fitting[line] = (wb_fitting){500000, count};
+            if (count > 1)
+                expect_outside(sheet, number);
+        }
 }
 
 /* ---- texts whose answer the rules give in figures ---- */
@@ -170,7 +195,7 @@ static void try_fit_lines(void)
         {"FIT\t2\t1\nFIT\t2\t1\nEND\n", 3, 12, 5}, {"FIT\t2\t1\nFIT\t1\t1\nEND\n", 3, 12, 5}, {"FIT\t2\t1\nFIT\t3\t1\nEND\n", 0, 0, 0},
         {"FIT\t2\t1\nFIT\t2\tx\nEND\n", 3, 12, 5}, {"FIT\t0\tx\nEND\n", 3, 11, 5}, {"FIT\t0\t0\nEND\n", 3, 11, 5},
         {"FIT\t2\t1\nFIT\t2x\t1\nEND\n", 2, 12, 6}, {"FIT\t1\t-\nEND\n", 2, 11, 7}, {"FIT\t-\t1\nEND\n", 2, 11, 5}, {"FIT\t01\t1\nEND\n", 2, 11, 6},
-        {"FIT\t1\t1\t\nEND\n", 2, 11, 8}, {"FIT\t\t1\t1\nEND\n", 2, 11, 5}, {"FIT\t25\t01\nEND\n", 3, 11, 5},
+        {"FIT\t1\t1\t\nEND\n", 2, 11, 9}, {"FIT\t\t1\t1\nEND\n", 2, 11, 5}, {"FIT\t25\t01\nEND\n", 3, 11, 5},
         {"FIT\t9999999999\t1\nEND\n", 3, 11, 5}, {"FIT\t10000000000\t1\nEND\n", 2, 11, 15}, {"FIT\t1\t4294967297\nEND\n", 3, 11, 7},
         {"FIT\t1\n1\nEND\n", 2, 11, 6},
     };
@@ -179,23 +204,93 @@ static void try_fit_lines(void)
     expect_with(&sheet, tried, sizeof tried / sizeof *tried);
 }
 
+/* The count, after a weight that a tab or a line feed may end. */
+static void try_counts(void)
+{
+    static const struct figures tried[] = {
+        {"FIT\t1\t3334\t1\nEND\n", 0, 0, 0}, {"FIT\t24\t500000\t1\nEND\n", 0, 0, 0}, {"FIT\t1\t5\t99\nEND\n", 0, 0, 0},
+        {"FIT\t1\t5\t0\nEND\n", 3, 11, 9}, {"FIT\t1\t5\t100\nEND\n", 3, 11, 9}, {"FIT\t1\t5\t257\nEND\n", 3, 11, 9},
+        {"FIT\t1\t5", 2, 11, 8}, {"FIT\t1\t5\t", 2, 11, 9}, {"FIT\t1\t5\t\n", 2, 11, 9}, {"FIT\t1\t5\t\t7\n", 2, 11, 9}, {"FIT\t1\t5\t7", 2, 11, 10},
+        {"FIT\t1\t5\t7\n", 2, 12, 1}, {"FIT\t1\t5\n7\nEND\n", 2, 12, 1}, {"FIT\t1\t5x\t7\n", 2, 11, 8}, {"FIT\t1\t5 \t7\n", 2, 11, 8},
+        {"FIT\t1\t5\r\n", 2, 11, 8}, {"FIT\t1\t5\r\t7\n", 2, 11, 8}, {"FIT\t1\t05\t7\n", 2, 11, 8}, {"FIT\t1\t\t7\n", 2, 11, 7},
+        {"FIT\t1\t5\tx\n", 2, 11, 9}, {"FIT\t1\t5\t-\n", 2, 11, 9}, {"FIT\t1\t5\t+7\n", 2, 11, 9}, {"FIT\t1\t5\t00\n", 2, 11, 10},
+        {"FIT\t1\t5\t07\n", 2, 11, 10}, {"FIT\t1\t5\t7 \n", 2, 11, 10}, {"FIT\t1\t5\t7\r\n", 2, 11, 10}, {"FIT\t1\t5\t7\t\n", 2, 11, 10},
+        {"FIT\t1\t5\t7\t7\n", 2, 11, 10}, {"FIT\t1\t5\t7END\n", 2, 11, 10}, {"FIT\t1\t5\t9999999999\n", 3, 11, 9},
+        {"FIT\t1\t5\t10000000000\n", 2, 11, 19}, {"FIT\t1\t5\t4294967297\n", 3, 11, 9},
+        /* the form before the limits, with what ends the count; and the weight before the count */
+        {"FIT\t1\t5\t100", 2, 11, 12}, {"FIT\t1\t5\t100x\n", 2, 11, 12}, {"FIT\t1\t5\t100\t\n", 2, 11, 12}, {"FIT\t1\t5\t0x\n", 2, 11, 10},
+        {"FIT\t1\t5\t0\n", 3, 11, 9}, {"FIT\t1\t5\t100\nx", 3, 11, 9}, {"FIT\t1\t500001\t0\nEND\n", 3, 11, 7}, {"FIT\t1\t500001\tx\n", 3, 11, 7},
+        {"FIT\t1\t500001\t", 3, 11, 7}, {"FIT\t1\t500001\n", 3, 11, 7}, {"FIT\t1\t500001", 2, 11, 13}, {"FIT\t1\t0\t1\n", 3, 11, 7},
+        {"FIT\t1\t0\t0\n", 3, 11, 7}, {"FIT\t1\t4294967297\t1\n", 3, 11, 7}, {"FIT\t0\t500001\t100\n", 3, 11, 5},
+        /* what all pieces weigh */
+        {"FIT\t1\t5050\t99\nEND\n", 0, 0, 0}, {"FIT\t1\t5051\t99\nEND\n", 3, 11, 12}, {"FIT\t1\t250000\t2\nEND\n", 0, 0, 0},
+        {"FIT\t1\t250001\t2\nEND\n", 3, 11, 14}, {"FIT\t1\t500000\t2\nEND\n", 3, 11, 14}, {"FIT\t1\t500000\t2\n", 3, 11, 14},
+        {"FIT\t1\t500000\t2\t\nEND\n", 2, 11, 15}, {"FIT\t1\t500000\t2", 2, 11, 15}, {"FIT\t1\t500000\t2x\n", 2, 11, 15},
+        {"FIT\t1\t65536\t65536\n", 3, 11, 13}, {"FIT\t1\t500000\t8590\n", 3, 11, 14}, {"FIT\t1\t500000\t0\n", 3, 11, 14},
+        /* lines with a count and without */
+        {"FIT\t1\t5\nFIT\t2\t5\t7\nFIT\t3\t5\nEND\n", 0, 0, 0}, {"FIT\t1\t5\t7\nFIT\t2\t5\nFIT\t3\t5\t1\nEND\n", 0, 0, 0},
+        {"FIT\t1\t5\t7\nFIT\t1\t5\nEND\n", 3, 12, 5}, {"FIT\t1\t5\nFIT\t2\t5051\t99\nEND\n", 3, 12, 12}, {"FIT\t1\t5\t7\nFIT\t2\n", 2, 12, 6},
+    };
+    wb_sheet sheet = base_hull();
+    begin_part("counts of FIT lines");
+    expect_with(&sheet, tried, sizeof tried / sizeof *tried);
+}
+
+/* Lines without a count: read, entered and put in a draft's place they are the sheet that has a 1 there, and with the 1 they are written. */
+static void expect_filled_up(wb_sheet sheet, uint32_t lines)
+{
+    uint8_t full[WB_SHEET_TEXT];
+    size_t size = text_of(&sheet, full);
+    lent[TEXT].size = short_text_of(&sheet, lines, lent_bytes(TEXT));
+    expect_read(0, 0, 0);
+    insist(memcmp(lent[SHEET].words, &sheet, sizeof sheet) == 0, "a FIT line without a count was not read as one piece");
+    lend_out(WB_SHEET_TEXT);
+    expect(attempt((struct call){.kind = WRITE_SHEET}), 0, (uint32_t)size, 0);
+    insist(memcmp(lent[OUT].words, full, size) == 0, "a sheet that was read was not written with every count");
+    expect(attempt((struct call){.kind = NEW_HULL}), 0, 1, 0);
+    expect(attempt((struct call){.kind = SAVE, .desk = 3}), 0, 1, 0);
+    for (uint32_t hull = 0; hull < 2; hull++) {
+        sheet.hull = hull;
+        size = text_of(&sheet, full);
+        expect(attempt((struct call){.kind = WRITE_HULL, .hull = hull}), 0, (uint32_t)size, 0);
+        insist(memcmp(lent[OUT].words, full, size) == 0, "a hull was not written with every count");
+    }
+}
+
+static void try_short_lines(void)
+{
+    static const wb_fitting fittings[] = {{3334, 1}, {120, 12}, {500000, 1}, {5050, 99}, {1, 1}, {0, 0}, {250000, 2}};
+    static const uint32_t lines[] = {0, 1, 0x800000, 0x555555, 0xAAAAAA, 0xFFFFFF};
+    begin_part("FIT lines without a count");
+    for (size_t turn = 0; turn < sizeof fittings / sizeof *fittings; turn++)
+        for (size_t i = 0; i < sizeof lines / sizeof *lines; i++) {
+            wb_sheet sheet = base_hull();
+            for (size_t line = 0; line < WB_FITTINGS; line++)
+                sheet.fitting[line] = fittings[(line + turn) % (sizeof fittings / sizeof *fittings)];
+            expect_filled_up(sheet, lines[i]);
+        }
+    for (int i = 0; i < 300; i++)
+        expect_filled_up(random_sheet(), random_word());
+}
+
 /* All 24 FIT lines, or one less, and then other lines: the 24th is line 34. */
 static void try_fit_counts(void)
 {
     static const struct figures tried[] = {
         {"END\n", 0, 0, 0}, {"", 2, 35, 1}, {"FIT\t25\t1\nEND\n", 2, 35, 1}, {"FIT\t24\t1\nEND\n", 2, 35, 1}, {"FIT\t1\tx\nEND\n", 2, 35, 1},
-        {"FIT\t", 2, 35, 1}, {"F", 2, 35, 1}, {"X", 2, 35, 1}, {"\n", 2, 35, 1}, {"E", 2, 35, 2}, {"EIT\t", 2, 35, 2}, {"END", 2, 35, 4},
+        {"FIT\t24\t1\t1\nEND\n", 2, 35, 1}, {"FIT\t", 2, 35, 1}, {"F", 2, 35, 1}, {"X", 2, 35, 1}, {"\n", 2, 35, 1}, {"E", 2, 35, 2}, {"EIT\t", 2, 35, 2}, {"END", 2, 35, 4},
         {"END\nF", 2, 36, 1}, {"END\nEND\n", 2, 36, 1},
     };
     static const struct figures with_one_less[] = {
         {"END\n", 0, 0, 0}, {"", 2, 34, 1}, {"F", 2, 34, 2}, {"FIT\t", 2, 34, 5}, {"X", 2, 34, 1}, {"FIT\t23\t1\n", 3, 34, 5},
-        {"FIT\t24\t0\n", 3, 34, 8}, {"FIT\t24\t1\nFIT\t25\t1\n", 2, 35, 1}, {"END\n\n", 2, 35, 1},
+        {"FIT\t24\t0\n", 3, 34, 8}, {"FIT\t24\t1\nFIT\t25\t1\n", 2, 35, 1}, {"END\n\n", 2, 35, 1}, {"FIT\t24\t1\t0\n", 3, 34, 10},
+        {"FIT\t24\t1\t1\nFIT\t25\t1\t1\n", 2, 35, 1},
     };
     wb_sheet sheet = base_hull();
     for (int i = 0; i < WB_FITTINGS; i++)
-        sheet.fitting[i] = 1;
+        sheet.fitting[i] = (wb_fitting){1, 1};
     expect_with(&sheet, tried, sizeof tried / sizeof *tried);
-    sheet.fitting[WB_FITTINGS - 1] = 0;
+    sheet.fitting[WB_FITTINGS - 1] = (wb_fitting){0, 0};
     expect_with(&sheet, with_one_less, sizeof with_one_less / sizeof *with_one_less);
 }
 
@@ -345,12 +440,10 @@ static void expect_written(wb_sheet sheet)
 
 static void try_outputs(void)
 {
-    wb_sheet longest, shortest;
+    wb_sheet longest = highest_sheet(), shortest;
     begin_part("outputs with just room enough");
-    for (int number = 0; number < SHEET_NUMBERS; number++) {
-        numbers_of(&longest)[number] = highest(number);
+    for (int number = 0; number < SHEET_NUMBERS; number++)
         numbers_of(&shortest)[number] = number < FIRST_FITTING ? lowest(number) : 0;
-    }
     lend_text_of(&longest);
     insist(lent[TEXT].size == WB_SHEET_TEXT, "WB_SHEET_TEXT is not the size of the longest text");
     expect_within(longest);
@@ -395,9 +488,12 @@ static void try_far_lengths(void)
 void try_text_edges(void)
 {
     try_limits();
+    try_products();
     try_first_lines();
     try_sizes();
     try_fit_lines();
+    try_counts();
+    try_short_lines();
     try_fit_counts();
     try_first_fault();
     try_next_fault();
