@@ -24,7 +24,17 @@ MOST_FITS, MOST_ROWS = 24, 40
 
 NUMBER = rb"(0|[1-9][0-9]{0,9})"
 NUMBER_OR_DASH = rb"(0|[1-9][0-9]{0,9}|-)"
-NOT_ABOVE_THE_ONE_BEFORE = None  # in place of a highest number
+EITHER = rb"[\t\n]"  # what ends a number after which the line may end
+
+
+def not_above_the_one_before(numbers):
+    """In place of a highest number, by those before it on the line."""
+    return numbers[-1]
+
+
+def as_many_as_may_weigh(numbers):
+    """Pieces of the weight before: 99, or fewer where so many would weigh more than 500000 g."""
+    return min(99, 500000 // numbers[-1])
 
 
 class Refused(Exception):
@@ -62,19 +72,22 @@ class Text:
     def refuse(self, number, at):
         raise Refused(number, self.passed + 1, at + 1)
 
-    def line(self, tag, *limits, last=NUMBER):
-        """The numbers of the next line. Each that its tab or line feed ends is judged by its limits, then the form."""
+    def line(self, tag, *limits, last=NUMBER, optional=0):
+        """The numbers of the next line, the last few of which may be optional. Each that its tab or line feed ends is
+        judged by its limits, then the form."""
         parts = [bytes([byte]) for byte in tag]
         for _ in limits:
             parts += [NUMBER, b"\t"]
         if limits:
             parts[-2:] = [last, b"\n"]
+        for left_out in range(1, optional + 1):
+            parts[-1 - 2 * left_out] = EITHER
         right, numbers = beginning(parts).match(self.lines[self.passed]), []
         for field, (low, high) in enumerate(limits, 1):
             if right[field] is None or right.end(field) == right.end():
                 break
             number = None if right[field] == b"-" else int(right[field])
-            most = numbers[-1] if high is NOT_ABOVE_THE_ONE_BEFORE else high
+            most = high(numbers) if callable(high) else high
             if number is not None and not low <= number <= most:
                 self.refuse(OUTSIDE, right.start(field))
             numbers.append(number)
@@ -90,7 +103,7 @@ class Sheet:
     def __init__(self, data):
         text = Text(data)
         text.line(b"HULL\t", (0, 15))
-        lengths, transom = [(2000, 6000), (2000, NOT_ABOVE_THE_ONE_BEFORE)], [(500, 3000), (200, 900)]
+        lengths, transom = [(2000, 6000), (2000, not_above_the_one_before)], [(500, 3000), (200, 900)]
         form = text.line(b"FORM\t", *lengths, *transom, (0, 1), (0, 1))
         self.length, self.reference, self.width, self.height, self.flat, self.remote = form
         station = [(0, 4000)] + [(0, 2500)] * 6
@@ -101,8 +114,9 @@ class Sheet:
         self.positions, self.tested = text.line(b"SEAT\t", (1, 24), (1, 24), last=NUMBER_OR_DASH)
         self.fittings, last = [], 0
         while text.starts(b"F") and len(self.fittings) < MOST_FITS:
-            last, weight = text.line(b"FIT\t", (last + 1, 24), (1, 500000))
-            self.fittings.append(weight)
+            limits = [(last + 1, 24), (1, 500000), (1, as_many_as_may_weigh)]
+            last, weight, count = (text.line(b"FIT\t", *limits, optional=1) + [1])[:3]
+            self.fittings.append(weight * count)
         text.line(b"END\n")
         if not text.ended():
             text.refuse(BROKEN, 0)

@@ -41,7 +41,8 @@ SHEET = [
     (["PWR"], [(0, 1), (0, 200000)]),
     (["SEAT"], [(1, 24), (1, 24)]),
 ]
-FIT_LINE, FIT_WEIGHT, ROW_POWER, ROW_WEIGHT = (1, 24), (1, 500000), (1, 200000), (0, 1000000)
+FIT_LINE, FIT_WEIGHT, FIT_COUNT, ROW_POWER, ROW_WEIGHT = (1, 24), (1, 500000), (1, 99), (1, 200000), (0, 1000000)
+MOST_GRAMS = 500000  # of all pieces on a FIT line
 
 
 def sheet_lines(choose):
@@ -51,8 +52,9 @@ def sheet_lines(choose):
     return lines
 
 
-def fit_lines(weights):
-    return [["FIT", line, weight] for line, weight in sorted(weights.items())] + [["END"]]
+def fit_lines(fits):
+    """FIT lines, each with a weight alone or with a count after it, and END."""
+    return [["FIT", line, *numbers] for line, numbers in sorted(fits.items())] + [["END"]]
 
 
 def engine_lines(rows):
@@ -71,12 +73,12 @@ STEPS = [(5001, 1000), (5071, 986), (4100, 2500), (4443, 2307), (5000, 2000), (5
 
 
 def sample():
-    """The sheet of document 01 with a second fitting, and its engine lines."""
+    """The sheet of document 01 with a second fitting, which has a count, and its engine lines."""
     box = [1000] + [500] * 6
     form = [4500, 4000, 1200, 500, 0, 1]
     rows = [[0], form, box, box, box, box, [0, 0, 0], [200000, 0, 0], [1, 20000], [5, 3]]
     lines = [tags + numbers for (tags, _), numbers in zip(SHEET, rows)]
-    return lines + fit_lines({1: 3334, 24: 500}) + engine_lines([(10000, 45000), (20000, 60000)])
+    return lines + fit_lines({1: [3334], 24: [50, 10]}) + engine_lines([(10000, 45000), (20000, 60000)])
 
 
 def with_fields(line, field, *fields):
@@ -91,6 +93,7 @@ def beside_limits():
     fit, end = len(SHEET), len(SHEET) + 2
     places = [(i, len(tags) + j, limits) for i, (tags, row) in enumerate(SHEET) for j, limits in enumerate(row)]
     places += [(fit, 1, FIT_LINE), (fit, 2, FIT_WEIGHT), (fit + 1, 1, FIT_LINE), (fit + 1, 2, FIT_WEIGHT)]
+    places += [(fit + 1, 3, FIT_COUNT)]
     places += [(end + 1, 1, (1, 19999)), (end + 1, 2, ROW_WEIGHT), (end + 2, 1, ROW_POWER), (end + 2, 2, ROW_WEIGHT)]
     for line, field, (low, high) in places:
         for number in [high + 1] + [low - 1] * (low > 0):
@@ -102,15 +105,31 @@ def beside_limits():
 def odd_numbers():
     for number in ("", "00", "01", "-", "+1", "9999999999", "10000000000", "4294967296", "18446744073709551617"):
         yield with_fields(MASS, 2, number)
+        yield with_fields(len(SHEET), 2, number)
+        yield with_fields(len(SHEET) + 1, 3, number)
+
+
+def at_products():
+    """As much as all pieces of a line may weigh, with each a gram lighter and heavier too; so too with broken form at
+    the count and after it."""
+    for count in (1, 2, 3, 7, 98, 99):
+        for weight in (MOST_GRAMS // count + more for more in (-1, 0, 1)):
+            for ending in ([count], ["%dx" % count], [count, ""]):
+                yield with_fields(len(SHEET) + 1, 2, weight, *ending)
+    for count in (0, 1, 99, 100):
+        for weight in (0, 1, 500000, 500001):
+            yield with_fields(len(SHEET) + 1, 2, weight, count)
+    yield with_fields(len(SHEET) + 1, 2, 65536, 65536)  # 0 in 32 bits
 
 
 def at_limits():
     """Every number at its lowest, and at its highest; as many FIT and ENG lines as there may be, and one more."""
     for choose in (min, max):
-        for fits, count in ((0, 1), (24, 40), (24, 41), (25, 40), (24, 0)):
-            weights = {line: choose(FIT_WEIGHT) for line in range(1, fits + 1)}
+        for lines, count in ((0, 1), (24, 40), (24, 41), (25, 40), (24, 0)):
             rows = [(choose(1, 200001 - count) + i, choose(ROW_WEIGHT)) for i in range(count)]
-            yield text(sheet_lines(choose) + fit_lines(weights) + engine_lines(rows))
+            for numbers in ([choose(FIT_WEIGHT)], [choose(FIT_WEIGHT), 1], [MOST_GRAMS // 99, 99], [1, choose(FIT_COUNT)]):
+                fits = {line: numbers for line in range(1, lines + 1)}
+                yield text(sheet_lines(choose) + fit_lines(fits) + engine_lines(rows))
 
 
 def at_powers():
@@ -147,8 +166,8 @@ def at_sizes():
 
 def every_line():
     """The fullest input with each line broken at its end, left out with all after it, not ended, or its number too high."""
-    weights = {line: 1 for line in range(1, 25)}
-    lines = sheet_lines(max) + fit_lines(weights) + engine_lines([(power, 0) for power in range(1, 41)])
+    fits = {line: [1] if line % 2 else [1, 1] for line in range(1, 25)}
+    lines = sheet_lines(max) + fit_lines(fits) + engine_lines([(power, 0) for power in range(1, 41)])
     for at, line in enumerate(lines):
         yield text(lines[:at] + [line[:-1] + ["%sx" % line[-1]]] + lines[at + 1 :])
         yield text(lines[:at])
@@ -170,7 +189,9 @@ def ill_typed():
 
 def chosen():
     yield text(sample())
-    for inputs in (beside_limits, odd_numbers, at_limits, at_powers, at_live_loads, at_sizes, every_line, ill_typed):
+    for inputs in (beside_limits, odd_numbers, at_products, at_limits, at_powers):
+        yield from inputs()
+    for inputs in (at_live_loads, at_sizes, every_line, ill_typed):
         yield from inputs()
 
 
@@ -192,9 +213,17 @@ def set_boat(rng, lines):
     lines[PWR][2] = rng.choice([0, 1, 1499, 1500, 1501] + [rng.randint(0, 60000)] * 5)
 
 
+def random_pieces(rng):
+    """A weight alone, or with a count; now and then as much as a line may weigh."""
+    count = rng.choice([1, 1, rng.randint(1, 99)])
+    most = MOST_GRAMS // count
+    weight = rng.choice([most, most - 1] + [rng.randint(1, 12000 // count)] * 80)
+    return [weight, count] if count > 1 or rng.random() < 0.5 else [weight]
+
+
 def random_fits(rng):
     lines = rng.sample(range(1, 25), rng.choice([0, 0, 1, 2, 5, 24]))
-    return {line: rng.randint(1, 12000) for line in lines}
+    return {line: random_pieces(rng) for line in lines}
 
 
 def random_rows(rng, declared):

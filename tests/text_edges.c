@@ -229,7 +229,8 @@ static void try_counts(void)
         {"FIT\t1\t65536\t65536\n", 3, 11, 13}, {"FIT\t1\t500000\t8590\n", 3, 11, 14}, {"FIT\t1\t500000\t0\n", 3, 11, 14},
         /* lines with a count and without */
         {"FIT\t1\t5\nFIT\t2\t5\t7\nFIT\t3\t5\nEND\n", 0, 0, 0}, {"FIT\t1\t5\t7\nFIT\t2\t5\nFIT\t3\t5\t1\nEND\n", 0, 0, 0},
-        {"FIT\t1\t5\t7\nFIT\t1\t5\nEND\n", 3, 12, 5}, {"FIT\t1\t5\nFIT\t2\t5051\t99\nEND\n", 3, 12, 12}, {"FIT\t1\t5\t7\nFIT\t2\n", 2, 12, 6},
+        {"FIT\t1\t5\t7\nFIT\t1\t5\nEND\n", 3, 12, 5}, {"FIT\t1\t5\nFIT\t2\t5051\t99\nEND\n", 3, 12, 12},
+        {"FIT\t1\t5\t7\nFIT\t2\n", 2, 12, 6},
     };
     wb_sheet sheet = base_hull();
     begin_part("counts of FIT lines");
@@ -278,8 +279,8 @@ static void try_fit_counts(void)
 {
     static const struct figures tried[] = {
         {"END\n", 0, 0, 0}, {"", 2, 35, 1}, {"FIT\t25\t1\nEND\n", 2, 35, 1}, {"FIT\t24\t1\nEND\n", 2, 35, 1}, {"FIT\t1\tx\nEND\n", 2, 35, 1},
-        {"FIT\t24\t1\t1\nEND\n", 2, 35, 1}, {"FIT\t", 2, 35, 1}, {"F", 2, 35, 1}, {"X", 2, 35, 1}, {"\n", 2, 35, 1}, {"E", 2, 35, 2}, {"EIT\t", 2, 35, 2}, {"END", 2, 35, 4},
-        {"END\nF", 2, 36, 1}, {"END\nEND\n", 2, 36, 1},
+        {"FIT\t24\t1\t1\nEND\n", 2, 35, 1}, {"FIT\t", 2, 35, 1}, {"F", 2, 35, 1}, {"X", 2, 35, 1}, {"\n", 2, 35, 1}, {"E", 2, 35, 2},
+        {"EIT\t", 2, 35, 2}, {"END", 2, 35, 4}, {"END\nF", 2, 36, 1}, {"END\nEND\n", 2, 36, 1},
     };
     static const struct figures with_one_less[] = {
         {"END\n", 0, 0, 0}, {"", 2, 34, 1}, {"F", 2, 34, 2}, {"FIT\t", 2, 34, 5}, {"X", 2, 34, 1}, {"FIT\t23\t1\n", 3, 34, 5},
