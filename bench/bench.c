@@ -33,7 +33,7 @@ enum { PASSES = 20, ROUNDS = 50, BATCH_NS = 20000 };
 static struct {
     uint32_t full[WB_REGISTER_WORDS];   /* 16 hulls, 8 drafts */
     uint32_t spare[WB_REGISTER_WORDS];  /* 15 hulls, 7 drafts */
-    uint32_t spoilt[WB_REGISTER_WORDS]; /* 16 hulls, 8 drafts, and the very last word outside its limits */
+    uint32_t spoilt[WB_REGISTER_WORDS]; /* 16 hulls, 8 drafts, and the very last word, a count, outside its limits */
     uint32_t scratch[WB_REGISTER_WORDS];
     uint32_t powers[WB_ENGINE_ROWS], weights[WB_ENGINE_ROWS];
     wb_sheet sheet, longest, heavy, outside, read;
@@ -46,7 +46,8 @@ static const uint32_t weights[ROWS] = {15000, 20000, 43000, 84000, 106000, 15900
 static uint32_t falling[ROWS];
 
 static uint8_t text[WB_SHEET_TEXT], long_text[WB_SHEET_TEXT], broken[WB_SHEET_TEXT], long_broken[WB_SHEET_TEXT], beyond[WB_SHEET_TEXT];
-static size_t text_len, long_len;
+static uint8_t heavy_line[WB_SHEET_TEXT], short_lines[WB_SHEET_TEXT];
+static size_t text_len, long_len, short_len;
 static uint8_t engines[WB_SHEET_TEXT], bad_engines[WB_SHEET_TEXT];
 static size_t engines_len;
 
@@ -70,11 +71,12 @@ static size_t engines_len;
     X(open, 0, "", open, NONE, lent.full, LEN, 3, 5) \
     X(open_5, 5, "", open, NONE, lent.full, LEN, 3, 16) \
     X(open_6, 6, "", open, NONE, lent.full, LEN, 8, 5) \
-    X(put, 0, "", put, NONE, lent.full, LEN, 3, 7, 2500) \
-    X(put_3, 3, "", put, NONE, lent.full, LEN, 3, 25, 2500) \
-    X(put_7, 7, "", put, NONE, lent.spare, LEN, 7, 7, 2500) \
-    X(take, 0, "", take_off, lent.full[FITTING_AT(3, 1)] = 3334, lent.full, LEN, 3, 1) \
-    X(take_17, 17, "", take_off, lent.full[FITTING_AT(3, 9)] = 0, lent.full, LEN, 3, 9) \
+    X(put, 0, "", put, NONE, lent.full, LEN, 3, 7, 2500, 12) \
+    X(put_3, 3, "line", put, NONE, lent.full, LEN, 3, 25, 2500, 12) \
+    X(put_3_heavy, 3, "product", put, NONE, lent.full, LEN, 3, 7, 250001, 2) \
+    X(put_7, 7, "", put, NONE, lent.spare, LEN, 7, 7, 2500, 12) \
+    X(take, 0, "", take_off, (lent.full[WEIGHT_AT(3, 1)] = 3334, lent.full[COUNT_AT(3, 1)] = 1), lent.full, LEN, 3, 1) \
+    X(take_17, 17, "", take_off, lent.full[WEIGHT_AT(3, 9)] = 0, lent.full, LEN, 3, 9) \
     X(replace, 0, "", replace, NONE, lent.full, LEN, 4, text, text_len) \
     X(replace_3, 3, "last weight", replace, NONE, lent.full, LEN, 4, beyond, text_len) \
     X(trial_a, 0, "", trial_a, NONE, lent.full, LEN, 3) \
@@ -97,18 +99,20 @@ static size_t engines_len;
     X(plate_u_in, 0, "inboard", plate_u, NONE, lent.full, LEN, 13) \
     X(plate_u_5, 5, "", plate_u, NONE, lent.full, LEN, 16) \
     X(plate_u_12, 12, "", plate_u, NONE, lent.full, LEN, 15) \
-    X(write, 0, "300 bytes", write_hull, NONE, lent.full, LEN, 11, OUT) \
-    X(write_long, 0, "610 bytes", write_hull, NONE, lent.full, LEN, 14, OUT) \
+    X(write, 0, "310 bytes", write_hull, NONE, lent.full, LEN, 11, OUT) \
+    X(write_long, 0, "658 bytes", write_hull, NONE, lent.full, LEN, 14, OUT) \
     X(write_16, 16, "", write_hull, NONE, lent.full, LEN, 11, lent.out, text_len - 1) \
-    X(read, 0, "300 bytes", read_sheet, NONE, text, text_len, &lent.read) \
-    X(read_long, 0, "610 bytes", read_sheet, NONE, long_text, long_len, &lent.read) \
+    X(read, 0, "310 bytes", read_sheet, NONE, text, text_len, &lent.read) \
+    X(read_short, 0, "no counts", read_sheet, NONE, short_lines, short_len, &lent.read) \
+    X(read_long, 0, "658 bytes", read_sheet, NONE, long_text, long_len, &lent.read) \
     X(read_2_first, 2, "first byte", read_sheet, NONE, text + 1, text_len - 1, &lent.read) \
     X(read_2, 2, "END broken", read_sheet, NONE, broken, text_len, &lent.read) \
-    X(read_2_long, 2, "END of 610 bytes", read_sheet, NONE, long_broken, long_len, &lent.read) \
+    X(read_2_long, 2, "END of 658 bytes", read_sheet, NONE, long_broken, long_len, &lent.read) \
     X(read_3, 3, "last weight", read_sheet, NONE, beyond, text_len, &lent.read) \
-    X(wsheet, 0, "300 bytes", write_sheet, NONE, &lent.sheet, OUT) \
-    X(wsheet_long, 0, "610 bytes", write_sheet, NONE, &lent.longest, OUT) \
-    X(wsheet_3, 3, "last weight", write_sheet, NONE, &lent.outside, OUT) \
+    X(read_3_heavy, 3, "last product", read_sheet, NONE, heavy_line, text_len, &lent.read) \
+    X(wsheet, 0, "310 bytes", write_sheet, NONE, &lent.sheet, OUT) \
+    X(wsheet_long, 0, "658 bytes", write_sheet, NONE, &lent.longest, OUT) \
+    X(wsheet_3, 3, "last product", write_sheet, NONE, &lent.outside, OUT) \
     X(wsheet_16, 16, "", write_sheet, NONE, &lent.sheet, lent.out, text_len - 1) \
     X(rows, 0, "13 rows", read_engines, NONE, engines, engines_len, ROOM) \
     X(rows_2, 2, "last line broken", read_engines, NONE, bad_engines, engines_len, ROOM) \
@@ -178,7 +182,8 @@ static wb_sheet boat(uint32_t i)
     s.aft = 25000, s.well = 12000, s.flooding = 4000;
     s.bare = 200000 + 1000 * i, s.fuel = 24000, s.machinery = i == 13 ? 90000 : 0;
     s.outboard = i != 13, s.declared = 20000, s.positions = 5, s.tested = 3;
-    s.fitting[0] = 3334, s.fitting[2] = 1250, s.fitting[3] = 800, s.fitting[11] = 2100, s.fitting[16] = 125000;
+    s.fitting[0] = (wb_fitting){3334, 1}, s.fitting[2] = (wb_fitting){1250, 2}, s.fitting[3] = (wb_fitting){120, 8};
+    s.fitting[11] = (wb_fitting){2100, 1}, s.fitting[16] = (wb_fitting){125000, 1};
     return s;
 }
 
@@ -192,7 +197,7 @@ static wb_sheet longest(void)
     s.bare = 2000000, s.fuel = 500000, s.machinery = 100000;
     s.outboard = 1, s.declared = 200000, s.positions = 24, s.tested = 10;
     for (uint32_t i = 0; i < WB_FITTINGS; i++)
-        s.fitting[i] = 100000 + i;
+        s.fitting[i] = (wb_fitting){100000 + i, 4};
     return s;
 }
 
@@ -226,18 +231,34 @@ static void fill(uint32_t *mem, uint32_t hulls, uint32_t drafts)
         wb_open(mem, LEN, d, opened[d]);
 }
 
+/* The text of the sheet with each fitting as one piece, by lines without a count. */
+static void prepare_short_lines(void)
+{
+    wb_sheet s = lent.sheet;
+    memset(s.fitting, 0, sizeof s.fitting);
+    char *at = (char *)short_lines + text_of(&s, short_lines) - strlen("END\n");
+    for (uint32_t i = 0; i < WB_FITTINGS; i++)
+        if (lent.sheet.fitting[i].count > 0)
+            at += sprintf(at, "FIT\t%u\t%u\n", (unsigned)i + 1, (unsigned)lent.sheet.fitting[i].weight);
+    at += sprintf(at, "END\n");
+    short_len = (size_t)(at - (char *)short_lines);
+}
+
 static void prepare_texts(void)
 {
     text_len = text_of(&lent.sheet, text);
     long_len = text_of(&lent.longest, long_text);
-    if (text_len != 300 || long_len != WB_SHEET_TEXT)
-        die("the texts have other lengths than", "300 and 610 bytes");
+    if (text_len != 310 || long_len != WB_SHEET_TEXT)
+        die("the texts have other lengths than", "310 and 658 bytes");
     memcpy(broken, text, text_len);
     broken[text_len - 2] = 'd';
     memcpy(long_broken, long_text, long_len);
     long_broken[long_len - 2] = 'd';
     memcpy(beyond, text, text_len);
-    beyond[text_len - strlen("125000\nEND\n")] = '9';
+    beyond[text_len - strlen("125000\t1\nEND\n")] = '9';
+    memcpy(heavy_line, text, text_len);
+    heavy_line[text_len - strlen("1\nEND\n")] = '5';
+    prepare_short_lines();
     for (int i = 0; i < ROWS; i++)
         engines_len += (size_t)sprintf((char *)engines + engines_len, "ENG\t%u\t%u\n", (unsigned)powers[i], (unsigned)weights[i]);
     memcpy(bad_engines, engines, engines_len);
@@ -253,7 +274,7 @@ static void prepare(void)
         lent.heavy.station[k].b = 300;
     lent.heavy.bare = 1500000;
     lent.outside = lent.sheet;
-    lent.outside.fitting[WB_FITTINGS - 1] = 500001;
+    lent.outside.fitting[WB_FITTINGS - 1] = (wb_fitting){5051, 99};
     prepare_texts();
     memcpy(falling, powers, sizeof powers);
     falling[ROWS - 1] = falling[ROWS - 2];
@@ -261,7 +282,7 @@ static void prepare(void)
     fill(lent.spare, 15, 7);
     lent.full[HULL_AT(3)]++; /* saved since desk 1 opened it */
     memcpy(lent.spoilt, lent.full, sizeof lent.full);
-    lent.spoilt[LEN - 1] = 500001;
+    lent.spoilt[LEN - 1] = 100;
     memcpy(&start, &lent, sizeof lent);
 }
 
