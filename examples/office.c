@@ -15,7 +15,7 @@
  * bad usage or trouble with a file. Answers and refusals go to standard output, trouble to standard error. Where a text
  * is refused, standard error says besides which line and byte are wrong, what was expected there and what there is.
  *
- * The file is the register's 1673 words, the lowest byte of each first, and nothing else. Beside it stand FILE.lock, which is empty and stays, and
+ * The file is the register's 2249 words, the lowest byte of each first, and nothing else. Beside it stand FILE.lock, which is empty and stays, and
  * for the length of a change FILE.new. The lock has the register's rights; where those were changed, it follows when its owner next makes a change.
  *
  * A change may stand although its run ended with 2: the trouble came when the register was in its place, as when the answer could not be printed, and
@@ -45,7 +45,7 @@ enum { TEXT_ROOM = WB_MOST_TEXT + 1 };
 struct work {
     uint32_t words[WB_REGISTER_WORDS];
     size_t count; /* how many words are lent: all, or none where the file has another size */
-    uint32_t number[3];
+    uint32_t number[4];
     int held;         /* whether the desk that opens a hull holds a draft */
     const char *path; /* of the text; NULL without one */
     int engines;      /* whether the text is one of engine rows */
@@ -119,7 +119,8 @@ static const char *const lines[][16] = {
      "weight of the installed machinery", "0 to 500000 g"},
     {"PWR", "mark of the drive", "1 for outboard or 0 for inboard", "declared power", "0 to 200000 W"},
     {"SEAT", "number of designated positions", "1 to 24", "number of tested persons", "1 to 24, or - for none"},
-    [FIT] = {"FIT", "line number", "1 to 24 and above that of the FIT line before", "weight", "1 to 500000 g"},
+    [FIT] = {"FIT", "line number", "1 to 24 and above that of the FIT line before", "weight of one piece",
+             "1 to 500000 g", "number of pieces", "1 to 99, which together weigh at most 500000 g"},
     [END] = {"END"},
     [ENG] = {"ENG", "power", "1 to 200000 W and above that of the ENG line before", "weight", "0 to 1000000 g"},
 };
@@ -159,16 +160,24 @@ static void say_line_expected(const struct place *p, int engines, uint32_t line)
         fprintf(stderr, "a FIT line or END is expected here");
 }
 
-/* What may stand after the digits of a number, or after its dash: a digit more, what ends it, or both. */
-static void say_after_digits(const struct place *p, const char *next, const uint8_t *first)
+/* The weight on a FIT line, after which the line may end: there is then one piece. */
+static int may_be_last(const char *const *number)
 {
+    return number == &lines[FIT][3];
+}
+
+/* What may stand after the digits of a number, or after its dash: a digit more, what ends it, or both. */
+static void say_after_digits(const struct place *p, const char *const *number, const uint8_t *first)
+{
+    const char *next = number[2];
     int ended = *first == '0' || *first == '-' || p->byte - first == 10;
-    if (!ended)
-        fprintf(stderr, next != NULL ? "a digit, or " : "a digit or ");
-    if (next != NULL)
-        fprintf(stderr, "a tab and then the %s%s is expected here", next, ended ? "" : ",");
+    if (next == NULL)
+        fprintf(stderr, "%sthe line's end", ended ? "" : "a digit or ");
+    else if (may_be_last(number))
+        fprintf(stderr, "%sa tab and then the %s, or the line's end,", ended ? "" : "a digit, or ", next);
     else
-        fprintf(stderr, "the line's end is expected here");
+        fprintf(stderr, ended ? "a tab and then the %s" : "a digit, or a tab and then the %s,", next);
+    fprintf(stderr, " is expected here");
     if (*first == '-' && (digit_at(p, p->byte) || (p->byte < p->end && *p->byte == '-')))
         fprintf(stderr, " (- stands alone)");
     else if (digit_at(p, p->byte))
@@ -184,7 +193,7 @@ static void say_number_expected(const struct place *p, uint32_t refusal, const c
     else if (first == p->byte)
         fprintf(stderr, "the %s (%s) is expected here", number[0], number[1]);
     else
-        say_after_digits(p, number[2], first);
+        say_after_digits(p, number, first);
 }
 
 /* Of FIT and ENG lines there may be many. */
@@ -500,13 +509,17 @@ static void tell_open(const struct work *w, wb_answer a)
 
 static wb_answer ask_put(struct work *w)
 {
-    return wb_put(w->words, w->count, w->number[0], w->number[1], w->number[2]);
+    return wb_put(w->words, w->count, w->number[0], w->number[1], w->number[2], w->number[3]);
 }
 
 static void tell_put(const struct work *w, wb_answer a)
 {
+    unsigned weight = (unsigned)w->number[2], count = (unsigned)w->number[3];
     (void)a;
-    printf("desk %u put %u g on line %u\n", (unsigned)w->number[0], (unsigned)w->number[2], (unsigned)w->number[1]);
+    printf("desk %u put %u piece%s of %u g on line %u", (unsigned)w->number[0], count, count == 1 ? "" : "s", weight, (unsigned)w->number[1]);
+    if (count > 1)
+        printf(", %u g in all", weight * count); /* at most 500000, or it had been refused */
+    printf("\n");
 }
 
 static wb_answer ask_take_off(struct work *w)
@@ -627,7 +640,10 @@ static void tell_write(const struct work *w, wb_answer a)
 
 enum { READS, CHANGES, BEGINS };
 
-/* What a command is lent: for each word after its name a letter, n for a number, t for a sheet's text, e for one of engine rows. */
+/*
+ * What a command is lent: for each word after its name a letter, n for a number, o for one that may be left out and is then 1, t for a sheet's text, e for
+ * one of engine rows.
+ */
 struct command {
     const char *name;
     const char *words;
@@ -641,7 +657,7 @@ static const struct command commands[] = {
     {"fresh", "", "", BEGINS, ask_fresh, tell_fresh},
     {"new", " SHEETFILE", "t", CHANGES, ask_new, tell_new},
     {"open", " DESK HULL", "nn", CHANGES, ask_open, tell_open},
-    {"put", " DESK LINE WEIGHT", "nnn", CHANGES, ask_put, tell_put},
+    {"put", " DESK LINE WEIGHT [COUNT]", "nnno", CHANGES, ask_put, tell_put},
     {"take-off", " DESK LINE", "nn", CHANGES, ask_take_off, tell_take_off},
     {"replace", " DESK SHEETFILE", "nt", CHANGES, ask_replace, tell_replace},
     {"trial-a", " DESK", "n", READS, ask_trial_a, tell_trial_a},
@@ -698,12 +714,21 @@ static wb_answer read_rows(struct work *w)
     return a;
 }
 
-/* Takes what the command is lent from the command line; answers as the reading of engine rows did, if there are any. */
-static wb_answer take_words(struct work *w, const struct command *c, char **words)
+/* Whether so many words are what the command is lent: all, or all but one that may be left out, which is the last. */
+static int words_fit(const struct command *c, size_t count)
+{
+    size_t most = strlen(c->lent);
+    return count == most || (count + 1 == most && c->lent[count] == 'o');
+}
+
+/* Takes what the command is lent from so many words; answers as the reading of engine rows did, if there are any. */
+static wb_answer take_words(struct work *w, const struct command *c, char **words, size_t count)
 {
     wb_answer taken = {WB_ACCEPTED, 0, 0, 0};
     for (size_t i = 0; c->lent[i] != '\0'; i++) {
-        if (c->lent[i] == 'n')
+        if (i == count)
+            w->number[i] = 1;
+        else if (c->lent[i] == 'n' || c->lent[i] == 'o')
             w->number[i] = number_of(words[i]);
         else
             load_text(w, words[i]);
@@ -746,10 +771,11 @@ int main(int argc, char **argv)
         usage();
     const char *path = argv[1];
     const struct command *c = find_command(argv[2]);
-    if ((size_t)argc - 3 != strlen(c->lent))
+    size_t count = (size_t)argc - 3;
+    if (!words_fit(c, count))
         usage();
     /* Texts are read before the lock is taken: one that comes slowly, by a pipe, keeps no other desk waiting. */
-    wb_answer a = take_words(&w, c, argv + 3);
+    wb_answer a = take_words(&w, c, argv + 3, count);
     if (a.refusal != WB_ACCEPTED)
         return said(refuse(&w, a));
     bring_register(&w, c, path);

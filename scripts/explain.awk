@@ -22,7 +22,8 @@ BEGIN {
         ";weight of the installed machinery;0 to 500000 g"
     row[9] = "PWR;mark of the drive;1 for outboard or 0 for inboard;declared power;0 to 200000 W"
     row[10] = "SEAT;number of designated positions;1 to 24;number of tested persons;1 to 24, or - for none"
-    row["FIT"] = "FIT;line number;1 to 24 and above that of the FIT line before;weight;1 to 500000 g"
+    row["FIT"] = "FIT;line number;1 to 24 and above that of the FIT line before;weight of one piece;1 to 500000 g" \
+        ";number of pieces;1 to 99, which together weigh at most 500000 g"
     row["END"] = "END"
     row["ENG"] = "ENG;power;1 to 200000 W and above that of the ENG line before;weight;0 to 1000000 g"
 }
@@ -62,7 +63,7 @@ function line_expected() {
 }
 
 # What may stand further on in a line: the rest of its tag, a number, or what ends a number.
-function expected(    before, cells, cell, tag, tabs, at, next_one) {
+function expected(    before, cells, cell, tag, tabs, at, next_one, ended, what) {
     # these bytes are right, so they are letters, digits, - and tabs
     for (at = start; at < place; at++)
         before = before sprintf("%c", code[at])
@@ -83,10 +84,16 @@ function expected(    before, cells, cell, tag, tabs, at, next_one) {
         return "the " cell[at] " must be " cell[at + 1]
     if (before == "")
         return "the " cell[at] " (" cell[at + 1] ") is expected here"
-    next_one = at + 1 < cells ? "a tab and then the " cell[at + 2] : ""
-    if (before == "0" || before == "-" || length(before) == 10)
-        return (next_one ? next_one : "the line's end") " is expected here" ending(before)
-    return "a digit" (next_one ? ", or " next_one "," : " or the line's end") " is expected here"
+    next_one = "a tab and then the " cell[at + 2]
+    ended = before == "0" || before == "-" || length(before) == 10
+    # a FIT line may end after its weight: there is then one piece
+    if (at + 1 == cells)
+        what = (ended ? "" : "a digit or ") "the line's end"
+    else if (cell[1] == "FIT" && at == 4)
+        what = (ended ? "" : "a digit, or ") next_one ", or the line's end,"
+    else
+        what = ended ? next_one : "a digit, or " next_one ","
+    return what " is expected here" (ended ? ending(before) : "")
 }
 
 # Of FIT and ENG lines there may be many.
