@@ -90,6 +90,8 @@ static void try_limits(void)
 /* What all pieces of a line weigh, each number within limits of its own: it is judged at the count. */
 static void try_products(void)
 {
+    /* products that 32 bits would take for 1 to 500000 */
+    static const wb_fitting wrapping[] = {{0x80000001, 2}, {43383509, 99}, {2, 0x80000001}, {500000, 8590}, {0xFFFFFFFF, 0xFFFFFFFF}};
     begin_part("weight of one times count");
     for (uint32_t count = 1; count <= 99; count++)
         for (int line = 0; line < WB_FITTINGS; line += 23) {
@@ -103,6 +105,11 @@ static void try_products(void)
             if (count > 1)
                 expect_outside(sheet, number);
         }
+    for (size_t i = 0; i < sizeof wrapping / sizeof *wrapping; i++) {
+        wb_sheet sheet = base_hull();
+        sheet.fitting[i] = wrapping[i];
+        expect_outside(sheet, FIRST_FITTING + 2 * (int)i + (wrapping[i].weight <= 500000));
+    }
 }
 
 /* ---- texts whose answer the rules give in figures ---- */
