@@ -641,8 +641,8 @@ static void tell_write(const struct work *w, wb_answer a)
 enum { READS, CHANGES, BEGINS };
 
 /*
- * What a command is lent: for each word after its name a letter, n for a number, o for one that may be left out and is then 1, t for a sheet's text, e for
- * one of engine rows.
+ * What a command is lent: for each word after its name a letter, n for a number, o for one that may be left out and is then 1, t for a sheet's text,
+ * e for one of engine rows.
  */
 struct command {
     const char *name;
