@@ -1,8 +1,8 @@
 -- The boats of the plates' computed cases, and what a case says: the whole answer of one plate.
 use mathlib.Core.Bool.{Bool, true, _&&_}
 use mathlib.Core.List.{List, [], _∷_, _++_}
-use Prim.Native.Nat.{ℕ}
-use lib.ListN.{set, replicate}
+use Prim.Native.Nat.{ℕ, zero, suc}
+use lib.ListN.{take, set, replicate}
 use Rattle.answers.specs.declared.Answer.{Answer}
 use Rattle.sheet.specs.Sheet.{wordsOk}
 use Rattle.capacity.specs.Kinds.{PlateKind, kindA, kindC, kindU, plateOf}
@@ -41,15 +41,15 @@ all-within (t ∷ ts) = wordsOk (t .sheet) && all-within ts
 -- the base hull with another drive, declared power or masses
 unfoldable pub massed : ℕ → ℕ → ℕ → ℕ → ℕ → List ℕ
 massed outboard declared bare fuel machinery =
-    words (4500 ∷ 4000 ∷ 1200 ∷ 500 ∷ 0 ∷ 0 ∷ []) (bare ∷ fuel ∷ machinery ∷ outboard ∷ declared ∷ 5 ∷ 0 ∷ 0 ∷ [])
+    words (4500 ∷ 4000 ∷ 1200 ∷ 500 ∷ 0 ∷ 0 ∷ []) (bare ∷ fuel ∷ machinery ∷ outboard ∷ declared ∷ 5 ∷ 0 ∷ 0 ∷ 0 ∷ [])
 
 -- an outboard of this station T, reference length and bare boat
 unfoldable pub stationed : List ℕ → ℕ → ℕ → List ℕ
 stationed t reference bare =
-    wordsTo (6000 ∷ reference ∷ 1200 ∷ 500 ∷ 0 ∷ 0 ∷ []) t (bare ∷ 0 ∷ 0 ∷ 1 ∷ 20000 ∷ 5 ∷ 0 ∷ 0 ∷ [])
+    wordsTo (6000 ∷ reference ∷ 1200 ∷ 500 ∷ 0 ∷ 0 ∷ []) t (bare ∷ 0 ∷ 0 ∷ 1 ∷ 20000 ∷ 5 ∷ 0 ∷ 0 ∷ 0 ∷ [])
 
 -- a launch of which no two stations, volumes or weights are alike, by its drive, declared power, bare boat and
--- machinery; its fittings stand on lines 1, 2, 13 and 24
+-- machinery; its fittings, 14800, 16200, 22000 and 9400 g, stand on lines 1, 2, 13 and 24
 unfoldable pub launch : ℕ → ℕ → ℕ → ℕ → List ℕ
 launch outboard declared bare machinery =
     5400 ∷ 5250 ∷ 1200 ∷ 500 ∷ 0 ∷ 1
@@ -58,7 +58,20 @@ launch outboard declared bare machinery =
     ∷ 1880 ∷ 748 ∷ 706 ∷ 640 ∷ 548 ∷ 420 ∷ 214
     ∷ 1620 ∷ 650 ∷ 622 ∷ 574 ∷ 506 ∷ 402 ∷ 237
     ∷ 46000 ∷ 71000 ∷ 30500 ∷ bare ∷ 42000 ∷ machinery ∷ outboard ∷ declared ∷ 5 ∷ 0
-    ∷ 14800 ∷ 16200 ∷ (replicate 10 0 ++ (22000 ∷ (replicate 10 0 ++ (9400 ∷ []))))
+    ∷ 3700 ∷ 4 ∷ 180 ∷ 90 ∷ (replicate 20 0 ++ (22000 ∷ 1 ∷ (replicate 20 0 ++ (4700 ∷ 2 ∷ []))))
+
+-- 01's printed sheet with other pieces on fitting line 1, and with the same pieces on every line
+unfoldable pub pieced : ℕ → ℕ → List ℕ
+pieced weight count =
+    words (4500 ∷ 4000 ∷ 1200 ∷ 500 ∷ 0 ∷ 1 ∷ [])
+    (200000 ∷ 0 ∷ 0 ∷ 1 ∷ 20000 ∷ 5 ∷ 3 ∷ weight ∷ count ∷ [])
+
+unfoldable pub alike : ℕ → ℕ → ℕ → List ℕ
+alike zero weight count = []
+alike (suc lines) weight count = weight ∷ count ∷ alike lines weight count
+
+unfoldable pub laden : ℕ → ℕ → List ℕ
+laden weight count = take 44 (pieced 0 0) ++ alike 24 weight count
 
 -- the same boat with another transom, bare weight, drive, seats
 unfoldable pub transom : ℕ → List ℕ → List ℕ

@@ -2,6 +2,7 @@
 pub mod Whole  -- whole numbers as differences of two sums
 pub mod Order  -- their order, the lesser and the greater
 pub mod Volume  -- a station's product, and N by a running total
+pub mod Weights  -- F, line by line
 pub mod Loads  -- the loads as what adds and what takes away
 pub mod Most  -- the most that the sums come to
 pub mod Power  -- plate A's power, by the case that the code finds
@@ -20,4 +21,6 @@ pub mod Boats  -- the boats of the computed cases
 pub mod CasesA  -- cases of plate A
 pub mod CasesC  -- of plate C
 pub mod CasesU  -- of plate U
+pub mod CasesF  -- of fittings, on all three
+pub mod Heaviest  -- the heaviest boats
 pub mod Samples  -- all of them computed, with 01's

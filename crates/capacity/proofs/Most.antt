@@ -3,34 +3,29 @@
 use mathlib.Core.Path.{_≡_, refl}
 use mathlib.Core.Bool.{Bool, true, false}
 use mathlib.Core.List.{List, [], _∷_}
-use Prim.Native.Nat.{ℕ, suc, _+_, _-_, _*_, _≤_}
+use Prim.Native.Nat.{ℕ, _+_, _-_, _*_, _≤_}
 use native.Mathlib.Nat.{mul-le-mul, mul-div-le}
 use native.Mathlib.Omega.{arith}
 use borrow.Author.Tests.{ltb-true, ltb-false}
 use lib.Dec.{eqb, ltb}
-use lib.ListN.{length, getD}
-use Rattle.sheet.specs.Lines.{fittings, fittingHigh}
+use lib.ListN.{getD}
 use Rattle.sheet.specs.Sheet.{wordsOk}
 use Rattle.sheet.specs.Places.{referenceAt, aftAt, wellAt, floodingAt}
 use Rattle.capacity.specs.Whole.{orZero}
-use Rattle.capacity.specs.Words.{reference, station, outboard, declared, fittingsOf}
+use Rattle.capacity.specs.Words.{reference, station, outboard, declared}
 use Rattle.capacity.specs.Volume.{stationsN, volumeN, gram}
-use Rattle.capacity.specs.Weights.{addedUp, boatM}
+use Rattle.capacity.specs.Weights.{boatM}
 use Rattle.capacity.specs.PlateC.{markedC, lowPower, markedKilo}
 use Rattle.capacity.specs.PlateA.{halfMarked, markedA}
 use Rattle.capacity.specs.Highs.{highAt, Stations, heaviest}
 use Rattle.capacity.proofs.Volume.{productMost, product-most}
 use Rattle.capacity.proofs.Within.{aft-most, well-most, flooding-most, bare-most, fuel-most, machinery-most}
-use Rattle.capacity.proofs.Within.{weights-within, stations-within}
+use Rattle.capacity.proofs.Within.{words-many, fittings-within, stations-within}
+use Rattle.capacity.proofs.Weights.{sum-most}
 use Rattle.capacity.proofs.Loads.{gain, loss, vessel, inboardVessel, wholePart}
 use Rattle.capacity.proofs.Loads.{marked-high, marked-low, marked-outboard, marked-inboard}
 
 -- ---- of parts
-
-sum-most : (ws : List ℕ) (n : ℕ) → length ws ≤ n → ((k : ℕ) → getD ws k 0 ≤ fittingHigh) → addedUp ws ≤ fittingHigh * n
-unfolding addedUp
-sum-most [] n h f = omega arith
-sum-most (w ∷ ws) n h f = omega (arith, f 0, sum-most ws (length ws) (omega arith) (λ (k : ℕ). f (suc k)))
 
 -- N of four stations and a reference length
 abbrev pub volumeMost : ℕ
@@ -72,8 +67,7 @@ module _ (s : List ℕ) (ok : wordsOk s ≡ true) where
   pub weight-most : inboardVessel s ≤ heaviest
   unfolding boatM
   weight-most =
-      let ws = weights-within s ok in
-      let fitted = sum-most (fittingsOf s) fittings (ws .few) (ws .light) in
+      let fitted = sum-most s (fittings-within s ok) (words-many s ok) in
       omega (arith, bare-most s ok, fuel-most s ok, machinery-most s ok)
 
   pub loss-most : {w : ℕ} → w ≤ heaviest → loss w s ≤ lossMost

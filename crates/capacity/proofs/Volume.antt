@@ -5,12 +5,10 @@ use Prim.Native.Nat.{ℕ, zero, suc, _+_, _*_, _≤_, _<_}
 use native.Mathlib.Nat.{mul-add, mul-le-mul}
 use native.Mathlib.Numerals.{add-one, add-two, add-three, add-four, add-five, add-six}
 use native.Mathlib.Omega.{arith}
-use lib.ListN.{length, getD, take, drop, replicate, drop-of-length-le}
+use lib.ListN.{length, getD, take, drop, replicate}
 use lib.Seq.{drop-cons}
-use Rattle.ground.proofs.Stores.{drop-more}
 use Rattle.capacity.specs.Words.{reference, station}
 use Rattle.capacity.specs.Volume.{stationProduct, summed, volumeN}
-use Rattle.capacity.specs.Weights.{addedUp}
 use Rattle.capacity.specs.Highs.{breadthHigh, depthHigh, Readings}
 
 pub seven : (l : List ℕ) (j : ℕ) → j + 7 ≤ length l
@@ -97,13 +95,3 @@ shares-right :
     × (summed 6000 150000000 150000000 150000000 150000000 ≡ 9900000000000)
 unfolding stationProduct
 shares-right = (refl, refl, refl, refl)
-
--- ---- the sum of weights, one after the other
-
-pub sum-more : (ws : List ℕ) (i : ℕ) → i < length ws → addedUp (drop i ws) ≡ getD ws i 0 + addedUp (drop (i + 1) ws)
-unfolding addedUp
-sum-more ws i h = rw (drop-more ws i h)
-
-pub sum-end : (ws : List ℕ) (i : ℕ) → length ws ≤ i → addedUp (drop i ws) ≡ 0
-unfolding addedUp
-sum-end ws i h = rw (drop-of-length-le ws {i = i} h)
