@@ -17,7 +17,7 @@ use Rattle.sheet.specs.Places.{lengthAt, referenceAt, transomWidthAt, readings,
 use Rattle.sheet.specs.Places.{floodingAt}
 use Rattle.sheet.specs.Places.{bareAt, fuelAt, machineryAt, positionsAt, fittingsAt, sheetWords}
 use Rattle.sheet.proofs.Held.{opens, linesOpen, ok-run}
-use Rattle.sheet.proofs.SheetRows.{linesFull, ok-length}
+use Rattle.sheet.proofs.Full.{linesFull, ok-length}
 use Rattle.capacity.specs.Words.{hullLength, reference, transomWidth, station, aft, well, flooding, bare, fuel}
 use Rattle.capacity.specs.Words.{machinery}
 use Rattle.capacity.specs.Words.{positions, fittingsOf}
