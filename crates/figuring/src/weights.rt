@@ -8,25 +8,26 @@ ghost use Rattle.sheet.specs.Sheet.{wordsOk};
 ghost use Rattle.capacity.specs.Words.{well, flooding, fuel, machinery};
 ghost use Rattle.capacity.specs.Volume.{gram};
 ghost use Rattle.capacity.specs.Weights.{addedUp, boatM};
-ghost use Rattle.capacity.specs.Highs.{Weights, heaviest};
+ghost use Rattle.capacity.specs.Highs.{Fittings, heaviest};
 use super::numbers::wide;
 use super::volume::GRAM;
 use sheet::BARE;
 use sheet::FITTED;
+use sheet::FITTINGS;
 use sheet::FLOODING;
 use sheet::FUEL;
 use sheet::MACHINERY;
 use sheet::WELL;
 
-// F, the sum of the fittings' weights.
-fn fittings_weight(weights: &[u32]) -> u64
-    requires { ⌜ Weights (now weights) ⌝ }
-    ensures { λ r. ⌜ r ≡ addedUp (now (weights .entry)) ⌝ }
+// F, what the fittings weigh together: of each line the weight of one piece times how many there are.
+fn fittings_weight(fittings: &[u32]) -> u64
+    requires { ⌜ Fittings (now fittings) ⌝ }
+    ensures { λ r. ⌜ r ≡ addedUp (now (fittings .entry)) ⌝ }
 {
     let mut total = 0;
     let mut i = 0;
-    while i < weights.len() {
-        total += wide(weights[i]);
+    while i < FITTINGS {
+        total += wide(fittings[2 * i]) * wide(fittings[2 * i + 1]);
         i += 1;
     }
     total

@@ -3,7 +3,7 @@ use mathlib.Core.Path.{ap, _∙_}
 use Rattle.ground.proofs.Stores.{rest-part}
 use Rattle.sheet.specs.Places.{fittingsAt}
 use Rattle.capacity.specs.Weights.{addedUp}
-use Rattle.capacity.proofs.Within.{words-many, weights-within}
+use Rattle.capacity.proofs.Within.{words-many, fittings-within}
 use Rattle.capacity.proofs.Loads.{boat-is}
 use Rattle.capacity.proofs.Most.{weight-most}
 use native.Mathlib.Omega.{arith}
@@ -12,7 +12,7 @@ use Rattle.figuring.proofs.weights.boat_of.Statement.{statement}
 use Rattle.figuring.proofs.weights.boat_of.Tie as tie
 
 fittings-weight-requires : tie.Need-fittings-weight-requires
-fittings-weight-requires c κs = rw (rest-part _ fittingsAt) (weights-within _ (c .before .before .before .before .pre))
+fittings-weight-requires c κs = rw (rest-part _ fittingsAt) (fittings-within _ (c .before .before .before .before .pre))
 
 returns : tie.Need-returns
 returns c =
