@@ -12,7 +12,7 @@ use Rattle.text.specs.Line.{readEntry, readNumbers, readLine, numbersText}
 use Rattle.text.specs.Place.{feeds, sinceFeed}
 use Rattle.form.specs.Parts.{kindOf, numbersOf}
 use Rattle.form.specs.Reading.{readRows, readParts, readForm}
-use Rattle.sheet.specs.SheetText.{sheetForm, weightsFrom, fitsOf, numbersOn, readSheet}
+use Rattle.sheet.specs.SheetText.{sheetForm, emptyLines, fitsFrom, fitsOf, numbersOn, readSheet}
 use Rattle.sheet.specs.EngineText.{engineForm, readEngines}
 use Rattle.sheet.proofs.BaseHull.{hull, form, mass, power, seats, sheetWith}
 use Rattle.capacity.specs.Volume.{stationProduct, volumeN, netZ}
@@ -23,10 +23,12 @@ use Rattle.capacity.specs.PlateA.{inboardX, loadX, markedA, formulaWatts, power
 use Rattle.printout.specs.Input.{sheetBytes}
 use Rattle.printout.specs.Printed.{platesText, rowsPrinted, printed}
 
--- 01's sheet with another FORM line and another boat, and then engine lines
+-- 01's sheet with another FORM line, another boat and another fitting, and then engine lines
+withFit : String → String → String → String → List ℕ
+withFit form mass fit engines = sheetWith hull form mass power seats (bytes fit ++ (bytes "END\n" ++ bytes engines))
+
 withForm : String → String → String → List ℕ
-withForm form mass engines =
-    sheetWith hull form mass power seats (bytes "FIT\t1\t3334\nEND\n" ++ bytes engines)
+withForm form mass engines = withFit form mass "FIT\t1\t3334\n" engines
 
 withBoat : String → String → List ℕ
 withBoat = withForm form
@@ -54,6 +56,9 @@ inputs =
     ∷ (bytes "HULL\t16\nxEND\n" ++ replicate 4096 120) ∷ (bytes "HULL\t16\nEND\n" ++ replicate 4096 120)
     -- engine lines of 4,096 bytes, and of one more
     ∷ (withBoat boat "" ++ replicate 4096 69) ∷ (withBoat boat "" ++ replicate 4097 69)
+    -- fittings by the piece: what weighs as much prints the same; one gram less; a line that weighs too much
+    ∷ withFit form mass "FIT\t1\t1667\t2\n" engines ∷ withFit form mass "FIT\t1\t1111\t3\n" engines
+    ∷ withFit form mass "FIT\t1\t5051\t99\n" engines
     -- 8,192 bytes are judged, 8,193 are not
     ∷ (bytes "HULL\t16\nEND\n" ++ replicate 8180 120) ∷ (bytes "HULL\t16\nEND\n" ++ replicate 8181 120)
     ∷ []
@@ -67,10 +72,12 @@ inputs-right :
     ∷ bytes "INPUT\t3\t8\t6\n" ∷ bytes "INPUT\t3\t2\t5\n"
     ∷ bytes "INPUT\t2\t0\t0\n" ∷ bytes "INPUT\t3\t1\t6\n"
     ∷ bytes "INPUT\t2\t1\t2\n" ∷ bytes "INPUT\t2\t0\t0\n"
+    ∷ bytes "PLATE\tA\t326\t20000\nPLATE\tC\t325\t3\n" ∷ bytes "PLATE\tA\t326\t20000\nPLATE\tC\t326\t3\n"
+    ∷ bytes "INPUT\t3\t11\t12\n"
     ∷ bytes "INPUT\t3\t1\t6\n" ∷ bytes "INPUT\t2\t0\t0\n"
     ∷ []
-unfolding inputs withForm withBoat printed rowsPrinted platesText sheetBytes numbersText digitsOf digitsIn
-    readSheet sheetForm numbersOn numbersOf fitsOf weightsFrom readEngines engineForm
+unfolding inputs withFit withForm withBoat printed rowsPrinted platesText sheetBytes numbersText digitsOf digitsIn
+    readSheet sheetForm numbersOn numbersOf fitsOf emptyLines fitsFrom readEngines engineForm
     readForm readParts readRows kindOf readLine agreed readNumbers readEntry fieldOf numberOf restOf feeds sinceFeed
     stationProduct volumeN netZ addedUp boatM exactX markedC rising rowsRight rowFor lacksRow engineWeight liveLoad
     persons

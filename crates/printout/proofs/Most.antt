@@ -10,7 +10,7 @@ use lib.Dec.{ltb}
 use lib.ListN.{length, drop, length-append}
 use Rattle.text.specs.Quoted.{bytes}
 use Rattle.text.specs.Number.{elevenDigits, digitsOf}
-use Rattle.text.specs.Line.{ender, numbersText, lineText}
+use Rattle.text.specs.Line.{closer, numbersText, lineText}
 use Rattle.text.proofs.Number.{length-digits-ten}
 use Rattle.ground.proofs.Booleans.{either}
 use Rattle.answers.specs.declared.Answer.{Answer}
@@ -48,7 +48,7 @@ unfolding numbersText
 numbers-most [] h = omega arith
 numbers-most (n ∷ ns) h =
     let rest : List ℕ = numbersText (figures [] (length ns) .limits) ns in
-    let end : ℕ = ender (figures [] (length ns) .limits) in
+    let end : ℕ = closer (figures [] (length ns) .limits) ns in
     let few = length-digits-ten n (omega arith) in
     omega (arith, length-append (digitsOf n) (end ∷ rest), few, numbers-most ns (omega arith))
 
