@@ -13,11 +13,12 @@ use Rattle.text.specs.Limit.{allHold}
 use Rattle.text.specs.Line.{readEntry, readNumbers, readLine, numbersText}
 use Rattle.text.specs.Place.{feeds, sinceFeed}
 use Rattle.answers.specs.declared.Answer.the-variants.{Refused, RefusedAt, Done, Count, Plate}
-use Rattle.sheet.specs.Sheet.{limitsOn, sheetLimits}
+use Rattle.sheet.specs.Sheet.{fitsOk, okOn}
 use Rattle.form.specs.Parts.{kindOf, numbersOf}
 use Rattle.form.specs.Reading.{readRows, readParts, readForm}
 use Rattle.form.specs.Writing.{rowsText, partsText}
-use Rattle.sheet.specs.SheetText.{sheetForm, weightsFrom, fitRows, fitsOf, numbersOn, rowsOn, readSheet, sheetText}
+use Rattle.sheet.specs.SheetText.{sheetForm, emptyLines, fitsFrom, fitRows, fitsOf, numbersOn, rowsOn}
+use Rattle.sheet.specs.SheetText.{readSheet, sheetText}
 use Rattle.capacity.specs.Volume.{stationProduct, volumeN, netZ}
 use Rattle.capacity.specs.Weights.{addedUp, boatM}
 use Rattle.capacity.specs.PlateC.{exactX, markedC, rising, rowsRight, rowFor, lacksRow, engineWeight, liveLoad, persons}
@@ -52,8 +53,8 @@ faulty = newHull (bytes "HULL\t16\n") ⇒ says (RefusedAt 3 1 6)
 -- the hull's text, with the fitting that desk 1 saved, into an output of three bytes more
 abbrev writing : Event
 writing =
-    ask 0 (write (replicate 240 7)) ⇒
-    record { answer = Count 237; output = text "HULL\t0\n" "FIT\t2\t3334\n" ++ replicate 3 7 }
+    ask 0 (write (replicate 242 7)) ⇒
+    record { answer = Count 239; output = text "HULL\t0\n" "FIT\t2\t1667\t2\n" ++ replicate 3 7 }
 
 -- by an engine row whose weight, taken for its power, would not reach the declared power
 abbrev trialC : Event
@@ -63,7 +64,7 @@ day : List Event
 day =
     entering
     ∷ (openHull 0 0 ⇒ says (Count 0)) ∷ (openHull 1 0 ⇒ says (Count 0))
-    ∷ (work 1 (put 2 3334) ⇒ says Done) ∷ (work 0 (put 1 500) ⇒ says Done)
+    ∷ (work 1 (put 2 1667 2) ⇒ says Done) ∷ (work 0 (put 1 500 1) ⇒ says Done)
     ∷ (ask 0 (plate kindA) ⇒ says (Plate 327 20000)) ∷ (ask 0 (plate kindU) ⇒ says (Count 720))
     ∷ (work 1 (tryPlate kindA) ⇒ says (Plate 326 20000)) ∷ (work 1 (tryPlate kindU) ⇒ says (Count 718))
     ∷ (save 1 ⇒ says (Count 1)) ∷ (ask 0 (plate kindA) ⇒ says (Plate 326 20000))
@@ -82,7 +83,7 @@ serial-day =
     entering
     ∷ (ask 0 (plate kindA) ⇒ says (Plate 327 20000)) ∷ (ask 0 (plate kindU) ⇒ says (Count 720))
     -- desk 1's block, at its save's place, its trials among its calls
-    ∷ (openHull 1 0 ⇒ says (Count 0)) ∷ (work 1 (put 2 3334) ⇒ says Done)
+    ∷ (openHull 1 0 ⇒ says (Count 0)) ∷ (work 1 (put 2 1667 2) ⇒ says Done)
     ∷ (work 1 (tryPlate kindA) ⇒ says (Plate 326 20000)) ∷ (work 1 (tryPlate kindU) ⇒ says (Count 718))
     ∷ (save 1 ⇒ says (Count 1))
     ∷ (ask 0 (plate kindA) ⇒ says (Plate 326 20000)) ∷ (ask 0 (plate kindU) ⇒ says (Count 718)) ∷ writing
@@ -96,8 +97,8 @@ serial-day =
 a-day : transcript freshWords (map call day) ≡ day
 unfolding transcript reply next day text freshWords entered opened fitted replaced dropped saved each
     hullOk draftOk formed hullRefusal deskRefusal roomRefusal openRefusal readSheet sheetForm numbersOn
-    numbersOf fitsOf weightsFrom readForm readParts readRows kindOf readLine agreed readNumbers readEntry
-    fieldOf numberOf restOf feeds sinceFeed allHold sheetLimits limitsOn sheetText rowsOn fitRows
+    numbersOf fitsOf emptyLines fitsFrom readForm readParts readRows kindOf readLine agreed readNumbers readEntry
+    fieldOf numberOf restOf feeds sinceFeed allHold okOn fitsOk sheetText rowsOn fitRows
     partsText rowsText numbersText digitsOf digitsIn stationProduct volumeN netZ addedUp boatM exactX markedC rising
     rowsRight rowFor lacksRow engineWeight liveLoad persons lacksTests plateC inboardX loadX markedA formulaWatts
     powerA plateA ruleU markedU plateU

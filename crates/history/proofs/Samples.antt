@@ -13,10 +13,10 @@ use Rattle.text.specs.Limit.{allHold}
 use Rattle.text.specs.Line.{readEntry, readNumbers, readLine}
 use Rattle.answers.specs.declared.Answer.{Answer}
 use Rattle.answers.specs.declared.Answer.the-variants.{Refused, RefusedAt, Done, Count, Plate}
-use Rattle.sheet.specs.Sheet.{limitsOn, sheetLimits}
+use Rattle.sheet.specs.Sheet.{fitsOk, okOn}
 use Rattle.form.specs.Parts.{kindOf, numbersOf}
 use Rattle.form.specs.Reading.{readRows, readParts, readForm}
-use Rattle.sheet.specs.SheetText.{sheetForm, weightsFrom, fitsOf, numbersOn, readSheet}
+use Rattle.sheet.specs.SheetText.{sheetForm, emptyLines, fitsFrom, fitsOf, numbersOn, readSheet}
 use Rattle.capacity.specs.Volume.{stationProduct, volumeN, netZ}
 use Rattle.capacity.specs.Weights.{addedUp, boatM}
 use Rattle.capacity.specs.PlateC.{exactX, markedC, rising, rowsRight, rowFor, lacksRow, engineWeight, liveLoad, persons}
@@ -82,9 +82,9 @@ ninth =
 -- Every starred case is as 01 says.
 starred-all : all-right (map of-sheet cases ++ (of-run ninth ∷ [])) ≡ true
 unfolding all-right right ninth four-saves turns-right text counts stands cases holds-of answer-c marks agrees
-    refuses second-is seated load power inboard words allHold sheetLimits limitsOn stationProduct volumeN netZ
+    refuses second-is seated load power inboard words allHold okOn fitsOk stationProduct volumeN netZ
     addedUp boatM exactX markedC rising rowsRight rowFor lacksRow engineWeight liveLoad persons lacksTests plateC
     inboardX loadX markedA formulaWatts powerA plateA reply next freshWords entered opened saved dropped each
     hullOk draftOk formed deskRefusal roomRefusal openRefusal readSheet sheetForm numbersOn numbersOf fitsOf
-    weightsFrom readForm readParts readRows kindOf readLine agreed readNumbers readEntry fieldOf numberOf restOf
+    emptyLines fitsFrom readForm readParts readRows kindOf readLine agreed readNumbers readEntry fieldOf numberOf restOf
 starred-all = refl

@@ -60,7 +60,8 @@ module _ (m : List ℕ) (d : ℕ) (ok : formed m ≡ true) (z : deskRefusal m d 
   work-changes : (w : Work)
       → isRefusal (workAnswer w (draftSheet m d)) ≡ false
       → SheetChanges (workMakes m d w) m d (worked w (draftSheet m d))
-  work-changes (put line weight) e = put-changes m d z line weight (no-refusal (putOwn line weight) Done e)
+  work-changes (put line weight count) e =
+      put-changes m d z line weight count (no-refusal (putOwn line weight count) Done e)
   work-changes (takeOff line) e = take-changes m d z line (no-refusal (takeOwn (draftSheet m d) line) Done e)
   work-changes (replace t) e = on-read t e (replace-changes m d z t)
   work-changes (tryPlate k) e = unchanged m d ok

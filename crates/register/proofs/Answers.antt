@@ -13,8 +13,9 @@ use Rattle.answers.specs.declared.Answer.the-variants.{Refused, RefusedAt, Done
 use Rattle.form.specs.Parts.{kindOf, numbersOf}
 use Rattle.form.specs.Reading.{readRows, readParts, readForm}
 use Rattle.form.specs.Writing.{rowsText, partsText}
-use Rattle.sheet.specs.Sheet.{limitsOn, sheetLimits}
-use Rattle.sheet.specs.SheetText.{sheetForm, weightsFrom, fitRows, fitsOf, numbersOn, rowsOn, readSheet, sheetText}
+use Rattle.sheet.specs.Sheet.{fitsOk, okOn}
+use Rattle.sheet.specs.SheetText.{sheetForm, emptyLines, fitsFrom, fitRows, fitsOf, numbersOn, rowsOn}
+use Rattle.sheet.specs.SheetText.{readSheet, sheetText}
 use Rattle.capacity.specs.Volume.{stationProduct, volumeN, netZ}
 use Rattle.capacity.specs.Weights.{addedUp, boatM}
 use Rattle.capacity.specs.PlateC.{exactX, markedC, rising, rowsRight, rowFor, lacksRow, engineWeight}
@@ -38,17 +39,20 @@ answered m ((c must a) ∷ cs) = step m c .answer ∷ answered m cs
 
 -- one hull, and desk 7 at work on it; a sheet stands where the second would be
 small : List ℕ
-small = 1 ∷ (hulls 2 0 ++ (replicate 966 99 ++ (idle 7 ++ draft 0 0)))
+small = 1 ∷ (hulls 2 0 ++ (replicate 1302 99 ++ (idle 7 ++ draft 0 0)))
 
--- the size, the count, an edit number, a draft's sheet
+-- the size, the count, an edit number, a draft's sheet; a hull's weight without its count, a draft's count without its
+-- weight, too many pieces
 unformed : List (List ℕ)
-unformed = take 1672 small ∷ set small 0 17 ∷ set small 1 65536 ∷ set small 1605 1999 ∷ []
+unformed =
+    take 2248 small ∷ set small 0 17 ∷ set small 1 65536 ∷ set small 2157 1999 ∷ set small 47 0 ∷ set small 2201 0
+    ∷ set small 2202 150 ∷ []
 
 -- the memory comes first, of each call
 unformed-right : map (λ (m : List ℕ). map (λ (c : Call). step m c .answer) wrongs) unformed
-    ≡ replicate 4 (replicate 14 (Refused 1))
+    ≡ replicate 7 (replicate 14 (Refused 1))
 unfolding unformed small sheet hulls draft idle formed each hullOk draftOk hullRefusal deskRefusal roomRefusal
-    openRefusal allHold sheetLimits limitsOn
+    openRefusal allHold okOn fitsOk
 unformed-right = refl
 
 -- ---- memories that are well formed
@@ -72,7 +76,7 @@ fifteen = 15 ∷ (hulls 16 0 ++ idle 8)
 -- they stand; on desks 2 and 3 such drafts have ended
 edited : List ℕ
 edited =
-    2 ∷ (hulls 1 65534 ++ (hulls 1 65535 ++ (replicate 966 99 ++ (idle 2 ++ (ended 0 65533 ++ (ended 1 65535
+    2 ∷ (hulls 1 65534 ++ (hulls 1 65535 ++ (replicate 1302 99 ++ (idle 2 ++ (ended 0 65533 ++ (ended 1 65535
     ++ (draft 0 65533 ++ (draft 1 65534 ++ (draft 0 65534 ++ draft 1 65535)))))))))
 
 -- a 17th hull, whatever its text; a 16th; hulls 15 and 16 of sixteen
@@ -80,7 +84,7 @@ on-full : List Must
 on-full =
     (newHull text must Refused 4) ∷ (newHull [] must Refused 4) ∷ (newHull outside must Refused 4)
     ∷ (openHull 7 15 must Count 65535) ∷ (openHull 7 16 must Refused 5)
-    ∷ (ask 15 (write (replicate 238 7)) must Count 238) ∷ (ask 15 (write (replicate 237 7)) must Refused 16)
+    ∷ (ask 15 (write (replicate 240 7)) must Count 240) ∷ (ask 15 (write (replicate 239 7)) must Refused 16)
     ∷ []
 
 on-fifteen : List Must
@@ -104,10 +108,16 @@ on-small =
     ∷ (openHull 7 0 must Count 0) ∷ (openHull 8 0 must Refused 6) ∷ (openHull 7 1 must Refused 5)
     ∷ (openHull 8 1 must Refused 6) ∷ (dropDraft 7 must Done) ∷ (dropDraft 6 must Refused 7)
     ∷ (dropDraft 8 must Refused 6)
-    -- a fitting's line and weight
-    ∷ (work 7 (put 1 1) must Done) ∷ (work 7 (put 24 500000) must Done) ∷ (work 7 (put 0 1) must Refused 3)
-    ∷ (work 7 (put 25 1) must Refused 3) ∷ (work 7 (put 1 0) must Refused 3) ∷ (work 7 (put 1 500001) must Refused 3)
-    ∷ (work 6 (put 0 0) must Refused 7) ∷ (work 8 (put 0 0) must Refused 6)
+    -- a fitting's line, weight and count; their product, which never wraps
+    ∷ (work 7 (put 1 1 1) must Done) ∷ (work 7 (put 24 500000 1) must Done) ∷ (work 7 (put 0 1 1) must Refused 3)
+    ∷ (work 7 (put 25 1 1) must Refused 3) ∷ (work 7 (put 1 0 1) must Refused 3)
+    ∷ (work 7 (put 1 500001 1) must Refused 3) ∷ (work 7 (put 1 1 99) must Done) ∷ (work 7 (put 1 1 100) must Refused 3)
+    ∷ (work 7 (put 1 1 0) must Refused 3) ∷ (work 7 (put 1 0 0) must Refused 3)
+    ∷ (work 7 (put 2 250000 2) must Done) ∷ (work 7 (put 2 250001 2) must Refused 3)
+    ∷ (work 7 (put 1 5050 99) must Done) ∷ (work 7 (put 1 5051 99) must Refused 3)
+    ∷ (work 7 (put 1 4294967295 4294967295) must Refused 3) ∷ (work 7 (put 1 4294967295 1) must Refused 3)
+    ∷ (work 7 (put 1 1 4294967295) must Refused 3) ∷ (work 7 (put 1 65536 65536) must Refused 3)
+    ∷ (work 6 (put 0 0 0) must Refused 7) ∷ (work 8 (put 0 0 0) must Refused 6)
     ∷ (work 7 (takeOff 1) must Done) ∷ (work 7 (takeOff 24) must Refused 17) ∷ (work 7 (takeOff 0) must Refused 3)
     ∷ (work 7 (takeOff 25) must Refused 3) ∷ (work 6 (takeOff 0) must Refused 7) ∷ (work 8 (takeOff 0) must Refused 6)
     ∷ (work 8 (takeOff 24) must Refused 6)
@@ -118,9 +128,9 @@ on-small =
     ∷ (ask 0 (plate kindU) must Count 718) ∷ (ask 0 (plate (kindC [] [])) must Refused 10)
     ∷ (ask 1 (plate (kindC [] [])) must Refused 5) ∷ (ask 1 (plate kindA) must Refused 5)
     ∷ (ask 1 (plate kindU) must Refused 5)
-    -- a text of 237 bytes
-    ∷ (ask 0 (write (replicate 237 7)) must Count 237) ∷ (ask 0 (write (replicate 236 7)) must Refused 16)
-    ∷ (ask 1 (write (replicate 236 7)) must Refused 5)
+    -- a text of 239 bytes
+    ∷ (ask 0 (write (replicate 239 7)) must Count 239) ∷ (ask 0 (write (replicate 238 7)) must Refused 16)
+    ∷ (ask 1 (write (replicate 238 7)) must Refused 5)
     ∷ []
 
 calls-right :
@@ -128,23 +138,23 @@ calls-right :
     × (answered edited on-edited ≡ map wanted on-edited) × (answered small on-small ≡ map wanted on-small)
 unfolding answered on-full on-fifteen on-edited on-small text outside ended small fifteen edited full sheet hulls
     draft idle formed each hullOk draftOk hullRefusal deskRefusal roomRefusal openRefusal readSheet sheetForm
-    numbersOn numbersOf fitsOf weightsFrom readForm readParts readRows kindOf readLine agreed readNumbers readEntry
-    fieldOf numberOf restOf feeds sinceFeed allHold sheetLimits limitsOn sheetText rowsOn fitRows partsText rowsText
+    numbersOn numbersOf fitsOf emptyLines fitsFrom readForm readParts readRows kindOf readLine agreed readNumbers readEntry
+    fieldOf numberOf restOf feeds sinceFeed allHold okOn fitsOk sheetText rowsOn fitRows partsText rowsText
     numbersText digitsOf digitsIn stationProduct volumeN netZ addedUp boatM exactX markedC rising rowsRight rowFor
     lacksRow engineWeight liveLoad persons lacksTests plateC inboardX loadX markedA formulaWatts powerA plateA ruleU
     markedU plateU
 calls-right = (refl, refl, refl, refl)
 
 -- fresh start looks at the size alone
-fresh-right : map (λ (n : ℕ). freshStep (replicate n 99) .answer) (1672 ∷ 1673 ∷ 1674 ∷ [])
+fresh-right : map (λ (n : ℕ). freshStep (replicate n 99) .answer) (2248 ∷ 2249 ∷ 2250 ∷ [])
     ≡ Refused 1 ∷ Done ∷ Refused 1 ∷ []
 fresh-right = refl
 
 -- a hull is written under its own number, and nothing is touched beyond its text
 written-right :
-    (step small (ask 0 (write (replicate 240 7))) .output ≡ sheetText (0 ∷ sheet) ++ replicate 3 7)
-    × (step full (ask 15 (write (replicate 240 7))) .output ≡ sheetText (15 ∷ sheet) ++ replicate 2 7)
-    × (step full (ask 15 (write (replicate 237 7))) .output ≡ replicate 237 7)
-unfolding small full sheet hulls draft idle formed each hullOk draftOk hullRefusal allHold sheetLimits limitsOn
+    (step small (ask 0 (write (replicate 242 7))) .output ≡ sheetText (0 ∷ sheet) ++ replicate 3 7)
+    × (step full (ask 15 (write (replicate 242 7))) .output ≡ sheetText (15 ∷ sheet) ++ replicate 2 7)
+    × (step full (ask 15 (write (replicate 239 7))) .output ≡ replicate 239 7)
+unfolding small full sheet hulls draft idle formed each hullOk draftOk hullRefusal allHold okOn fitsOk
     sheetText sheetForm rowsOn fitRows partsText rowsText kindOf numbersText digitsOf digitsIn
 written-right = (refl, refl, refl)

@@ -16,8 +16,9 @@ use Rattle.answers.specs.declared.Answer.the-variants.{Refused, RefusedAt, Done
 use Rattle.form.specs.Parts.{kindOf, numbersOf}
 use Rattle.form.specs.Reading.{readRows, readParts, readForm}
 use Rattle.form.specs.Writing.{rowsText, partsText}
-use Rattle.sheet.specs.Sheet.{limitsOn, sheetLimits}
-use Rattle.sheet.specs.SheetText.{sheetForm, weightsFrom, fitRows, fitsOf, numbersOn, rowsOn, readSheet, sheetText}
+use Rattle.sheet.specs.Sheet.{fitsOk, okOn}
+use Rattle.sheet.specs.SheetText.{sheetForm, emptyLines, fitsFrom, fitRows, fitsOf, numbersOn, rowsOn}
+use Rattle.sheet.specs.SheetText.{readSheet, sheetText}
 use Rattle.capacity.specs.Volume.{stationProduct, volumeN, netZ}
 use Rattle.capacity.specs.Weights.{addedUp, boatM}
 use Rattle.capacity.specs.PlateC.{exactX, markedC, rising, rowsRight, rowFor, lacksRow, engineWeight}
@@ -93,8 +94,8 @@ day =
     -- no such desk, hull or draft
     ∷ (openHull 8 1 must Refused 6) ∷ (openHull 0 2 must Refused 5) ∷ (save 0 must Refused 7)
     -- desk 0 works on hull 0, where desk 7 has opened it too
-    ∷ (openHull 7 0 must Count 0) ∷ (openHull 0 0 must Count 0) ∷ (work 0 (put 25 1) must Refused 3)
-    ∷ (work 0 (put 2 500001) must Refused 3) ∷ (work 0 (put 2 3334) must Done) ∷ (tries 0 kindA must Plate 326 20000)
+    ∷ (openHull 7 0 must Count 0) ∷ (openHull 0 0 must Count 0) ∷ (work 0 (put 25 1 1) must Refused 3)
+    ∷ (work 0 (put 2 250001 2) must Refused 3) ∷ (work 0 (put 2 1667 2) must Done) ∷ (tries 0 kindA must Plate 326 20000)
     ∷ (marks 0 kindA must Plate 327 20000) ∷ (tries 0 byC must Plate 325 3) ∷ (tries 0 kindU must Count 718)
     ∷ (marks 0 kindU must Count 720) ∷ (work 0 (takeOff 1) must Refused 17) ∷ (save 0 must Count 1)
     ∷ (marks 0 kindA must Plate 326 20000)
@@ -116,8 +117,8 @@ day =
 a-day : given freshWords day ≡ map wanted day
 unfolding given day text numbered-text eleven-digits too-long rows grams freshWords entered opened fitted replaced
     dropped saved each hullOk draftOk formed hullRefusal deskRefusal roomRefusal openRefusal readSheet sheetForm
-    numbersOn numbersOf fitsOf weightsFrom readForm readParts readRows kindOf readLine agreed readNumbers readEntry
-    fieldOf numberOf restOf feeds sinceFeed allHold sheetLimits limitsOn sheetText rowsOn fitRows partsText rowsText
+    numbersOn numbersOf fitsOf emptyLines fitsFrom readForm readParts readRows kindOf readLine agreed readNumbers readEntry
+    fieldOf numberOf restOf feeds sinceFeed allHold okOn fitsOk sheetText rowsOn fitRows partsText rowsText
     numbersText digitsOf digitsIn stationProduct volumeN netZ addedUp boatM exactX markedC rising rowsRight rowFor
     lacksRow engineWeight liveLoad persons lacksTests plateC inboardX loadX markedA formulaWatts powerA plateA ruleU
     markedU plateU
@@ -129,8 +130,8 @@ two = step (step freshWords (newHull (text mass)) .memory) (newHull (text heavie
 
 a-text : step two (writes 1 230) .output ≡ numbered-text "HULL\t1\n" heavier ++ replicate 4 7
 unfolding two text numbered-text freshWords entered each hullOk draftOk formed hullRefusal roomRefusal
-    readSheet sheetForm numbersOn numbersOf fitsOf weightsFrom readForm readParts readRows kindOf readLine
-    agreed readNumbers readEntry fieldOf numberOf restOf allHold sheetLimits limitsOn sheetText rowsOn fitRows
+    readSheet sheetForm numbersOn numbersOf fitsOf emptyLines fitsFrom readForm readParts readRows kindOf readLine
+    agreed readNumbers readEntry fieldOf numberOf restOf allHold okOn fitsOk sheetText rowsOn fitRows
     partsText rowsText numbersText digitsOf digitsIn
 a-text = refl
 
@@ -139,7 +140,7 @@ a-text = refl
 -- no such desk or hull, a text that is none, rows that are wrong, no room
 abbrev pub wrongs : List Call
 wrongs =
-    newHull [] ∷ openHull 8 16 ∷ work 8 (put 0 0) ∷ work 8 (takeOff 0) ∷ work 8 (replace []) ∷ work 8 (tryPlate kindA)
+    newHull [] ∷ openHull 8 16 ∷ work 8 (put 0 0 0) ∷ work 8 (takeOff 0) ∷ work 8 (replace []) ∷ work 8 (tryPlate kindA)
     ∷ work 8 (tryPlate (kindC [] [])) ∷ work 8 (tryPlate kindU) ∷ save 8 ∷ dropDraft 8
     ∷ ask 16 (plate kindA) ∷ ask 16 (plate (kindC [] [])) ∷ ask 16 (plate kindU) ∷ ask 16 (write [])
     ∷ []

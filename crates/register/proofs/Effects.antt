@@ -102,17 +102,17 @@ open-changes m d h z =
     opened-changes m d h (s .size) (g .desk) (omega (arith, s .few, g .entered))
 
 module _ (m : List ℕ) (d : ℕ) (z : deskRefusal m d ≡ 0) where
-  pub put-changes : (line w : ℕ) → putOwn line w ≡ 0 → FittedChanges m d line w
-  put-changes line w y =
+  pub put-changes : (line w c : ℕ) → putOwn line w c ≡ 0 → FittedChanges m d line w c
+  put-changes line w c y =
       let g = desk-goes m d z in
-      let p = put-fits line w y in
-      fitted-changes m d line w (sound m (g .ok) .size) (g .desk) (p .low) (p .high)
+      let p = put-fits line w c y in
+      fitted-changes m d line w c (sound m (g .ok) .size) (g .desk) (p .low) (p .high)
 
-  pub take-changes : (line : ℕ) → takeOwn (draftSheet m d) line ≡ 0 → FittedChanges m d line 0
+  pub take-changes : (line : ℕ) → takeOwn (draftSheet m d) line ≡ 0 → FittedChanges m d line 0 0
   take-changes line y =
       let g = desk-goes m d z in
       let p = take-fits (draftSheet m d) line y in
-      fitted-changes m d line 0 (sound m (g .ok) .size) (g .desk) (p .low) (p .high)
+      fitted-changes m d line 0 0 (sound m (g .ok) .size) (g .desk) (p .low) (p .high)
 
   pub replace-changes : (t s : List ℕ) → readSheet t ≡ right s → ReplacedChanges m d (sheetOf t)
   replace-changes t s e =

@@ -23,7 +23,7 @@ abbrev pub formerOnText : List ℕ → Answer → Answer
 formerOnText t read = elim (formerSheet t) [ took k s ↦ read | lost number at ↦ Refused number ]
 
 abbrev pub formerWork : Work → List ℕ → Answer
-formerWork (put line weight) s = orRefused (putOwn line weight) Done
+formerWork (put line weight count) s = orRefused (putOwn line weight count) Done
 formerWork (takeOff line) s = orRefused (takeOwn s line) Done
 formerWork (replace t) s = formerOnText t Done
 formerWork (tryPlate k) s = plateOf k s
@@ -41,8 +41,8 @@ formerOwn m (dropDraft d) = Done
 formerOwn m (ask h q) = formerAsk h q (hullSheet m h)
 
 abbrev pub formerWorkMakes : List ℕ → ℕ → Work → List ℕ
-formerWorkMakes m d (put line weight) = fitted m d line weight
-formerWorkMakes m d (takeOff line) = fitted m d line 0
+formerWorkMakes m d (put line weight count) = fitted m d line weight count
+formerWorkMakes m d (takeOff line) = fitted m d line 0 0
 formerWorkMakes m d (replace t) = replaced m d (formerSheetOf t)
 formerWorkMakes m d (tryPlate k) = m
 

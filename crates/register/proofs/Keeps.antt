@@ -12,6 +12,7 @@ use Rattle.answers.specs.declared.Answer.{Answer}
 use Rattle.answers.specs.declared.Answer.the-variants.{Refused, RefusedAt, Done, Count, Plate}
 use Rattle.sheet.specs.Sheet.{wordsOk}
 use Rattle.sheet.specs.SheetText.{readSheet}
+use Rattle.sheet.proofs.FitRow.{pieces-fit}
 use Rattle.sheet.proofs.Words.{words-of}
 use Rattle.sheet.proofs.SheetText.{reads-written}
 use Rattle.memory.specs.Layout.{registerWords, hullCount, draftSheet}
@@ -65,15 +66,17 @@ work-keeps : (m : List ℕ) (d : ℕ) (w : Work)
     → formed m ≡ true
     → DeskGoes m d
     → formed (leaves (workAnswer w (draftSheet m d)) (workMakes m d w) m) ≡ true
-work-keeps m d (put line w) ok g =
-    past-refusal (putOwn line w) Done _ m ok
-    (λ y. let p = put-fits line w y in fitted-formed m d line w ok (g .desk) (g .some) (p .low) (p .high) (p .most))
+work-keeps m d (put line w c) ok g =
+    past-refusal (putOwn line w c) Done _ m ok
+    (λ y.
+    let p = put-fits line w c y in
+    fitted-formed m d line w c ok (g .desk) (g .some) (p .low) (p .high) (pieces-fit w c (p .pieces)))
 work-keeps m d (takeOff line) ok g =
     let s = draftSheet m d in
     past-refusal (takeOwn s line) Done _ m ok
     (λ y.
     let p = take-fits s line y in
-    fitted-formed m d line _ ok (g .desk) (g .some) (p .low) (p .high) (omega arith))
+    fitted-formed m d line 0 0 ok (g .desk) (g .some) (p .low) (p .high) refl)
 work-keeps m d (replace t) ok g = past-text t Done _ m ok (replaced-formed m d (sheetOf t) ok (g .desk) (g .some))
 work-keeps m d (tryPlate k) ok g = kept-or-made (workAnswer (tryPlate k) (draftSheet m d)) m m ok ok
 

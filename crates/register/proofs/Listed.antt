@@ -1,7 +1,7 @@
 -- 01, Refusal numbers: every call on the register refuses by a number of the list, first to last, and so never by 0.
 use mathlib.Core.Path.{_≡_, refl}
 use mathlib.Core.Bool.{Bool, true, false, _&&_, cond}
-use mathlib.Core.List.{List, _∷_}
+use mathlib.Core.List.{List, [], _∷_}
 use Prim.Native.Nat.{ℕ, _+_}
 use native.Mathlib.Omega.{arith}
 use borrow.Author.Tests.{eqb-false, le-leb}
@@ -13,7 +13,8 @@ use Rattle.answers.specs.Refusals.{badMemory, emptyLine}
 use Rattle.answers.specs.declared.Answer.{Answer}
 use Rattle.answers.specs.declared.Answer.the-variants.{Refused, Done, Count}
 use Rattle.answers.proofs.Outcomes.{OfList, text-listed}
-use Rattle.sheet.specs.Lines.{fittings, fittingHigh}
+use Rattle.text.specs.Limit.{allHold}
+use Rattle.sheet.specs.Lines.{fittings, fitLine}
 use Rattle.sheet.specs.Places.{fittingWord}
 use Rattle.sheet.specs.SheetText.{readSheet}
 use Rattle.sheet.proofs.SheetText.{sheet-fault}
@@ -66,8 +67,8 @@ shared-listed m (ask h q) = either OrNone (formed m) (either OrNone (ltb h (hull
 
 -- ---- what only one call asks
 
-put-listed : (line w : ℕ) → OrNone (putOwn line w)
-put-listed line w = either OrNone (leb 1 line && (leb line fittings && (leb 1 w && leb w fittingHigh))) refl refl
+put-listed : (line w c : ℕ) → OrNone (putOwn line w c)
+put-listed line w c = either OrNone (allHold (fitLine .limits) 0 (line ∷ w ∷ c ∷ [])) refl refl
 
 take-listed : (s : List ℕ) (line : ℕ) → OrNone (takeOwn s line)
 take-listed s line =
@@ -79,7 +80,7 @@ save-listed m d =
     either OrNone (eqb e (opening m d)) (either OrNone (eqb e mostEdits) refl refl) refl
 
 work-listed : (w : Work) (s : List ℕ) → OfList (workAnswer w s)
-work-listed (put line w) s = by-refusal (putOwn line w) Done (put-listed line w) refl
+work-listed (put line w c) s = by-refusal (putOwn line w c) Done (put-listed line w c) refl
 work-listed (takeOff line) s = by-refusal (takeOwn s line) Done (take-listed s line) refl
 work-listed (replace t) s = by-text t Done refl
 work-listed (tryPlate k) s = plate-listed k s

@@ -16,12 +16,13 @@ use Rattle.register.specs.Calls.{step}
 use Rattle.register.proofs.Effects.{refused-leaves}
 
 module _ (m : List ℕ) (d : ℕ) (z : deskRefusal m d ≡ 0) where
-  pub put-makes : (line w : ℕ) → putOwn line w ≡ 0 → step m (work d (put line w)) .memory ≡ fitted m d line w
-  put-makes line w y = rw (z, y) refl
+  pub put-makes : (line w c : ℕ) → putOwn line w c ≡ 0
+      → step m (work d (put line w c)) .memory ≡ fitted m d line w c
+  put-makes line w c y = rw (z, y) refl
 
   pub take-makes : (line : ℕ)
       → takeOwn (draftSheet m d) line ≡ 0
-      → step m (work d (takeOff line)) .memory ≡ fitted m d line 0
+      → step m (work d (takeOff line)) .memory ≡ fitted m d line 0 0
   take-makes line y = rw (z, y) refl
 
   pub replace-makes : (t s : List ℕ)

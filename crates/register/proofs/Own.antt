@@ -1,7 +1,7 @@
 -- The checks that are a call's own: put, take off, save.
 use mathlib.Core.Path.{_≡_, refl, sym, _∙_}
-use mathlib.Core.Bool.{Bool, _&&_}
-use mathlib.Core.List.{List}
+use mathlib.Core.Bool.{Bool, true, false, _&&_}
+use mathlib.Core.List.{List, [], _∷_}
 use Prim.Native.Nat.{ℕ, _≤_, _<_}
 use native.Mathlib.Omega.{arith}
 use borrow.Author.Tests.{eqb-false, leb-true, le-leb, lt-leb, eq-eqb, ne-eqb}
@@ -9,8 +9,10 @@ use lib.Dec.{eqb, leb}
 use lib.ListN.{getD}
 use Rattle.ground.proofs.Booleans.{both-hold}
 use Rattle.answers.specs.Refusals.{outsideLimits, editedSince, editsSpent, emptyLine}
-use Rattle.sheet.specs.Lines.{fittings, fittingHigh}
+use Rattle.text.specs.Limit.{allHold}
+use Rattle.sheet.specs.Lines.{fittings, fitLine}
 use Rattle.sheet.specs.Places.{sheetWords, fittingWord}
+use Rattle.sheet.proofs.FitRow.{Pieces, line-fitted}
 use Rattle.memory.specs.Layout.{draftSheetAt, edit, draftHull, opening, draftSheet, fittingAt}
 use Rattle.memory.specs.Formed.{mostEdits}
 use Rattle.memory.proofs.Parts.{part-word}
@@ -19,45 +21,26 @@ use Rattle.register.proofs.Refusals.{passes, passes-not}
 
 -- ---- put a fitting
 
-abbrev fits : ℕ → ℕ → Bool
-fits line weight = leb 1 line && (leb line fittings && (leb 1 weight && leb weight fittingHigh))
+module _ (line weight count : ℕ) where
+  -- by what the code has found of the three numbers
+  module _ {held : Bool} (told : held ≡ allHold (fitLine .limits) 0 (line ∷ weight ∷ count ∷ [])) where
+    pub put-outside : held ≡ false → outsideLimits ≡ putOwn line weight count
+    put-outside e = rw (← told, e) refl
 
-module _ (line weight : ℕ) where
-  pub put-line-low : line < 1 → outsideLimits ≡ putOwn line weight
-  put-line-low l = rw (lt-leb 1 line l) refl
-
-  pub put-line-high : 1 ≤ line → fittings < line → outsideLimits ≡ putOwn line weight
-  put-line-high k l = rw (le-leb 1 line k, lt-leb line fittings l) refl
-
-  pub put-weight-low : 1 ≤ line → line ≤ fittings → weight < 1 → outsideLimits ≡ putOwn line weight
-  put-weight-low k j l = rw (le-leb 1 line k, le-leb line fittings j, lt-leb 1 weight l) refl
-
-  module _ (k : 1 ≤ line) (j : line ≤ fittings) (i : 1 ≤ weight) where
-    pub put-weight-high : fittingHigh < weight → outsideLimits ≡ putOwn line weight
-    put-weight-high l =
-        rw (le-leb 1 line k, le-leb line fittings j, le-leb 1 weight i, lt-leb weight fittingHigh l) refl
-
-    pub put-within : weight ≤ fittingHigh → 0 ≡ putOwn line weight
-    put-within l = rw (le-leb 1 line k, le-leb line fittings j, le-leb 1 weight i, le-leb weight fittingHigh l) refl
+    pub put-within : held ≡ true → 0 ≡ putOwn line weight count
+    put-within e = rw (← told, e) refl
 
   pub record PutFits : Type 0 where
     pub low : 1 ≤ line
     pub high : line ≤ fittings
-    pub some : 1 ≤ weight
-    pub most : weight ≤ fittingHigh
+    pub pieces : Pieces weight count
 
-  pub put-fits : putOwn line weight ≡ 0 → PutFits
+  pub put-fits : putOwn line weight count ≡ 0 → PutFits
   put-fits z =
-      let e = passes (fits line weight) _ outsideLimits refl z .0 in
-      let a = both-hold (leb 1 line) (leb line fittings && (leb 1 weight && leb weight fittingHigh)) e in
-      let b = both-hold (leb line fittings) (leb 1 weight && leb weight fittingHigh) (a .1) in
-      let c = both-hold (leb 1 weight) (leb weight fittingHigh) (b .1) in
-      record {
-        low = leb-true 1 line (a .0);
-        high = leb-true line fittings (b .0);
-        some = leb-true 1 weight (c .0);
-        most = leb-true weight fittingHigh (c .1);
-      }
+      let f =
+      line-fitted line weight count
+      (passes (allHold (fitLine .limits) 0 (line ∷ weight ∷ count ∷ [])) _ outsideLimits refl z .0) in
+      record { low = f .n-low; high = f .n-high; pieces = f .pieces }
 
 -- ---- take off a fitting
 

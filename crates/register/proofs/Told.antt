@@ -55,7 +55,7 @@ module _ (m : List ℕ) (d : ℕ) (t : List ℕ) (z : shared m (work d (replace 
 abbrev pub takesText : Call → Bool
 takesText (newHull t) = true
 takesText (openHull d h) = false
-takesText (work d w) = elim w [ put line weight ↦ false | takeOff line ↦ false | replace t ↦ true | tryPlate k ↦ false ]
+takesText (work d w) = elim w [ put line weight count ↦ false | takeOff line ↦ false | replace t ↦ true | tryPlate k ↦ false ]
 takesText (save d) = false
 takesText (dropDraft d) = false
 takesText (ask h q) = false
@@ -66,7 +66,7 @@ numbered-unplaced refusal a h = either Unplaced (eqb refusal 0) h refl
 own-unplaced : (m : List ℕ) (c : Call) → takesText c ≡ false → Unplaced (own m c)
 own-unplaced m (newHull t) n = absurd (true≢false n)
 own-unplaced m (openHull d h) n = refl
-own-unplaced m (work d (put line weight)) n = numbered-unplaced (putOwn line weight) Done refl
+own-unplaced m (work d (put line weight count)) n = numbered-unplaced (putOwn line weight count) Done refl
 own-unplaced m (work d (takeOff line)) n = numbered-unplaced (takeOwn (draftSheet m d) line) Done refl
 own-unplaced m (work d (replace t)) n = absurd (true≢false n)
 own-unplaced m (work d (tryPlate k)) n = plate-unplaced k (draftSheet m d)

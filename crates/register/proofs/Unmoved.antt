@@ -42,7 +42,7 @@ sheet-same t = go (sheet-alike t)
 own-unmoved : (m : List ℕ) (c : Call) → Unmoved (own m c) (formerOwn m c)
 own-unmoved m (newHull t) = text-unmoved t (Count (hullCount m))
 own-unmoved m (openHull d h) = same refl
-own-unmoved m (work d (put line weight)) = same refl
+own-unmoved m (work d (put line weight count)) = same refl
 own-unmoved m (work d (takeOff line)) = same refl
 own-unmoved m (work d (replace t)) = text-unmoved t Done
 own-unmoved m (work d (tryPlate k)) = same refl
@@ -54,7 +54,7 @@ own-unmoved m (ask h (write out)) = same refl
 makes-same : (m : List ℕ) (c : Call) → makes m c ≡ formerMakes m c
 makes-same m (newHull t) = ap (entered m) (sheet-same t)
 makes-same m (openHull d h) = refl
-makes-same m (work d (put line weight)) = refl
+makes-same m (work d (put line weight count)) = refl
 makes-same m (work d (takeOff line)) = refl
 makes-same m (work d (replace t)) = ap (replaced m d) (sheet-same t)
 makes-same m (work d (tryPlate k)) = refl
