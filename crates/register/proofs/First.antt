@@ -9,7 +9,7 @@ use native.Mathlib.Omega.{arith}
 use borrow.Author.Tests.{eqb-true, ne-eqb}
 use lib.Dec.{eqb, leb, ltb}
 use lib.ListN.{length}
-use Rattle.answers.specs.Refusals.{badMemory, outsideLimits, noRoom}
+use Rattle.answers.specs.Refusals.{badMemory, outsideLimits}
 use Rattle.answers.specs.declared.Answer.{Answer}
 use Rattle.answers.specs.declared.Answer.the-variants.{Refused, RefusedAt, Done, Count, Plate}
 use Rattle.ground.proofs.Booleans.{either}

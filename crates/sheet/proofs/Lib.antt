@@ -25,6 +25,7 @@ pub mod BaseHull  -- 01's printed sheet as a text, with some of its lines given
 pub mod Examples  -- worked texts of sheets, computed
 pub mod EngineExamples  -- and of engine rows
 pub mod PlaceFigures  -- where texts are wrong, computed: figures by hand, and a text stopped and spoilt at each byte
+pub mod OldTexts  -- texts of before are read as they were
 pub mod FitFigures  -- FIT lines of two numbers and of three, computed
 pub mod LimitTable  -- the table of limits once more, and a text with the place of each number
 pub mod Ends  -- both ends of every limit, computed
