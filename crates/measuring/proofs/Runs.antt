@@ -7,7 +7,8 @@ use native.Mathlib.Omega.{arith}
 use borrow.Author.Needs.{needs}
 use lib.ListN.{length, take, drop, getD, replicate}
 use Rattle.text.specs.Limit.{Limit, allHold, limitOf, limitsOf, fromZero}
-use Rattle.sheet.specs.Sheet.{limitsOn, sheetLimits, limitRows}
+use Rattle.sheet.specs.Sheet.{limitsOn, limitRows}
+use Rattle.sheet.proofs.Held.{opens}
 use Rattle.sheet.specs.Places.{lengthAt, readings, stations, stationAt, aftAt, bareAt, fittingsAt, sheetWords}
 use Rattle.measuring.specs.Part.{wordRows, partOk, AlikePart}
 use Rattle.measuring.proofs.Parts.{Parting, part-long, second-tells}
@@ -33,7 +34,7 @@ pub run-judged : {rows : List (List ℕ)}
     (take (end - at) (drop at ws)) ≡ partOk ws at end
 unfolding partOk
 run-judged e ws n {at} {end} r =
-    rw (e, part-long ws at end n (r .places), r .alike, limits-alike (end - at) (getD wordRows at []))
+    rw (e, part-long ws at end (omega arith) (r .places), r .alike, limits-alike (end - at) (getD wordRows at []))
 
 -- ---- a station
 
@@ -41,10 +42,10 @@ pub record Station (at : ℕ) : Type 0 where
   pub b : AlikePart at (at + 1)
   pub others : AlikePart (at + 1) (at + readings)
   pub within : Parting at (at + 1) (at + readings)
-  pub after : Parting at (at + readings) sheetWords
+  pub after : Parting at (at + readings) fittingsAt
 
 pub station : (k : ℕ) → k < stations → Station (stationAt k)
-unfolding limitRows sheetLimits limitsOn fromZero
+unfolding limitRows limitsOn fromZero opens
 station zero h = search needs
 station (suc zero) h = search needs
 station (suc (suc zero)) h = search needs
@@ -53,29 +54,21 @@ station (suc (suc (suc (suc k)))) h = absurd (omega arith)
 
 pub station-more : (ws : List ℕ) → length ws ≡ sheetWords → (k : ℕ) → k < stations
     → {first : Bool} → first ≡ partOk ws (stationAt k) (stationAt k + readings) → first ≡ true
-    → partOk ws (stationAt k) sheetWords ≡ partOk ws (stationAt (k + 1)) sheetWords
+    → partOk ws (stationAt k) fittingsAt ≡ partOk ws (stationAt (k + 1)) fittingsAt
 station-more ws n k h e p =
     let next : stationAt k + readings ≡ stationAt (k + 1) = omega arith in
-    sym (second-tells (station k h .after) ws n e p refl) ∙ ap (λ (i : ℕ). partOk ws i sheetWords) next
+    sym (second-tells (station k h .after) ws n e p refl) ∙ ap (λ (i : ℕ). partOk ws i fittingsAt) next
 
 -- ---- the other lines
 
 pub vol-run : AlikePart aftAt bareAt
-unfolding limitRows sheetLimits limitsOn fromZero
+unfolding limitRows limitsOn fromZero opens
 vol-run = search needs
 
-pub fitted-run : AlikePart fittingsAt sheetWords
-unfolding limitRows sheetLimits limitsOn fromZero
-fitted-run = search needs
-
-pub form-parts : Parting lengthAt (stationAt 0) sheetWords
-unfolding limitRows sheetLimits limitsOn
+pub form-parts : Parting lengthAt (stationAt 0) fittingsAt
+unfolding limitRows limitsOn opens
 form-parts = search needs
 
-pub vol-parts : Parting aftAt bareAt sheetWords
-unfolding limitRows sheetLimits limitsOn
+pub vol-parts : Parting aftAt bareAt fittingsAt
+unfolding limitRows limitsOn opens
 vol-parts = search needs
-
-pub mass-parts : Parting bareAt fittingsAt sheetWords
-unfolding limitRows sheetLimits limitsOn
-mass-parts = search needs

@@ -1,4 +1,4 @@
--- A part of a sheet's words, without its HULL number: those from one place up to another.
+-- A part of a sheet's words, without its HULL number: those from one place up to another, before the fittings.
 use Prim.Native.Nat.{ℕ, _-_, _≤_, _<_}
 use mathlib.Core.Path.{_≡_}
 use mathlib.Core.Bool.{Bool, true}
@@ -6,9 +6,9 @@ use mathlib.Core.List.{List, []}
 use lib.ListN.{length, getD, take, drop, replicate}
 use Rattle.text.specs.Limit.{allHold, limitOf, limitsOf, fromZero}
 use Rattle.sheet.specs.Sheet.{limitRows}
-use Rattle.sheet.specs.Places.{sheetWords}
+use Rattle.sheet.specs.Places.{fittingsAt, sheetWords}
 
--- the rows of the table for the words
+-- the rows of the table for those words
 abbrev pub wordRows : List (List ℕ)
 wordRows = drop 1 limitRows
 
@@ -21,10 +21,10 @@ pub record Lent (rows : List (List ℕ)) (ws : List ℕ) : Type 0 where
   pub table : rows ≡ wordRows
   pub words : length ws ≡ sheetWords
 
--- places that the words have
+-- places that they have
 pub record WordPart (at end : ℕ) : Type 0 where
   pub order : at < end
-  pub most : end ≤ sheetWords
+  pub most : end ≤ fittingsAt
 
 -- places whose rows are alike, with a range that goes down to 0
 pub record AlikePart (at end : ℕ) : Type 0 where

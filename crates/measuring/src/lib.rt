@@ -1,18 +1,21 @@
 // Whether the numbers of a sheet are within their limits: the quick check that the register and the writer make. Words
-// of alike limits are judged together, by the greatest of them.
+// of alike limits are judged together, by the greatest of them, and fittings line by line.
 ghost use mathlib.Core.Path.{_≡_};
-ghost use Prim.Native.Nat.{_+_, _<_};
+ghost use Prim.Native.Nat.{_+_, _*_, _<_};
 ghost use lib.ListN.{length};
-ghost use Rattle.sheet.specs.Sheet.{wordsOk, sheetOk};
-ghost use Rattle.sheet.specs.Places.{readings, stations, stationAt, aftAt, sheetWords, textWords};
+ghost use Rattle.sheet.specs.Lines.{fittings};
+ghost use Rattle.sheet.specs.Sheet.{fitOk, fitsOk, wordsOk, sheetOk};
+ghost use Rattle.sheet.specs.Places.{readings, stations, stationAt, aftAt, fittingsAt, sheetWords, textWords};
 ghost use Rattle.measuring.specs.Part.{partOk, Lent, WordPart, AlikePart};
 use sheet::AFT;
 use sheet::BARE;
 use sheet::FITTED;
+use sheet::FITTING_COUNT;
+use sheet::FITTING_HIGH;
+use sheet::FITTINGS;
 use sheet::LENGTH;
 use sheet::LIMITS;
 use sheet::READINGS;
-use sheet::SHEET_WORDS;
 use sheet::STATION_Q;
 use text::Limit;
 
@@ -48,23 +51,22 @@ fn station_ok(limits: &[Limit], words: &[u32], station: usize) -> bool
     }
 }
 
-// The same from the line VOL to the end: MASS, PWR and SEAT have limits of many kinds.
+// The same from the line VOL up to the fittings: MASS, PWR and SEAT have limits of many kinds.
 fn from_vol(limits: &[Limit], words: &[u32]) -> bool
     requires { ⌜ Lent (now limits) (now words) ⌝ }
-    ensures { λ r. ⌜ r ≡ partOk (now (words .entry)) aftAt sheetWords ⌝ }
+    ensures { λ r. ⌜ r ≡ partOk (now (words .entry)) aftAt fittingsAt ⌝ }
 {
     if run_ok(limits, words, AFT, BARE) {
-        if part_ok(limits, words, BARE, FITTED) {
-            return run_ok(limits, words, FITTED, SHEET_WORDS);
-        }
+        part_ok(limits, words, BARE, FITTED)
+    } else {
+        false
     }
-    false
 }
 
-// The same from the first station to the end.
+// The same from the first station up to the fittings.
 fn from_stations(limits: &[Limit], words: &[u32]) -> bool
     requires { ⌜ Lent (now limits) (now words) ⌝ }
-    ensures { λ r. ⌜ r ≡ partOk (now (words .entry)) (stationAt 0) sheetWords ⌝ }
+    ensures { λ r. ⌜ r ≡ partOk (now (words .entry)) (stationAt 0) fittingsAt ⌝ }
 {
     let mut station = 0;
     while station < STATIONS {
@@ -77,6 +79,39 @@ fn from_stations(limits: &[Limit], words: &[u32]) -> bool
     from_vol(limits, words)
 }
 
+// Whether a fitting line is empty, or its weight and count are within their limits. One piece is no heavier than all,
+// so that the weight of all tells.
+fn fit_ok(weight: u32, count: u32) -> bool
+    ensures { λ r. ⌜ r ≡ fitOk weight count ⌝ }
+{
+    if weight == 0 {
+        return count == 0;
+    }
+    if count == 0 {
+        return false;
+    }
+    if count > FITTING_COUNT {
+        return false;
+    }
+    weight as u64 * count as u64 <= FITTING_HIGH as u64
+}
+
+// The same of all fitting lines.
+fn fits_ok(fits: &[u32]) -> bool
+    requires { ⌜ length (now fits) ≡ 2 * fittings ⌝ }
+    ensures { λ r. ⌜ r ≡ fitsOk fittings (now (fits .entry)) ⌝ }
+{
+    let mut line = 0;
+    while line < FITTINGS {
+        if fit_ok(fits[2 * line], fits[2 * line + 1]) {
+            line += 1;
+        } else {
+            return false;
+        }
+    }
+    true
+}
+
 // Whether the words of a sheet, without its HULL number, are within their limits.
 pub fn words_ok(words: &[u32]) -> bool
     requires { ⌜ length (now words) ≡ sheetWords ⌝ }
@@ -86,10 +121,11 @@ pub fn words_ok(words: &[u32]) -> bool
     let words = &words[..];
     let limits = LIMITS;
     if part_ok(&limits[1..], words, LENGTH, STATION_Q) {
-        from_stations(&limits[1..], words)
-    } else {
-        false
+        if from_stations(&limits[1..], words) {
+            return fits_ok(&words[FITTED..]);
+        }
     }
+    false
 }
 
 // Whether a sheet's numbers, its HULL number first, are within their limits.

@@ -1,7 +1,7 @@
 -- `from_stations` meets its contract.
 use mathlib.Core.Path.{_≡_, refl, sym, ap, _∙_}
 use Prim.Native.Nat.{ℕ, _-_, _≤_}
-use Rattle.sheet.specs.Places.{stations, stationAt, sheetWords}
+use Rattle.sheet.specs.Places.{stations, stationAt, fittingsAt}
 use Rattle.measuring.specs.Part.{partOk}
 use Rattle.measuring.proofs.Parts.{first-fails}
 use Rattle.measuring.proofs.Runs.{station, station-more}
@@ -12,7 +12,7 @@ use Rattle.measuring.proofs.from_stations.Tie as tie
 
 abbrev Inv-loop : tie.InvT-loop
 Inv-loop limits words station₀ station =
-    (station ≤ stations) × (partOk words (stationAt 0) sheetWords ≡ partOk words (stationAt station) sheetWords)
+    (station ≤ stations) × (partOk words (stationAt 0) fittingsAt ≡ partOk words (stationAt station) fittingsAt)
 
 abbrev μ-loop : tie.MeasureT-loop
 μ-loop limits words station₀ station = stations - station
@@ -38,7 +38,7 @@ returns-2 c =
     let at-loop = c .before .before in
     let all : at-loop .loop .station ≡ stations = omega (arith, at-loop .loop .inv .0, c .before .loop-test .left) in
     let words = at-loop .before .before .args .words .now in
-    c .from-vol .ensures ∙ sym (at-loop .loop .inv .1 ∙ ap (λ (k : ℕ). partOk words (stationAt k) sheetWords) all)
+    c .from-vol .ensures ∙ sym (at-loop .loop .inv .1 ∙ ap (λ (k : ℕ). partOk words (stationAt k) fittingsAt) all)
 
 pub from-stations-spec : {M : Type 1} → statement M
 from-stations-spec =
