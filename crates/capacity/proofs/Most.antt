@@ -20,7 +20,7 @@ use Rattle.capacity.specs.PlateA.{halfMarked, markedA}
 use Rattle.capacity.specs.Highs.{highAt, Stations, heaviest}
 use Rattle.capacity.proofs.Volume.{productMost, product-most}
 use Rattle.capacity.proofs.Within.{aft-most, well-most, flooding-most, bare-most, fuel-most, machinery-most}
-use Rattle.capacity.proofs.Within.{words-many, fittings-within, stations-within}
+use Rattle.capacity.proofs.Within.{fittings-within, stations-within}
 use Rattle.capacity.proofs.Weights.{sum-most}
 use Rattle.capacity.proofs.Loads.{gain, loss, vessel, inboardVessel, wholePart}
 use Rattle.capacity.proofs.Loads.{marked-high, marked-low, marked-outboard, marked-inboard}
@@ -67,8 +67,7 @@ module _ (s : List ℕ) (ok : wordsOk s ≡ true) where
   pub weight-most : inboardVessel s ≤ heaviest
   unfolding boatM
   weight-most =
-      let fitted = sum-most s (fittings-within s ok) (words-many s ok) in
-      omega (arith, bare-most s ok, fuel-most s ok, machinery-most s ok)
+      omega (arith, sum-most s (fittings-within s ok), bare-most s ok, fuel-most s ok, machinery-most s ok)
 
   pub loss-most : {w : ℕ} → w ≤ heaviest → loss w s ≤ lossMost
   loss-most h = omega (arith, well-most s ok, flooding-most s ok)

@@ -102,5 +102,5 @@ module _ (s : List ℕ) (w : Fittings (fittingsOf s)) where
   lines-most zero = omega arith
   lines-most (suc k) = omega (arith, line-most (suc k) (omega arith), lines-most k)
 
-  pub sum-most : length s ≡ sheetWords → addedUp (fittingsOf s) ≤ fittingHigh * fittings
-  sum-most n = omega (arith, f-sum s n, lines-most fittings)
+  pub sum-most : addedUp (fittingsOf s) ≤ fittingHigh * fittings
+  sum-most = omega (arith, f-sum s (omega (arith, w .many, length-drop fittingsAt s)), lines-most fittings)

@@ -1,23 +1,21 @@
--- What a sheet within the limits keeps to: how many words it has, and the most that each may be. Each law takes the
--- sheet and that it is within the limits, so that
--- `omega` finds both by itself where it is handed the law's name.
+-- What a sheet within the limits keeps to: the most that each word may be. Each law takes the sheet and that it is
+-- within the limits, so that `omega` finds both by itself where it is handed the law's name.
 use mathlib.Core.Path.{_≡_, refl, sym, _∙_}
 use mathlib.Core.Bool.{true, false}
 use mathlib.Core.List.{List, [], _∷_, map}
 use Prim.Native.Nat.{ℕ, zero, suc, _+_, _≤_, _<_}
 use native.Mathlib.Omega.{arith}
-use lib.ListN.{length, getD, take, drop}
+use lib.ListN.{getD, take, drop}
 use lib.Seq.{getD-take, getD-drop}
 use Rattle.text.specs.Limit.{Limit, isNone, holds, allHold}
 use Rattle.ground.proofs.Booleans.{both-hold, false-true, by-test}
-use Rattle.text.proofs.Limit.{full, within-high, holds-within, none-zero}
+use Rattle.text.proofs.Limit.{within-high, holds-within, none-zero}
 use Rattle.sheet.specs.Lines.{lines, fittings}
 use Rattle.sheet.specs.Sheet.{limitsOn, fitsOk, wordsOk}
 use Rattle.sheet.specs.Places.{lengthAt, referenceAt, transomWidthAt, readings, stationAt, aftAt, wellAt}
 use Rattle.sheet.specs.Places.{floodingAt}
-use Rattle.sheet.specs.Places.{bareAt, fuelAt, machineryAt, positionsAt, fittingsAt, sheetWords}
-use Rattle.sheet.proofs.Held.{opens, linesOpen, ok-run}
-use Rattle.sheet.proofs.Full.{linesFull, ok-length}
+use Rattle.sheet.specs.Places.{bareAt, fuelAt, machineryAt, positionsAt, fittingsAt}
+use Rattle.sheet.proofs.Words.{words-length, words-run}
 use Rattle.capacity.specs.Words.{hullLength, reference, transomWidth, station, aft, well, flooding, bare, fuel}
 use Rattle.capacity.specs.Words.{machinery}
 use Rattle.capacity.specs.Words.{positions, fittingsOf}
@@ -40,16 +38,10 @@ at-most (l ∷ ls) last (n ∷ ns) e zero = holds-high l last n (both-hold (hold
 at-most (l ∷ ls) last (n ∷ ns) e (suc k) = at-most ls n ns (both-hold (holds l last n) (allHold ls n ns) e .1) k
 
 module _ (s : List ℕ) (ok : wordsOk s ≡ true) where
-  pub words-many : length s ≡ sheetWords
-  unfolding limitsOn linesFull full
-  words-many = ok-length (drop 1 lines) s refl ok
-
-  -- by the limits of the lines before the fittings in one run, and then the fittings
-  run : ((allHold (limitsOn (drop 1 lines)) 0 (take fittingsAt s)) ≡ true) × (fitsOk fittings (fittingsOf s) ≡ true)
-  unfolding limitsOn linesOpen opens
+  run : (allHold (limitsOn (drop 1 lines)) 0 (take fittingsAt s) ≡ true) × (fitsOk fittings (fittingsOf s) ≡ true)
   run =
       both-hold (allHold (limitsOn (drop 1 lines)) 0 (take fittingsAt s)) (fitsOk fittings (fittingsOf s))
-      (sym (ok-run (drop 1 lines) s refl (omega (arith, words-many))) ∙ ok)
+      (sym (words-run s (words-length s ok)) ∙ ok)
 
   pub word-most : (place : ℕ) → place < fittingsAt → getD s place 0 ≤ highAt place
   unfolding limitsOn

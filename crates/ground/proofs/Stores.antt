@@ -33,12 +33,12 @@ sets-min l i xs =
     let m : min i (length l) ≡ i = omega arith in
     ap (λ (k : ℕ). sets l k xs) m)
 
--- the stores into the part from n on, seen from the whole
-drop-sets : (l : List ℕ) (n i : ℕ) (xs : List ℕ) → drop n (sets l (n + i) xs) ≡ sets (drop n l) i xs
+-- the stores into the part from n on, seen from the whole; the part before them is as it was
+pub drop-sets : (l : List ℕ) (n i : ℕ) (xs : List ℕ) → drop n (sets l (n + i) xs) ≡ sets (drop n l) i xs
 drop-sets l n i [] = refl
 drop-sets l n i (x ∷ xs) = rw (← add-suc n i) (drop-sets (set l (n + i) x) n (suc i) xs ∙ rw (drop-set-add n l i x))
 
-take-sets : (l : List ℕ) (n i : ℕ) (xs : List ℕ) → n ≤ i → take n (sets l i xs) ≡ take n l
+pub take-sets : (l : List ℕ) (n i : ℕ) (xs : List ℕ) → n ≤ i → take n (sets l i xs) ≡ take n l
 take-sets l n i [] h = refl
 take-sets l n i (x ∷ xs) h = take-sets (set l i x) n (suc i) xs (omega arith) ∙ take-set-le n l i x h
 

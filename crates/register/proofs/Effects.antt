@@ -17,7 +17,7 @@ use Rattle.sheet.specs.SheetText.{readSheet}
 use Rattle.memory.specs.Layout.{registerWords, draftSheet}
 use Rattle.memory.specs.Updates.{freshWords}
 use Rattle.memory.proofs.Sound.{sound}
-use Rattle.memory.proofs.Fittings.{words-length}
+use Rattle.sheet.proofs.Words.{words-length}
 use Rattle.memory.proofs.Changes.{EnteredChanges, entered-changes, OpenedChanges, opened-changes, SavedChanges}
 use Rattle.memory.proofs.Changes.{saved-changes}
 use Rattle.memory.proofs.Changes.{FittedChanges, fitted-changes, ReplacedChanges, replaced-changes, DroppedChanges}

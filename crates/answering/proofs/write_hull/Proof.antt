@@ -1,5 +1,5 @@
 -- `write_hull` meets its contract.
-use Rattle.capacity.proofs.Within.{words-many}
+use Rattle.sheet.proofs.Words.{words-length}
 use Rattle.answering.proofs.Sheets.{hull-ok, written-given}
 use Rattle.answering.proofs.Settling.{refused}
 use borrow.Author.Needs.{needs}
@@ -11,7 +11,7 @@ returns c = refused (c .before .hull-refusal .ensures) _ _ (c .if1 .taken)
 
 numbered-requires : tie.Need-numbered-requires
 numbered-requires c κs =
-    words-many _
+    words-length _
     (hull-ok _ _ (c .before .before .hull-refusal .ensures) (c .before .if1 .left) (c .hull-sheet .ensures))
 
 returns-2 : tie.Need-returns-2

@@ -1,7 +1,7 @@
 -- `engine_weight` meets its contract.
 use mathlib.Core.Path.{refl, sym, _∙_}
 use Rattle.capacity.proofs.Engines.{weight-unwanted, weight-wanted, weight-past}
-use Rattle.capacity.proofs.Within.{words-many}
+use Rattle.sheet.proofs.Words.{words-length}
 use native.Mathlib.Omega.{arith}
 use borrow.Author.Needs.{needs}
 use Rattle.figuring.proofs.engines.engine_weight.Statement.{statement}
@@ -25,5 +25,5 @@ returns-3 c = weight-unwanted _ _ _ (sym (c .before .wants-row .ensures) ∙ c .
 pub engine-weight-spec : {M : Type 1} → statement M
 engine-weight-spec =
     tie.close
-    (tie.spec (λ c κs. search needs) (omega (arith, words-many)) (search needs) (search needs)
+    (tie.spec (λ c κs. search needs) (omega (arith, words-length)) (search needs) (search needs)
     (search needs) returns returns-2 returns-3)

@@ -1,7 +1,7 @@
 -- `lacks_row` meets its contract.
 use mathlib.Core.Path.{refl, sym, _∙_}
 use Rattle.capacity.proofs.Engines.{row-unwanted, row-wanted}
-use Rattle.capacity.proofs.Within.{words-many}
+use Rattle.sheet.proofs.Words.{words-length}
 use native.Mathlib.Omega.{arith}
 use borrow.Author.Needs.{needs}
 use Rattle.figuring.proofs.engines.lacks_row.Statement.{statement}
@@ -18,4 +18,4 @@ returns-2 c = row-unwanted _ _ (sym (c .before .wants-row .ensures) ∙ c .if1 .
 pub lacks-row-spec : {M : Type 1} → statement M
 lacks-row-spec =
     tie.close
-    (tie.spec (λ c κs. search needs) (omega (arith, words-many)) (search needs) returns returns-2)
+    (tie.spec (λ c κs. search needs) (omega (arith, words-length)) (search needs) returns returns-2)

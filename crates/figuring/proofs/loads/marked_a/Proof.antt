@@ -1,5 +1,5 @@
 -- `marked_a` meets its contract.
-use Rattle.capacity.proofs.Within.{words-many}
+use Rattle.sheet.proofs.Words.{words-length}
 use Rattle.capacity.proofs.Loads.{marked-outboard, marked-inboard}
 use Rattle.capacity.proofs.Most.{gain-most, weight-most}
 use borrow.Author.Tests.{eq-eqb, ne-eqb}
@@ -17,8 +17,8 @@ returns-2 c = cc (marked-inboard _ (ne-eqb _ _ (c .before .before .if1 .left)))
 pub marked-a-spec : {M : Type 1} → statement M
 marked-a-spec =
     tie.close
-    (tie.spec (λ c κs. search needs) (omega (arith, gain-most)) (λ c κs. search needs) (omega (arith, words-many))
-    (omega (arith, words-many)) (omega (arith, weight-most))
-    (λ c κs. (omega (arith, words-many), omega (arith, weight-most))) (search needs) (omega (arith, weight-most))
-    (omega (arith, weight-most)) (λ c κs. (omega (arith, words-many), omega (arith, weight-most))) (search needs)
+    (tie.spec (λ c κs. search needs) (omega (arith, gain-most)) (λ c κs. search needs) (omega (arith, words-length))
+    (omega (arith, words-length)) (omega (arith, weight-most))
+    (λ c κs. (omega (arith, words-length), omega (arith, weight-most))) (search needs) (omega (arith, weight-most))
+    (omega (arith, weight-most)) (λ c κs. (omega (arith, words-length), omega (arith, weight-most))) (search needs)
     returns returns-2)

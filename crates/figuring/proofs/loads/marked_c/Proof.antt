@@ -1,5 +1,5 @@
 -- `marked_c` meets its contract.
-use Rattle.capacity.proofs.Within.{words-many}
+use Rattle.sheet.proofs.Words.{words-length}
 use Rattle.capacity.proofs.Loads.{marked-high, marked-low}
 use Rattle.capacity.proofs.Most.{gain-most, weight-most, lost-most}
 use native.Mathlib.Omega.{arith}
@@ -10,7 +10,7 @@ use Rattle.figuring.proofs.loads.marked_c.Tie as tie
 pub marked-c-spec : {M : Type 1} → statement M
 marked-c-spec =
     tie.close
-    (tie.spec (λ c κs. search needs) (λ c κs. search needs) (omega (arith, words-many)) (omega (arith, weight-most))
-    (λ c κs. (omega (arith, words-many), omega (arith, weight-most))) (omega (arith, words-many)) (search needs)
+    (tie.spec (λ c κs. search needs) (λ c κs. search needs) (omega (arith, words-length)) (omega (arith, weight-most))
+    (λ c κs. (omega (arith, words-length), omega (arith, weight-most))) (omega (arith, words-length)) (search needs)
     (omega (arith, gain-most)) (omega (arith, lost-most)) (search needs) (search needs)
     (λ c. cc (marked-high _ (c .before .if1 .taken))) (λ c. cc (marked-low _ (c .before .if1 .left))))

@@ -1,7 +1,7 @@
 -- `persons_for` meets its contract.
 use Rattle.capacity.proofs.Persons.{persons-untested, persons-tested}
 use borrow.Author.Tests.{eq-eqb, ne-eqb}
-use Rattle.capacity.proofs.Within.{words-many}
+use Rattle.sheet.proofs.Words.{words-length}
 use native.Mathlib.Omega.{arith}
 use borrow.Author.Needs.{needs}
 use Rattle.figuring.proofs.persons.persons_for.Statement.{statement}
@@ -13,6 +13,6 @@ returns-2 c = cc (persons-tested _ _ (ne-eqb _ _ (c .before .before .before .if1
 pub persons-for-spec : {M : Type 1} → statement M
 persons-for-spec =
     tie.close
-    (tie.spec (search needs) (omega (arith, words-many)) (search needs) (search needs) (omega (arith, words-many))
-    (omega (arith, words-many)) (search needs) (search needs)
+    (tie.spec (search needs) (omega (arith, words-length)) (search needs) (search needs) (omega (arith, words-length))
+    (omega (arith, words-length)) (search needs) (search needs)
     (λ c. cc (persons-untested _ _ (eq-eqb _ _ (c .if1 .taken)))) returns-2)

@@ -1,5 +1,5 @@
 -- `marked_u` meets its contract.
-use Rattle.capacity.proofs.Within.{words-many}
+use Rattle.sheet.proofs.Words.{words-length}
 use Rattle.capacity.proofs.Most.{weight-most}
 use Rattle.capacity.proofs.PoundsWorked.{marked-fifth, marked-tenths, marked-greater}
 use borrow.Author.Tests.{eq-eqb, ne-eqb}
@@ -20,9 +20,9 @@ returns-3 c = cc (marked-greater _ (ne-eqb _ _ (c .before .before .before .befor
 pub marked-u-spec : {M : Type 1} → statement M
 marked-u-spec =
     tie.close
-    (tie.spec (λ c κs. search needs) (λ c κs. search needs) (omega (arith, words-many)) (search needs)
-    (omega (arith, weight-most)) (omega (arith, words-many)) (omega (arith, words-many))
+    (tie.spec (λ c κs. search needs) (λ c κs. search needs) (omega (arith, words-length)) (search needs)
+    (omega (arith, weight-most)) (omega (arith, words-length)) (omega (arith, words-length))
     (λ c κs. (search needs, omega (arith, weight-most))) (λ c κs. (search needs, omega (arith, weight-most)))
-    (omega (arith, words-many)) (search needs) (search needs) (omega (arith, weight-most))
+    (omega (arith, words-length)) (search needs) (search needs) (omega (arith, weight-most))
     (λ c κs. (search needs, omega (arith, weight-most))) (λ c κs. (search needs, omega (arith, weight-most)))
     (search needs) returns returns-2 returns-3)

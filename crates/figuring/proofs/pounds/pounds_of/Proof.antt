@@ -5,7 +5,7 @@ use native.Mathlib.Nat.{lt-of-le-of-lt}
 use lib.Dec.{lit<}
 use Rattle.capacity.specs.PlateU.{figure, finer}
 use Rattle.capacity.proofs.Most.{gainMost, lossMost}
-use Rattle.capacity.proofs.Within.{words-many}
+use Rattle.sheet.proofs.Words.{words-length}
 use Rattle.capacity.proofs.PoundsWorked.{pounds-are, gain-fine, loss-fine}
 use native.Mathlib.Omega.{arith}
 use borrow.Author.Needs.{needs}
@@ -37,5 +37,5 @@ returns c =
 pub pounds-of-spec : {M : Type 1} → statement M
 pounds-of-spec =
     tie.close
-    (tie.spec (search needs) mul-whole-part (λ c κs. (omega (arith, words-many), c .before .pre .1 .grams-most))
+    (tie.spec (search needs) mul-whole-part (λ c κs. (omega (arith, words-length), c .before .pre .1 .grams-most))
     mul-whole-part-2 (search needs) (search needs) returns)

@@ -7,7 +7,7 @@ use Rattle.capacity.specs.Words.{remote, transomHeight}
 use Rattle.capacity.proofs.Power.{factor-most, by-remote, by-flat, by-chine}
 use Rattle.ground.proofs.Booleans.{first-fails, second-fails}
 use borrow.Author.Tests.{eq-eqb, ne-eqb}
-use Rattle.capacity.proofs.Within.{words-many}
+use Rattle.sheet.proofs.Words.{words-length}
 use native.Mathlib.Omega.{arith}
 use borrow.Author.Needs.{needs}
 use Rattle.figuring.proofs.power.formula_watts.Statement.{statement}
@@ -43,8 +43,8 @@ returns-3 c =
 pub formula-watts-spec : {M : Type 1} → statement M
 formula-watts-spec =
     tie.close
-    (tie.spec (omega (arith, words-many)) (omega (arith, words-many)) (omega (arith, factor-most))
-    (search needs) (omega (arith, factor-most)) (omega (arith, words-many))
+    (tie.spec (omega (arith, words-length)) (omega (arith, words-length)) (omega (arith, factor-most))
+    (search needs) (omega (arith, factor-most)) (omega (arith, words-length))
     (omega (arith, factor-most)) (search needs) (omega (arith, factor-most))
     (omega (arith, factor-most)) (search needs) (omega (arith, factor-most)) returns returns-2
     returns-3)

@@ -6,7 +6,7 @@ use lib.Dec.{lit<}
 use Rattle.capacity.specs.PlateA.{factorP}
 use Rattle.capacity.proofs.Power.{factor-is, factor-most, first-row, inboard-powered, round-powered}
 use borrow.Author.Tests.{eq-eqb, ne-eqb}
-use Rattle.capacity.proofs.Within.{words-many}
+use Rattle.sheet.proofs.Words.{words-length}
 use native.Mathlib.Omega.{arith}
 use borrow.Author.Needs.{needs}
 use Rattle.figuring.proofs.power.lacks_power.Statement.{statement}
@@ -45,5 +45,5 @@ returns-3 c =
 pub lacks-power-spec : {M : Type 1} → statement M
 lacks-power-spec =
     tie.close
-    (tie.spec (omega (arith, words-many)) (search needs) (omega (arith, words-many)) (search needs)
-    mul-p (omega (arith, words-many)) (omega (arith, words-many)) returns returns-2 returns-3)
+    (tie.spec (omega (arith, words-length)) (search needs) (omega (arith, words-length)) (search needs)
+    mul-p (omega (arith, words-length)) (omega (arith, words-length)) returns returns-2 returns-3)

@@ -6,7 +6,7 @@ use lib.Dec.{lit<}
 use Rattle.capacity.specs.PlateA.{factorP}
 use Rattle.capacity.proofs.Power.{factor-is, factor-most, no-outboard, by-formula, by-row}
 use borrow.Author.Tests.{eq-eqb, ne-eqb}
-use Rattle.capacity.proofs.Within.{words-many}
+use Rattle.sheet.proofs.Words.{words-length}
 use native.Mathlib.Omega.{arith}
 use borrow.Author.Needs.{needs}
 use Rattle.figuring.proofs.power.power_a.Statement.{statement}
@@ -44,6 +44,6 @@ returns-3 c =
 pub power-a-spec : {M : Type 1} → statement M
 power-a-spec =
     tie.close
-    (tie.spec (omega (arith, words-many)) (search needs) (omega (arith, words-many)) (search needs) mul-p
-    (omega (arith, words-many)) formula-watts-requires (omega (arith, words-many)) (search needs) (search needs)
+    (tie.spec (omega (arith, words-length)) (search needs) (omega (arith, words-length)) (search needs) mul-p
+    (omega (arith, words-length)) formula-watts-requires (omega (arith, words-length)) (search needs) (search needs)
     (λ c. no-outboard _ (eq-eqb _ _ (c .if1 .taken))) returns-2 returns-3)

@@ -1,6 +1,7 @@
 -- `gain_of` meets its contract.
 use Rattle.capacity.specs.Volume.{volumeN}
-use Rattle.capacity.proofs.Within.{words-many, aft-most, stations-within}
+use Rattle.sheet.proofs.Words.{words-length}
+use Rattle.capacity.proofs.Within.{aft-most, stations-within}
 use Rattle.capacity.proofs.Most.{gain-most}
 use native.Mathlib.Omega.{arith}
 use borrow.Author.Needs.{needs}
@@ -14,7 +15,7 @@ returns c = cc
 pub gain-of-spec : {M : Type 1} → statement M
 gain-of-spec =
     tie.close
-    (tie.spec (omega (arith, words-many)) (omega (arith, words-many)) (omega (arith, words-many))
-    (omega (arith, words-many)) (omega (arith, words-many)) (λ c κs. search stations-within)
-    (omega (arith, words-many)) (search needs) (omega (arith, aft-most)) (λ c. omega (arith, returns c, gain-most))
+    (tie.spec (omega (arith, words-length)) (omega (arith, words-length)) (omega (arith, words-length))
+    (omega (arith, words-length)) (omega (arith, words-length)) (λ c κs. search stations-within)
+    (omega (arith, words-length)) (search needs) (omega (arith, aft-most)) (λ c. omega (arith, returns c, gain-most))
     returns)

@@ -3,7 +3,8 @@ use mathlib.Core.Path.{ap, _∙_}
 use Rattle.ground.proofs.Stores.{rest-part}
 use Rattle.sheet.specs.Places.{fittingsAt}
 use Rattle.capacity.specs.Weights.{addedUp}
-use Rattle.capacity.proofs.Within.{words-many, fittings-within}
+use Rattle.sheet.proofs.Words.{words-length}
+use Rattle.capacity.proofs.Within.{fittings-within}
 use Rattle.capacity.proofs.Loads.{boat-is}
 use Rattle.capacity.proofs.Most.{weight-most}
 use native.Mathlib.Omega.{arith}
@@ -22,5 +23,5 @@ returns c =
 pub boat-of-spec : {M : Type 1} → statement M
 boat-of-spec =
     tie.close
-    (tie.spec (omega (arith, words-many)) (search needs) (omega (arith, words-many)) (omega (arith, words-many))
+    (tie.spec (omega (arith, words-length)) (search needs) (omega (arith, words-length)) (omega (arith, words-length))
     (search needs) fittings-weight-requires (λ c. omega (arith, returns c, weight-most)) returns)
