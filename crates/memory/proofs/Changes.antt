@@ -3,7 +3,7 @@ use mathlib.Core.Path.{_≡_, _∙_}
 use mathlib.Core.List.{List, [], _∷_}
 use Prim.Native.Nat.{ℕ, _+_, _≤_, _<_}
 use native.Mathlib.Omega.{arith}
-use lib.ListN.{length, getD, set, length-replicate}
+use lib.ListN.{length, getD, length-replicate}
 use lib.Seq.{sets, getD-set-same}
 use Rattle.sheet.specs.Places.{sheetWords, fittingWord}
 use Rattle.sheet.specs.Lines.{fittings}
@@ -12,7 +12,7 @@ use Rattle.memory.specs.Layout.{countAt, hullAt, draftAt, heldAt, draftS
 use Rattle.memory.specs.Layout.{hullCount, edit, hullSheet, held, draftHull, opening, draftSheet}
 use Rattle.memory.specs.Updates.{freshWords, entered, opened, fitted, replaced, dropped, saved}
 use Rattle.memory.proofs.Parts.{word-inside, word-first, zero-word}
-use Rattle.memory.proofs.Parts.{part-written, part-after, part-set}
+use Rattle.memory.proofs.Parts.{part-written, part-after, part-sets}
 use Rattle.memory.proofs.Slots.{hull-long, draft-long, SameHull, SameDraft}
 use Rattle.memory.proofs.Slots.{leaves, leaves-both, kept-hull, kept-draft}
 use Rattle.memory.proofs.OneSlot.{Laid, hull-laid, ButDesk, but-desk, SheetChanges, sheet-changes}
@@ -62,8 +62,9 @@ pub record OpenedChanges (m : List ℕ) (d h : ℕ) : Type 0 where
   pub number : opening (opened m d h) d ≡ edit m h
   pub sheet : draftSheet (opened m d h) d ≡ hullSheet m h
 
-abbrev pub FittedChanges : List ℕ → ℕ → ℕ → ℕ → Type 0
-FittedChanges m d line w = SheetChanges (fitted m d line w) m d (set (draftSheet m d) (fittingWord line) w)
+abbrev pub FittedChanges : List ℕ → ℕ → ℕ → ℕ → ℕ → Type 0
+FittedChanges m d line w c =
+    SheetChanges (fitted m d line w c) m d (sets (draftSheet m d) (fittingWord line) (w ∷ c ∷ []))
 
 abbrev pub ReplacedChanges : List ℕ → ℕ → List ℕ → Type 0
 ReplacedChanges m d s = SheetChanges (replaced m d s) m d s
@@ -88,11 +89,11 @@ module _ (m : List ℕ) (d : ℕ) where
         sheet = part-after m (draftAt d) (draftFront h (edit m h)) s (draftSheetAt d) (omega arith) n (omega arith);
       }
 
-  pub fitted-changes : (line w : ℕ) → Sized m → d < desks → 1 ≤ line → line ≤ fittings → FittedChanges m d line w
+  pub fitted-changes : (line w c : ℕ) → Sized m → d < desks → 1 ≤ line → line ≤ fittings → FittedChanges m d line w c
   unfolding fitted
-  fitted-changes line w h l a b =
-      sheet-changes m d (fittingAt d line) (w ∷ []) _ h l (omega arith) (omega arith)
-      (part-set m (draftSheetAt d) sheetWords (fittingWord line) w (omega arith))
+  fitted-changes line w c h l a b =
+      sheet-changes m d (fittingAt d line) (w ∷ c ∷ []) _ h l (omega arith) (omega arith)
+      (part-sets m (draftSheetAt d) sheetWords (fittingWord line) (w ∷ c ∷ []) (omega arith))
 
   pub replaced-changes : (s : List ℕ) → Sized m → d < desks → length s ≡ sheetWords → ReplacedChanges m d s
   unfolding replaced

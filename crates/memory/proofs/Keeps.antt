@@ -5,14 +5,15 @@ use mathlib.Core.Logic.{inl, inr}
 use mathlib.Core.List.{List}
 use Prim.Native.Nat.{ℕ, _≤_, _<_}
 use native.Mathlib.Omega.{arith}
-use Rattle.sheet.specs.Lines.{fittings, fittingHigh}
-use Rattle.sheet.specs.Sheet.{wordsOk}
+use Rattle.sheet.specs.Lines.{fittings}
+use Rattle.sheet.specs.Sheet.{fitOk, wordsOk}
+use Rattle.sheet.proofs.Words.{words-length}
 use Rattle.memory.specs.Layout.{mostHulls, desks, heldAt, hullCount, edit, draftHull, draftSheet, Drafting}
 use Rattle.memory.specs.Formed.{mostEdits, formed}
 use Rattle.memory.specs.Updates.{freshWords, entered, opened, fitted, replaced, dropped, saved}
 use Rattle.memory.proofs.Sound.{Draft, sound, sound-formed, held-draft}
 use Rattle.memory.proofs.Same.{same-or-not, same-hull, same-draft, desk-formed, sheet-formed}
-use Rattle.memory.proofs.Fittings.{words-length, fitted-words}
+use Rattle.memory.proofs.Fittings.{fitted-words}
 use Rattle.memory.proofs.Changes.{fresh-changes, entered-changes, opened-changes}
 use Rattle.memory.proofs.Changes.{fitted-changes, replaced-changes, dropped-changes, saved-changes}
 
@@ -72,17 +73,17 @@ module _ (m : List ℕ) (d : ℕ) where
       }))
 
   pub fitted-formed :
-      (line w : ℕ)
+      (line w c : ℕ)
       → formed m ≡ true
       → d < desks
       → Drafting m d
       → 1 ≤ line
       → line ≤ fittings
-      → w ≤ fittingHigh
-      → formed (fitted m d line w) ≡ true
-  fitted-formed line w f l n a b h =
-      sheet-formed m (fitted m d line w) d f l n (fitted-changes m d line w (sound m f .size) l a b)
-      (fitted-words (draftSheet m d) line w (held-draft m d f l n .sheet) a b h)
+      → fitOk w c ≡ true
+      → formed (fitted m d line w c) ≡ true
+  fitted-formed line w c f l n a b h =
+      sheet-formed m (fitted m d line w c) d f l n (fitted-changes m d line w c (sound m f .size) l a b)
+      (fitted-words w c h (draftSheet m d) line (held-draft m d f l n .sheet) a b)
 
   pub replaced-formed :
       (s : List ℕ)

@@ -96,9 +96,18 @@ part-same o m at n h k e =
     ext-getD 0 (part o at n) (part m at n) (q ∙ sym (part-length m at n k)) (λ (j : ℕ) (l : j < length (part o at n)).
     let i : j < n = omega arith in part-word o at n j i ∙ e j i ∙ sym (part-word m at n j i))
 
--- a part with one word set
-pub part-set : (m : List ℕ) (at n j w : ℕ) → j < n → part (set m (at + j) w) at n ≡ set (part m at n) j w
+-- a part with one word set, and with several
+part-set : (m : List ℕ) (at n j w : ℕ) → j < n → part (set m (at + j) w) at n ≡ set (part m at n) j w
 part-set m at n j w l = ap (take n) (drop-set-add at m j w) ∙ take-set-lt n (drop at m) j w l
+
+pub part-sets :
+    (m : List ℕ) (at n j : ℕ) (xs : List ℕ)
+    → j + length xs ≤ n
+    → part (sets m (at + j) xs) at n ≡ sets (part m at n) j xs
+part-sets m at n j [] h = refl
+part-sets m at n j (x ∷ xs) h =
+    let e : suc (at + j) ≡ at + suc j = omega arith in
+    rw (e, part-sets (set m (at + j) x) at n (suc j) xs (omega arith), part-set m at n j x (omega arith))
 
 -- ---- a write word by word, of the words of a part
 
