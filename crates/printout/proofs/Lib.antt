@@ -4,4 +4,3 @@ pub mod Input  -- where the sheet ends, byte by byte
 pub mod PrintCall  -- what the call that prints answers and leaves
 pub mod Printed  -- what is printed, path by path
 pub mod Most  -- 60 bytes at most
-pub mod Unmoved  -- what 02 (v) leaves of it as it was

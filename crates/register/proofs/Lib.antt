@@ -9,5 +9,3 @@ pub mod Effects  -- a refused call leaves all; what an accepted one makes
 pub mod Makes  -- the change that each accepted call is
 pub mod First  -- what comes first
 pub mod Listed  -- refusals are of the list
-pub mod FormerStep  -- the step of a call before 02 (v)
-pub mod Unmoved  -- what 02 (v) leaves of the calls as it was

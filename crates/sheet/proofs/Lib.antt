@@ -18,7 +18,6 @@ pub mod Writing  -- a sheet's text, line by line
 pub mod Most  -- 610 bytes, and the sheet that reaches them
 pub mod Calls  -- the single text as a caller sees it
 pub mod Places  -- where a refused text is wrong: line and byte are where it goes wrong by the line rules
-pub mod Unmoved  -- what 02 (v) leaves of the readers and their calls as it was
 pub mod Refused  -- what comes first, which refusal has a place; a refused call leaves every lent byte
 pub mod Listed  -- refusals of the list alone
 pub mod BaseHull  -- 01's printed sheet as a text, with some of its lines given
