@@ -32,7 +32,8 @@ pub fn is_within(l: Limit, last: u32, n: u64) -> bool
     if rule == CAPPED {
         return n <= last as u64;
     }
-    true
+    // n is no more than high, so that the product fits
+    last as u64 * n <= rule as u64
 }
 
 // Whether n is a 0 that stands for none.
@@ -54,13 +55,11 @@ fn may_stand(l: Limit, last: u32, n: u32) -> bool
     }
 }
 
-// Whether there is a number for each limit of the table, and each may stand where it does.
+// Whether each of the numbers, of which there are as many as limits, may stand where it does.
 pub fn all_hold(table: &[Limit], numbers: &[u32]) -> bool
+    requires { ⌜ length (now table) ≡ length (now numbers) ⌝ }
     ensures { λ r. ⌜ r ≡ allHold (limitsOf (now (table .entry))) 0 (now (numbers .entry)) ⌝ }
 {
-    if table.len() != numbers.len() {
-        return false;
-    }
     let mut k = 0;
     let mut last = 0;
     while k < numbers.len() {

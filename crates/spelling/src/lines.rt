@@ -3,12 +3,12 @@ ghost use mathlib.Core.Path.{_≡_};
 ghost use mathlib.Core.Bool.{_&&_, cond};
 ghost use Prim.Native.Nat.{_+_, _<_, _^_};
 ghost use lib.Dec.{eqb};
-ghost use lib.ListN.{set};
+ghost use lib.ListN.{drop, set};
 ghost use Rattle.text.specs.Field.{begins};
 ghost use Rattle.text.specs.Quoted.{tab, feed, dash};
 ghost use Rattle.text.specs.Limit.{orNone, limitOf, limitsOf};
 ghost use Rattle.text.specs.Line.{lineOf, readEntry, readNumbers, readLine, entryText, numbersText, lineText, Reads};
-ghost use Rattle.text.specs.Line.{Laid};
+ghost use Rattle.text.specs.Line.{Laid, stopsShort};
 use crate::bytes::agreement;
 use crate::bytes::find_field;
 use crate::bytes::shorter;
@@ -21,6 +21,7 @@ use crate::numbers::read_number;
 use crate::numbers::write_number;
 use answers::BROKEN_LINE;
 use answers::OUTSIDE_LIMITS;
+use text::CAPPED;
 use text::EntryRead;
 use text::Limit;
 use text::LineRead;
@@ -84,7 +85,32 @@ fn store_number(out: &mut [u32], at: usize, n: u32)
     }
 }
 
-// Reads a number for each limit of the table from the start of text, stored in out as far as out goes.
+// Whether a line ends with the first field of text, and the numbers from place k of the table on are left out of it.
+// Where they may not be, no byte is looked at.
+fn stops_short(table: &[Limit], k: usize, text: &[u8]) -> bool
+    ensures { λ r. ⌜ r ≡ stopsShort (limitsOf (drop k (now (table .entry)))) (now (text .entry)) ⌝ }
+{
+    if k >= table.len() {
+        return false;
+    }
+    let l = table[k];
+    if l[2] <= CAPPED {
+        return false;
+    }
+    let len = find_field(text).len();
+    starts(&text[len..], b'\n')
+}
+
+// What must end a number that is read, with `left` more after it by the table: the line feed too where those are left
+// out.
+fn ender_read(short: bool, left: usize) -> u8
+    ensures { λ r. ⌜ r ≡ cond short feed (cond (eqb left 0) feed tab) ⌝ }
+{
+    if short { b'\n' } else { ender_before(left) }
+}
+
+// Reads a number for each limit of the table, but for those that are left out, from the start of text, stored in out as
+// far as out goes.
 fn read_numbers(table: &[Limit], text: &[u8], out: &mut [u32]) -> LineRead
     ensures { λ r. ⌜ Reads (readNumbers (limitsOf (now (table .entry))) 0 (now (text .entry))) (now (out .entry)) r
         (now (out .exit)) ⌝ }
@@ -94,7 +120,8 @@ fn read_numbers(table: &[Limit], text: &[u8], out: &mut [u32]) -> LineRead
     let mut last = 0;
     let mut at = 0;
     while k < count {
-        let ender = ender_before(count - k - 1);
+        let short = stops_short(table, k + 1, &text[at..]);
+        let ender = ender_read(short, count - k - 1);
         match read_entry(table[k], last, ender, &text[at..]) {
             EntryRead::Misread(refusal, place) => {
                 return LineRead::Fault(refusal, at + place);
@@ -103,6 +130,9 @@ fn read_numbers(table: &[Limit], text: &[u8], out: &mut [u32]) -> LineRead
                 store_number(out, k, n);
                 last = n;
                 at += len;
+                if short {
+                    return LineRead::Taken(at);
+                }
                 k += 1;
             }
         }
@@ -147,15 +177,12 @@ fn write_numbers(table: &[Limit], numbers: &[u32], out: &mut [u8], start: usize)
     ensures { λ r. ⌜ Laid (numbersText (limitsOf (now (table .entry))) (now (numbers .entry))) (now (out .entry))
         start r (now (out .exit)) ⌝ }
 {
-    let count = table.len();
+    let end = shorter(table.len(), numbers.len());
     let mut k = 0;
     let mut at = start;
-    while k < count {
-        if k >= numbers.len() {
-            return at;
-        }
+    while k < end {
         at = write_entry(table[k], numbers[k], out, at);
-        store(out, at, ender_before(count - k - 1));
+        store(out, at, ender_before(end - k - 1));
         at += 1;
         k += 1;
     }

@@ -5,7 +5,7 @@ use mathlib.Core.List.{List}
 use Prim.Native.Nat.{ℕ, _≤_, _-_, _+_}
 use lib.ListN.{length, getD}
 use Rattle.text.specs.Limit.{allHold, limitsOf}
-use Rattle.text.proofs.Limit.{length-limits, heldFrom, hold-uneven, hold-step, hold-done}
+use Rattle.text.proofs.Limit.{heldFrom, hold-step, hold-done}
 use native.Mathlib.Omega.{arith}
 use borrow.Author.Needs.{needs}
 use Rattle.spelling.proofs.limits.all_hold.Statement.{statement}
@@ -19,15 +19,10 @@ abbrev μ-loop : tie.MeasureT-loop
 μ-loop table numbers k₀ last₀ k last = length numbers - k
 
 abbrev table : tie.At-loop Inv-loop μ-loop → List (List ℕ)
-table c = c .before .before .before .args .table .now
+table c = c .before .before .args .table .now
 
 abbrev numbers : tie.At-loop Inv-loop μ-loop → List ℕ
-numbers c = c .before .before .before .args .numbers .now
-
-returns : tie.Need-returns Inv-loop μ-loop
-returns c =
-    let t = c .before .before .args .table .now in
-    sym (hold-uneven (limitsOf t) 0 _ (λ e. c .if1 .taken (sym (length-limits t) ∙ e)))
+numbers c = c .before .before .args .numbers .now
 
 -- with the number at place k told
 told : (c : tie.After-may-stand Inv-loop μ-loop) {u : Bool} → c .may-stand .result ≡ u →
@@ -40,8 +35,8 @@ told c e =
     ∙ hold-step (table at) (numbers at) (at .loop .last) (at .loop .k) (omega arith) (omega arith)
     ∙ rw (sym (c .may-stand .ensures) ∙ e)
 
-returns-3 : tie.Need-returns-3 Inv-loop μ-loop
-returns-3 c =
+returns-2 : tie.Need-returns-2 Inv-loop μ-loop
+returns-2 c =
     let at = c .before in
     let done = hold-done (table at) (numbers at) (at .loop .last) (at .loop .k) (omega arith) (omega arith) in
     sym (at .loop .inv .1 ∙ done)
@@ -49,6 +44,6 @@ returns-3 c =
 pub all-hold-spec : {M : Type 1} → statement M
 all-hold-spec =
     tie.close
-    (tie.spec Inv-loop μ-loop returns (λ c. (omega arith, refl)) (λ c. search needs) (λ c. search needs)
+    (tie.spec Inv-loop μ-loop (λ c. (omega arith, refl)) (λ c. search needs) (λ c. search needs)
     (λ c. search needs) (λ c. search needs) (λ c κs. search needs) (λ c. search needs) (λ c. search needs)
-    (λ c. (omega arith, told (c .before) (c .if2 .taken))) (λ c. sym (told (c .before) (c .if2 .left))) returns-3)
+    (λ c. (omega arith, told (c .before) (c .if1 .taken))) (λ c. sym (told (c .before) (c .if1 .left))) returns-2)
