@@ -26,7 +26,6 @@ use memory::DESKS;
 use memory::MOST_EDITS;
 use memory::MOST_HULLS;
 use memory::REGISTER_WORDS;
-use sheet::FITTING_HIGH;
 use sheet::FITTING_LINES;
 use sheet::TEXT_WORDS;
 use text::TextRead;
@@ -212,38 +211,30 @@ pub fn open_hull(mem: &mut [u32], desk: u32, hull: u32) -> Answer
     Answer::Count(keeping::open_draft(mem, desk as usize, hull))
 }
 
-// What refuses a put for what it is given: a line or a weight outside the limits.
-fn put_own(line: u32, weight: u32) -> u32
-    ensures { λ r. ⌜ r ≡ putOwn line weight ⌝ }
+// What refuses a put for what it is given: a line, a weight or a count outside the limits of a FIT line.
+fn put_own(line: u32, weight: u32, count: u32) -> u32
+    ensures { λ r. ⌜ r ≡ putOwn line weight count ⌝ }
 {
-    if line < 1 {
-        return OUTSIDE_LIMITS;
+    if measuring::line_ok(line, weight, count) {
+        0
+    } else {
+        OUTSIDE_LIMITS
     }
-    if FITTING_LINES < line {
-        return OUTSIDE_LIMITS;
-    }
-    if weight < 1 {
-        return OUTSIDE_LIMITS;
-    }
-    if FITTING_HIGH < weight {
-        return OUTSIDE_LIMITS;
-    }
-    0
 }
 
-// Puts a fitting on a line of a desk's draft, in place of one that is there.
-pub fn put_fitting(mem: &mut [u32], desk: u32, line: u32, weight: u32) -> Answer
-    ensures { λ r. ⌜ Changes (step (now (mem .entry)) (work desk (put line weight))) r (now (mem .exit)) ⌝ }
+// Puts so many pieces of a fitting on a line of a desk's draft, in place of what is there.
+pub fn put_fitting(mem: &mut [u32], desk: u32, line: u32, weight: u32, count: u32) -> Answer
+    ensures { λ r. ⌜ Changes (step (now (mem .entry)) (work desk (put line weight count))) r (now (mem .exit)) ⌝ }
 {
     let refusal = desk_refusal(&mem[..], desk);
     if refusal != 0 {
         return Answer::Refused(refusal);
     }
-    let own = put_own(line, weight);
+    let own = put_own(line, weight, count);
     if own != 0 {
         return Answer::Refused(own);
     }
-    keeping::set_fitting(mem, desk as usize, line as usize, weight);
+    keeping::set_fitting(mem, desk as usize, line as usize, weight, count);
     Answer::Done
 }
 
@@ -277,7 +268,7 @@ pub fn take_off(mem: &mut [u32], desk: u32, line: u32) -> Answer
     if own != 0 {
         return Answer::Refused(own);
     }
-    keeping::set_fitting(mem, desk as usize, line as usize, 0);
+    keeping::set_fitting(mem, desk as usize, line as usize, 0, 0);
     Answer::Done
 }
 

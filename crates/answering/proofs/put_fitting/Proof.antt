@@ -22,8 +22,9 @@ set-fitting-requires c κs =
     let at-if1 = at-if2 .before .before in
     let start = at-if1 .before .before .before .before in
     let p =
-    put-fits (start .args .line) (start .args .weight) (sym (at-if2 .before .put-own .ensures) ∙ at-if2 .if2 .left) in
-    at-line _ _ (sym (at-if1 .before .desk-refusal .ensures) ∙ at-if1 .if1 .left) (start .args .line) (p .high)
+    put-fits (start .args .line) (start .args .weight) (start .args .count)
+    (sym (at-if2 .before .put-own .ensures) ∙ at-if2 .if2 .left) in
+    at-line _ _ (sym (at-if1 .before .desk-refusal .ensures) ∙ at-if1 .if1 .left) (start .args .line) (p .low) (p .high)
 
 returns-3 : tie.Need-returns-3
 returns-3 c =
