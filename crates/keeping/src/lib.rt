@@ -18,8 +18,8 @@ use memory::HELD;
 use memory::HULL_SHEET;
 use memory::HULL_WORDS;
 use memory::OPENING;
+use sheet::FITTED;
 use sheet::SHEET_WORDS;
-use sheet::TESTED;
 
 // ---- the words of each slot
 
@@ -96,12 +96,12 @@ pub fn draft_sheet(mem: &[u32], desk: usize) -> &[u32]
     sheet_at(mem, DRAFT_SHEET + DRAFT_WORDS * desk)
 }
 
-// The weight on a fitting line of a desk's draft, 0 for an empty line.
+// The weight of one piece on a fitting line of a desk's draft, 0 for an empty line.
 pub fn fitting(mem: &[u32], desk: usize, line: usize) -> u32
     requires { ⌜ AtLine (now mem) desk line ⌝ }
     ensures { λ r. ⌜ r ≡ fitting (now (mem .entry)) desk line ⌝ }
 {
-    mem[DRAFT_SHEET + DRAFT_WORDS * desk + (TESTED + line)]
+    mem[DRAFT_SHEET + DRAFT_WORDS * desk + (FITTED + 2 * (line - 1))]
 }
 
 // ---- the changes
@@ -167,12 +167,14 @@ pub fn open_draft(mem: &mut [u32], desk: usize, hull: u32) -> u32
     edits
 }
 
-// Sets the weight on a fitting line of a desk's draft, 0 for an empty line.
-pub fn set_fitting(mem: &mut [u32], desk: usize, line: usize, weight: u32)
+// Sets the weight of one piece on a fitting line of a desk's draft, and how many there are; both 0 for an empty line.
+pub fn set_fitting(mem: &mut [u32], desk: usize, line: usize, weight: u32, count: u32)
     requires { ⌜ AtLine (now mem) desk line ⌝ }
-    ensures { λ _. ⌜ now (mem .exit) ≡ fitted (now (mem .entry)) desk line weight ⌝ }
+    ensures { λ _. ⌜ now (mem .exit) ≡ fitted (now (mem .entry)) desk line weight count ⌝ }
 {
-    mem[DRAFT_SHEET + DRAFT_WORDS * desk + (TESTED + line)] = weight;
+    let at = DRAFT_SHEET + DRAFT_WORDS * desk + (FITTED + 2 * (line - 1));
+    mem[at] = weight;
+    mem[at + 1] = count;
 }
 
 // Makes a desk's draft another sheet.
