@@ -1,7 +1,7 @@
 -- What a sheet within the limits keeps to: the most that each word may be. Each law takes the sheet and that it is
 -- within the limits, so that `omega` finds both by itself where it is handed the law's name.
 use mathlib.Core.Path.{_≡_, refl, sym, _∙_}
-use mathlib.Core.Bool.{true, false}
+use mathlib.Core.Bool.{true}
 use mathlib.Core.List.{List, [], _∷_, map}
 use Prim.Native.Nat.{ℕ, zero, suc, _+_, _≤_, _<_}
 use native.Mathlib.Omega.{arith}
