@@ -72,8 +72,8 @@ written-given m h out e z q w =
 -- ---- what the changes to the memory ask
 
 module _ (m : List ℕ) (d : ℕ) (z : deskRefusal m d ≡ 0) where
-  pub at-line : (line : ℕ) → line ≤ fittings → AtLine m d line
-  at-line line l = let g = at-desk z in record { size = g .size; desk = g .desk; line = l }
+  pub at-line : (line : ℕ) → 1 ≤ line → line ≤ fittings → AtLine m d line
+  at-line line k l = let g = at-desk z in record { size = g .size; desk = g .desk; first = k; last = l }
 
   pub draft-hull-in : draftHull m d < mostHulls
   draft-hull-in = let g = desk-goes m d z in omega (arith, sound m (g .ok) .few, g .draft .entered)

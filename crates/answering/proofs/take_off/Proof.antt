@@ -28,7 +28,7 @@ set-fitting-requires c κs =
     let p =
     take-fits (draftSheet (start .args .mem .now) (start .args .desk)) (start .args .line)
     (sym (at-if2 .before .take-own .ensures) ∙ at-if2 .if2 .left) in
-    at-line _ _ (sym (at-if1 .before .desk-refusal .ensures) ∙ at-if1 .if1 .left) (start .args .line) (p .high)
+    at-line _ _ (sym (at-if1 .before .desk-refusal .ensures) ∙ at-if1 .if1 .left) (start .args .line) (p .low) (p .high)
 
 returns-3 : tie.Need-returns-3
 returns-3 c =
