@@ -1,6 +1,6 @@
 -- Laws of F: it is what the fitting lines weigh, one after the other, each the weight of one piece times how many there
 -- are; and what that comes to at most.
-use mathlib.Core.Path.{_≡_}
+use mathlib.Core.Path.{_≡_, refl}
 use mathlib.Core.Bool.{true}
 use mathlib.Core.List.{List, [], _∷_}
 use Prim.Native.Nat.{ℕ, zero, suc, _+_, _*_, _≤_, _<_}
@@ -69,6 +69,21 @@ pub f-sum : (s : List ℕ) → length s ≡ sheetWords → addedUp (fittingsOf s
 f-sum s n =
     let d = sum-end (fittingsOf s) fittings (omega (arith, length-drop fittingsAt s)) in
     omega (arith, sum-lines s fittings n (omega arith))
+
+-- ---- as it was: where each line has one piece, F is the sum of the weights
+
+unfoldable pub singly : List ℕ → List ℕ
+singly [] = []
+singly (w ∷ ws) = w ∷ 1 ∷ singly ws
+
+unfoldable pub formerSum : List ℕ → ℕ
+formerSum [] = 0
+formerSum (w ∷ ws) = w + formerSum ws
+
+pub single-pieces : (ws : List ℕ) → addedUp (singly ws) ≡ formerSum ws
+unfolding addedUp singly formerSum
+single-pieces [] = refl
+single-pieces (w ∷ ws) = omega (arith, single-pieces ws)
 
 -- ---- at most
 
