@@ -1,5 +1,6 @@
 -- The lines HULL to SEAT, read one after another.
 use mathlib.Core.Path.{_≡_, refl, sym, _∙_}
+use mathlib.Core.Bool.{true}
 use mathlib.Core.List.{List, [], _∷_, _++_}
 use Prim.Native.Nat.{ℕ, _+_, _<_}
 use native.Mathlib.Omega.{arith}
@@ -9,6 +10,7 @@ use Rattle.text.specs.declared.LineRead.{LineRead}
 use Rattle.text.specs.declared.LineRead.the-variants.{Taken, Fault}
 use Rattle.text.specs.Line.{Line, shiftBy, readLine}
 use Rattle.ground.proofs.Stores.{sets-append}
+use Rattle.text.proofs.Limit.{full}
 use Rattle.form.specs.Parts.{Rows, numbersOf}
 use Rattle.form.specs.Outcome.{Found, took, lost, mapped, ahead}
 use Rattle.form.specs.Reading.{readParts}
@@ -52,7 +54,7 @@ no-lines t o z =
 
 -- one line more
 module _ {l : Line} {ls : List Line} {t o : List ℕ} {from k : ℕ} (h : 0 < length (l .tag))
-    (a : Past (l ∷ ls) t from (Taken k) o) where
+    (f : full (l .limits) ≡ true) (a : Past (l ∷ ls) t from (Taken k) o) where
   abbrev so' : List ℕ
   so' = a .so ++ readLine l (drop k t) .numbers
 
@@ -72,22 +74,22 @@ module _ {l : Line} {ls : List Line} {t o : List ℕ} {from k : ℕ} (h : 0 < le
   more-many : (r : LineRead) → readLine l (drop k t) .ended ≡ r
       → manyRead (shiftBy k r) (length so') (from + length (l .limits)) ≡ from + length (l .limits)
   more-many (Taken j) e =
-      omega (arith, a .many, length-append (a .so) (readLine l (drop k t) .numbers), line-count l (drop k t) e)
+      omega (arith, a .many, length-append (a .so) (readLine l (drop k t) .numbers), line-count l (drop k t) f e)
   more-many (Fault number at) e = refl
 
 pub one-more : {limits : List (List ℕ)} {l : Line} {ls : List Line} {t o o' : List ℕ} {from : ℕ} {r r' : LineRead}
-    → 0 < length (l .tag) → Past (l ∷ ls) t from r o → ReadsOn limits r l t from o r' o'
+    → 0 < length (l .tag) → Past (l ∷ ls) t from r o → ReadsOn limits r l t from o r' o' → full (l .limits) ≡ true
     → Past ls t (from + length (l .limits)) r' o'
-one-more {limits} {l} {ls} {t} {from = from} {r} h a b = go r a b
+one-more {limits} {l} {ls} {t} {from = from} {r} h a b f = go r a b
   where
     go : {o o' : List ℕ} (r : LineRead) {r' : LineRead} → Past (l ∷ ls) t from r o → ReadsOn limits r l t from o r' o'
         → Past ls t (from + length (l .limits)) r' o'
     go (Taken k) a b =
         record {
           so = a .so ++ readLine l (drop k t) .numbers;
-          goes = rw (b .answer) (more-goes h a (readLine l (drop k t) .ended) refl);
-          stored = more-stored h a (b .stored);
-          many = rw (b .answer) (more-many h a (readLine l (drop k t) .ended) refl);
+          goes = rw (b .answer) (more-goes h f a (readLine l (drop k t) .ended) refl);
+          stored = more-stored h f a (b .stored);
+          many = rw (b .answer) (more-many h f a (readLine l (drop k t) .ended) refl);
           within = b .within;
         }
     go (Fault number at) a b =

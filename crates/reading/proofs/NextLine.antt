@@ -11,7 +11,7 @@ use Rattle.text.specs.Line.{Line, Reads, lineOf, shiftBy, readLine}
 use Rattle.ground.proofs.Stores.{putBack, rest-part, part-sets}
 use Rattle.text.proofs.Line.{line-extent}
 use Rattle.sheet.specs.Sheet.{limitRows}
-use Rattle.sheet.specs.Places.{textWords}
+use Rattle.sheet.specs.Places.{fittingsAt}
 use Rattle.reading.specs.Filled.{reached}
 use Rattle.reading.specs.Steps.{Due, ReadsOn}
 
@@ -61,7 +61,7 @@ module _ {limits : List (List ℕ)} {read : LineRead} (tag t o : List ℕ) {at n
 -- the next line is due
 pub due : {limits : List (List ℕ)} {read r : LineRead} {l : Line} {t o₀ o : List ℕ} {n : ℕ} (from to : ℕ)
     → from ≤ to
-    → to ≤ textWords
+    → to ≤ 1 + fittingsAt
     → ReadsOn limits read l t n o₀ r o
     → Due limits o from to r t
 due from to h k p = record { table = p .table; room = p .kept; order = h; end = k; within = p .within }

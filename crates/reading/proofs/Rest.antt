@@ -15,13 +15,13 @@ use Rattle.form.specs.Parts.{Rows, oneLine}
 use Rattle.form.specs.Outcome.{Found, took, lost, mapped, ahead}
 use Rattle.form.specs.Reading.{readParts}
 use Rattle.sheet.specs.Lines.{endLine}
-use Rattle.sheet.specs.SheetText.{fitPart, weightsFrom, fitsOf, numbersOn}
+use Rattle.sheet.specs.SheetText.{fitPart, fitsFrom, fitsOf, numbersOn}
 use Rattle.reading.specs.Filled.{endedAs, reached, Filled, foundInto}
 use Rattle.reading.specs.Steps.{restOn}
 use Rattle.reading.proofs.Found.{found-taken, found-fault, ended-mapped}
 use Rattle.reading.proofs.RowsLoop.{rowsAt, part-in}
 use Rattle.reading.proofs.NextLine.{reached-shift}
-use Rattle.reading.proofs.FitsLoop.{weightsAt}
+use Rattle.reading.proofs.FitsLoop.{fitsAt}
 use Rattle.reading.proofs.Row.{one-taken, one-lost}
 
 -- ---- END
@@ -61,7 +61,7 @@ module _ (t : List ℕ) (e : agreed (endLine .tag) t ≡ 4) where
 
 -- ---- after SEAT
 
--- at bytes gave the weights ws; then END was read
+-- at bytes gave the fittings ws; then END was read
 abbrev closed : ℕ → List ℕ → Found (List Rows) → Found (List ℕ)
 closed at ws (took k v) = took (at + k) ws
 closed at ws (lost number i) = lost number (at + i)
@@ -75,22 +75,22 @@ closed-into at ws (took k v) e = e
 closed-into at ws (lost number i) e = refl
 
 rest-closed : (t : List ℕ) {at : ℕ} {rs : Rows} → rowsAt fitPart t ≡ took at rs
-    → restOn [] t ≡ closed at (weightsFrom 1 rs) (endAt (drop at t))
+    → restOn [] t ≡ closed at (fitsFrom 1 rs) (endAt (drop at t))
 unfolding restOn readParts numbersOn fitsOf
 rest-closed t {at} {rs} e = rw e (go (endAt (drop at t)))
   where
-    go : (f : Found (List Rows)) → mapped (numbersOn []) (ahead at rs f) ≡ closed at (weightsFrom 1 rs) f
+    go : (f : Found (List Rows)) → mapped (numbersOn []) (ahead at rs f) ≡ closed at (fitsFrom 1 rs) f
     go (took k v) = refl
     go (lost number i) = refl
 
-pub rest-fault : (t : List ℕ) {number at : ℕ} {o : List ℕ} → Filled (weightsAt t) t (Fault number at) o
+pub rest-fault : (t : List ℕ) {number at : ℕ} {o : List ℕ} → Filled (fitsAt t) t (Fault number at) o
     → Filled (restOn [] t) t (Fault number at) o
 unfolding restOn readParts
 rest-fault t p =
-    let e = found-fault (rowsAt fitPart t) (p .answer ∙ ended-mapped (weightsFrom 1) (rowsAt fitPart t)) in
+    let e = found-fault (rowsAt fitPart t) (p .answer ∙ ended-mapped (fitsFrom 1) (rowsAt fitPart t)) in
     record { answer = rw e; stored = rw e; within = p .within }
 
-module _ (t : List ℕ) {at : ℕ} {o : List ℕ} (p : Filled (weightsAt t) t (Taken at) o) {r : LineRead}
+module _ (t : List ℕ) {at : ℕ} {o : List ℕ} (p : Filled (fitsAt t) t (Taken at) o) {r : LineRead}
     (q : (r ≡ endedAs (endAt (take (length t - at) (drop at t))))
     × (reached r ≤ length (take (length t - at) (drop at t)))) where
   end-in : at + reached r ≤ length t
@@ -98,11 +98,11 @@ module _ (t : List ℕ) {at : ℕ} {o : List ℕ} (p : Filled (weightsAt t) t (T
 
   pub rest-read : Filled (restOn [] t) t (shiftBy at r) o
   rest-read =
-      let f = found-taken (rowsAt fitPart t) (p .answer ∙ ended-mapped (weightsFrom 1) (rowsAt fitPart t)) in
-      let e : restOn [] t ≡ closed at (weightsFrom 1 (f .0)) (endAt (drop at t)) = rest-closed t (f .1) in
+      let f = found-taken (rowsAt fitPart t) (p .answer ∙ ended-mapped (fitsFrom 1) (rowsAt fitPart t)) in
+      let e : restOn [] t ≡ closed at (fitsFrom 1 (f .0)) (endAt (drop at t)) = rest-closed t (f .1) in
       let d : r ≡ endedAs (endAt (drop at t)) = q .0 ∙ rw (rest-part t at) in
       record {
-        answer = rw (d, e) (closed-ended at (weightsFrom 1 (f .0)) (endAt (drop at t)));
-        stored = rw e (closed-into at (weightsFrom 1 (f .0)) (endAt (drop at t)) (rw (f .1) at (p .stored)));
+        answer = rw (d, e) (closed-ended at (fitsFrom 1 (f .0)) (endAt (drop at t)));
+        stored = rw e (closed-into at (fitsFrom 1 (f .0)) (endAt (drop at t)) (rw (f .1) at (p .stored)));
         within = rw (reached-shift at r) end-in;
       }

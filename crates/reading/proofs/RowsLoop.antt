@@ -14,9 +14,10 @@ use Rattle.form.specs.Outcome.{Found, took, lost, outcome, mapped, chained}
 use Rattle.form.specs.Reading.{kindAt, noMore, readRows}
 use Rattle.form.proofs.RowsTrip.{rows-none, rows-more}
 use Rattle.reading.specs.declared.RowRead.{RowRead}
-use Rattle.reading.specs.declared.RowRead.the-variants.{Pair, NoPair}
+use Rattle.reading.specs.declared.RowRead.the-variants.{NoRow}
 use Rattle.reading.specs.Steps.{onward}
-use Rattle.reading.specs.Rows.{pairFound, pairReach, Paired}
+use Rattle.reading.specs.Rows.{RowOf}
+use Rattle.reading.proofs.Row.{row-lost, Rowed}
 use Rattle.reading.proofs.Found.{onward-none, onward-twice, onward-end, ahead-onward}
 
 -- a place in the part of t from `at` on, seen from the whole
@@ -65,33 +66,40 @@ module _ {p : Part} {t : List ℕ} {rs : Rows} {count at above : ℕ} (s : Upto 
   pub none-more : p .least ≤ count → length t ≤ at → rowsAt p t ≡ took at rs
   none-more h k = stop h (rw (drop-of-length-le t {i = at} k))
 
-  -- one row more, of the kind l
-  module _ (h : count < p .most) (l : Line) (k : kindAt (p .kinds) (drop at t) ≡ some l)
-      {r : RowRead} (q : Paired (raised (p .rising) above l) (take (length t - at) (drop at t)) r) where
+  -- one row more, of the kind l, found as f
+  module _ (h : count < p .most) (l : Line) (k : kindAt (p .kinds) (drop at t) ≡ some l) where
+    -- as the code lends it
+    abbrev kind : Line
+    kind = raised (p .rising) above l
+
+    abbrev left : List ℕ
+    left = take (length t - at) (drop at t)
+
     abbrev rest : Row → List ℕ → Found Rows
     rest r u = readRows p (p .most - (count + 1)) (p .least - (count + 1)) (nextAfter r) u
 
-    entered : rowsAt p t ≡ onward rs at (chained (mapped (lineRow (letterOf l)) (pairFound r)) rest (drop at t))
-    entered =
+    entered : {f : Found (List ℕ)} → outcome (readLine kind left) ≡ f
+        → rowsAt p t ≡ onward rs at (chained (mapped (lineRow (letterOf l)) f) rest (drop at t))
+    entered q =
         let a : p .most - count ≡ suc (p .most - (count + 1)) = omega arith in
         let b : p .least - count - 1 ≡ p .least - (count + 1) = omega arith in
-        let f : outcome (readLine (raised (p .rising) above l) (drop at t)) ≡ pairFound r =
-        rw (rest-part t at) at (q .found) in
-        s .so-far ∙ rw (a, rows-more p (p .most - (count + 1)) (p .least - count) above (drop at t) l k, f, b)
+        let e = rw (rest-part t at) at q in
+        s .so-far ∙ rw (a, rows-more p (p .most - (count + 1)) (p .least - count) above (drop at t) l k, e, b)
 
-    pub fault : {number place : ℕ} → r ≡ NoPair number place → rowsAt p t ≡ lost number (at + place)
-    fault e = entered ∙ rw e
+    pub fault : {r : RowRead} {number place : ℕ} → RowOf kind left r → r ≡ NoRow number place
+        → rowsAt p t ≡ lost number (at + place)
+    fault q v = entered (row-lost kind left q v)
 
-    pub step : {a b len : ℕ} → r ≡ Pair a b len
-        → Upto p t (rs ++ (lineRow (letterOf l) (a ∷ b ∷ []) ∷ [])) (count + 1) (at + len) (suc a)
-    step {a} {b} {len} e =
-        let row : Row = lineRow (letterOf l) (a ∷ b ∷ []) in
+    pub step : {a b c len : ℕ} → at + len ≤ length t → (q : Rowed kind left a b c len)
+        → Upto p t (rs ++ (lineRow (letterOf l) (q .ns) ∷ [])) (count + 1) (at + len) (suc a)
+    step {a} {len = len} m q =
+        let row : Row = lineRow (letterOf l) (q .ns) in
         record {
           many = length-append rs (row ∷ []) ∙ rw (s .many);
           few = omega arith;
-          at-in = omega (arith, part-in t (s .at-in) (q .within), ap pairReach e);
+          at-in = m;
           so-far =
-              entered
-              ∙ rw (e, drop-drop len at t, ahead-onward len row (rest row (drop (at + len) t)))
+              entered (q .found)
+              ∙ rw (q .first, drop-drop len at t, ahead-onward len row (rest row (drop (at + len) t)))
               (onward-twice rs (row ∷ []) at len (rest row (drop (at + len) t)));
         }

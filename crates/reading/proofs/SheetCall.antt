@@ -1,7 +1,7 @@
 -- A whole sheet: what the code leaves, and what the call answers.
 use mathlib.Core.Path.{_≡_, refl, sym, ap, _∙_}
 use mathlib.Core.List.{List, [], _++_, append-nil}
-use Prim.Native.Nat.{ℕ, _+_, _-_, _≤_, _<_}
+use Prim.Native.Nat.{ℕ, _+_, _-_, _*_, _≤_, _<_}
 use native.Mathlib.Omega.{arith}
 use lib.ListN.{length, take, drop, replicate, length-drop, drop-of-length-le}
 use lib.Seq.{take-at, drop-at}
@@ -51,11 +51,11 @@ part-after o so zs {n} e m ys =
 
 -- the lines are read, and the words after theirs are still 0
 module _ (t : List ℕ) {at : ℕ} {o : List ℕ} (p : Past [] t lineWords (Taken at) o) where
-  standing : o ≡ p .so ++ replicate fittings 0
+  standing : o ≡ p .so ++ replicate (2 * fittings) 0
   standing = p .stored ∙ (sets-zeros textWords (p .so) (omega (arith, p .many)) ∙ rw (p .many))
 
-  pub words-zeros : take (length o - lineWords) (drop lineWords o) ≡ replicate fittings 0
-  words-zeros = rest-part o lineWords ∙ rw standing (drop-at (p .so) (replicate fittings 0) lineWords (p .many))
+  pub words-zeros : take (length o - lineWords) (drop lineWords o) ≡ replicate (2 * fittings) 0
+  words-zeros = rest-part o lineWords ∙ rw standing (drop-at (p .so) (replicate (2 * fittings) 0) lineWords (p .many))
 
   module _ {r : LineRead} {ys : List ℕ}
       (q : Filled (restOn [] (take (length t - at) (drop at t))) (take (length t - at) (drop at t)) r ys) where
@@ -68,7 +68,7 @@ module _ (t : List ℕ) {at : ℕ} {o : List ℕ} (p : Past [] t lineWords (Take
         let f : r ≡ endedAs (restOn [] (drop at t)) = q .answer ∙ rw (rest-part t at) in
         record {
           answer = rw (e, f) (ended-onward (p .so) at (restOn [] (drop at t)));
-          stored = rw (part-after o (p .so) (replicate fittings 0) standing (p .many) ys, e)
+          stored = rw (part-after o (p .so) (replicate (2 * fittings) 0) standing (p .many) ys, e)
               (into-onward at (p .so) (restOn [] (drop at t)) (rw (rest-part t at) at (q .stored)));
           within = rw (reached-shift at r) rest-in;
         }

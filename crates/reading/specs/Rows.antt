@@ -1,8 +1,8 @@
--- A row of two numbers as the code reads it, and rows as two columns.
+-- A row as the code reads it, and rows as two columns.
 use Prim.Native.Nat.{ℕ, _≤_}
 use mathlib.Core.Path.{_≡_}
-use mathlib.Core.List.{List, [], _∷_}
-use lib.ListN.{length}
+use mathlib.Core.List.{List}
+use lib.ListN.{length, getD}
 use Rattle.ground.specs.Lists.{putFirst}
 use Rattle.text.specs.Line.{Line, readLine}
 use Rattle.form.specs.Parts.{Row}
@@ -13,22 +13,23 @@ use Rattle.reading.specs.Filled.{toldAs}
 use Rattle.reading.specs.declared.RowsRead.{RowsRead}
 use Rattle.reading.specs.declared.RowsRead.the-variants.{Rows, NoRows}
 use Rattle.reading.specs.declared.RowRead.{RowRead}
-use Rattle.reading.specs.declared.RowRead.the-variants.{Pair, NoPair}
+use Rattle.reading.specs.declared.RowRead.the-variants.{Numbers, NoRow}
 
 -- ---- a row
 
-abbrev pub pairFound : RowRead → Found (List ℕ)
-pairFound (Pair a b k) = took k (a ∷ b ∷ [])
-pairFound (NoPair number at) = lost number at
+-- what a row gives that was found so; a line of two numbers has a third, 1
+abbrev pub rowAs : Found (List ℕ) → RowRead
+rowAs (took k ns) = Numbers (getD ns 0 0) (getD ns 1 0) (getD ns 2 1) k
+rowAs (lost number at) = NoRow number at
 
-abbrev pub pairReach : RowRead → ℕ
-pairReach (Pair a b k) = k
-pairReach (NoPair number at) = at
+abbrev pub rowReach : RowRead → ℕ
+rowReach (Numbers a b c k) = k
+rowReach (NoRow number at) = at
 
--- the line l of two numbers was read at the start of t
-pub record Paired (l : Line) (t : List ℕ) (r : RowRead) : Type 0 where
-  pub found : outcome (readLine l t) ≡ pairFound r
-  pub within : pairReach r ≤ length t
+-- the line l was read at the start of t
+pub record RowOf (l : Line) (t : List ℕ) (r : RowRead) : Type 0 where
+  pub found : r ≡ rowAs (outcome (readLine l t))
+  pub within : rowReach r ≤ length t
 
 -- ---- rows
 

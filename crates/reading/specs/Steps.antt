@@ -11,7 +11,7 @@ use Rattle.form.specs.Outcome.{Found, took, lost, mapped}
 use Rattle.form.specs.Reading.{readParts}
 use Rattle.sheet.specs.Lines.{lines}
 use Rattle.sheet.specs.Sheet.{limitRows}
-use Rattle.sheet.specs.Places.{textWords}
+use Rattle.sheet.specs.Places.{fittingsAt, textWords}
 use Rattle.sheet.specs.SheetText.{eachOnce, numbersOn, lastParts}
 use Rattle.reading.specs.Filled.{reached}
 
@@ -27,7 +27,7 @@ pub record Due (limits : List (List ℕ)) (o : List ℕ) (from to : ℕ) (read :
   pub table : limits ≡ limitRows
   pub room : length o ≡ textWords
   pub order : from ≤ to
-  pub end : to ≤ textWords
+  pub end : to ≤ 1 + fittingsAt
   pub within : reached read ≤ length t
 
 -- line l of t was read after what was read, and went into a sheet's words o from the place n on

@@ -36,10 +36,10 @@ fn read_rows(text: &[u8], powers: &mut [u32], weights: &mut [u32]) -> RowsRead
             [0, ENGINE_WEIGHT_HIGH, PLAIN],
         ];
         match read_row(b"ENG\t", &limits, &text[at..]) {
-            RowRead::NoPair(refusal, place) => {
+            RowRead::NoRow(refusal, place) => {
                 return RowsRead::NoRows(refusal, at + place);
             }
-            RowRead::Pair(power, weight, len) => {
+            RowRead::Numbers(power, weight, _, len) => {
                 powers[rows] = power;
                 weights[rows] = weight;
                 next = power + 1;

@@ -1,7 +1,7 @@
 // A sheet from its text: the lines HULL to SEAT, the FIT lines, END.
 ghost use mathlib.Core.Path.{_≡_};
 ghost use mathlib.Core.List.{[], _∷_};
-ghost use Prim.Native.Nat.{_+_, _-_, _≤_};
+ghost use Prim.Native.Nat.{_+_, _-_, _*_, _≤_};
 ghost use lib.ListN.{length, take, drop, replicate};
 ghost use Rattle.text.specs.Line.{lineOf};
 ghost use Rattle.answers.specs.Settled.{Settled};
@@ -11,13 +11,14 @@ ghost use Rattle.form.specs.Reading.{readRows, readParts};
 ghost use Rattle.sheet.specs.Lines.{lines, endLine, fittings};
 ghost use Rattle.sheet.specs.Sheet.{limitRows};
 ghost use Rattle.sheet.specs.Places.{textWords, fittingsAt};
-ghost use Rattle.sheet.specs.SheetText.{fitPart, weightsFrom, readSheet};
+ghost use Rattle.sheet.specs.SheetText.{fitPart, fitsFrom, readSheet};
 ghost use Rattle.sheet.specs.TextCalls.{readAnswer, readInto};
 ghost use Rattle.reading.specs.Filled.{reached, endedAs, Filled, Heard};
 ghost use Rattle.reading.specs.Steps.{Due, ReadsOn, restOn, Past};
 use crate::RowRead;
 use crate::rows::read_row;
 use answers::Answer;
+use sheet::FITTING_COUNT;
 use sheet::FITTING_HIGH;
 use sheet::FITTING_LINES;
 use sheet::FITTINGS;
@@ -96,24 +97,31 @@ fn read_lines(limits: &[Limit], text: &[u8], words: &mut [u32]) -> LineRead
     next_line(power, b"SEAT\t", limits, SEAT_LINE, LINE_WORDS, text, words)
 }
 
-// Reads FIT lines up to the line that must be END. The weights are all 0 before it.
-fn read_fits(text: &[u8], weights: &mut [u32]) -> LineRead
-    requires { ⌜ now weights ≡ replicate fittings 0 ⌝ }
-    ensures { λ r. ⌜ Filled (mapped (weightsFrom 1) (readRows fitPart fittings 0 0 (now (text .entry))))
-        (now (text .entry)) r (now (weights .exit)) ⌝ }
+// Reads FIT lines up to the line that must be END: weight and count of each to the two words of its line number. The
+// words are all 0 before it.
+fn read_fits(text: &[u8], fits: &mut [u32]) -> LineRead
+    requires { ⌜ now fits ≡ replicate (2 * fittings) 0 ⌝ }
+    ensures { λ r. ⌜ Filled (mapped (fitsFrom 1) (readRows fitPart fittings 0 0 (now (text .entry))))
+        (now (text .entry)) r (now (fits .exit)) ⌝ }
 {
     let mut read = 0;
     let mut at = 0;
     let mut next = 1;
     while read < FITTINGS {
         if spelling::starts(&text[at..], b'F') {
-            let limits = [[next, FITTING_LINES, PLAIN], [1, FITTING_HIGH, PLAIN]];
+            let limits = [
+                [next, FITTING_LINES, PLAIN],
+                [1, FITTING_HIGH, PLAIN],
+                [1, FITTING_COUNT, FITTING_HIGH],
+            ];
             match read_row(b"FIT\t", &limits, &text[at..]) {
-                RowRead::NoPair(refusal, place) => {
+                RowRead::NoRow(refusal, place) => {
                     return LineRead::Fault(refusal, at + place);
                 }
-                RowRead::Pair(line, weight, len) => {
-                    weights[line as usize - 1] = weight;
+                RowRead::Numbers(line, weight, count, len) => {
+                    let word = 2 * (line as usize - 1);
+                    fits[word] = weight;
+                    fits[word + 1] = count;
                     next = line + 1;
                     at += len;
                     read += 1;
@@ -142,11 +150,11 @@ fn read_end(text: &[u8]) -> LineRead
 }
 
 // Reads what follows the line SEAT.
-fn read_rest(text: &[u8], weights: &mut [u32]) -> LineRead
-    requires { ⌜ now weights ≡ replicate fittings 0 ⌝ }
-    ensures { λ r. ⌜ Filled (restOn [] (now (text .entry))) (now (text .entry)) r (now (weights .exit)) ⌝ }
+fn read_rest(text: &[u8], fits: &mut [u32]) -> LineRead
+    requires { ⌜ now fits ≡ replicate (2 * fittings) 0 ⌝ }
+    ensures { λ r. ⌜ Filled (restOn [] (now (text .entry))) (now (text .entry)) r (now (fits .exit)) ⌝ }
 {
-    match read_fits(text, weights) {
+    match read_fits(text, fits) {
         LineRead::Fault(refusal, place) => LineRead::Fault(refusal, place),
         LineRead::Taken(at) => match read_end(&text[at..]) {
             LineRead::Fault(refusal, place) => LineRead::Fault(refusal, at + place),

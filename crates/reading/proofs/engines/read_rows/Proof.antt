@@ -2,9 +2,9 @@
 use mathlib.Core.Path.{ap}
 use Prim.Native.Nat.{_-_}
 use lib.ListN.{length-set}
-use Rattle.reading.specs.Rows.{pairReach}
+use Rattle.reading.specs.Rows.{rowReach}
 use Rattle.reading.proofs.EnginesLoop.{State, start, powers-kept, weights-kept, full}
-use Rattle.reading.proofs.EnginesLoop.{Turn, place-in, fault, bounds, last, step}
+use Rattle.reading.proofs.EnginesTurn.{Turn, place-in, fault, bounds, last, step}
 use native.Mathlib.Omega.{arith}
 use borrow.Author.Needs.{needs}
 use Rattle.reading.proofs.engines.read_rows.Statement.{statement}
@@ -58,10 +58,10 @@ loop-again c = step (turn (c .before .before .before .before)) (c .before .befor
 pub read-rows-spec : {M : Type 1} → statement M
 read-rows-spec =
     tie.close
-    (tie.spec Inv-loop μ-loop (λ c. start _ _ _) (λ c. search needs)
+    (tie.spec Inv-loop μ-loop (λ c. start _ _ _) (λ c. search needs) (λ c. search needs)
     (λ c. c .before .before .before .loop .inv .upto .at-in) (λ c. c .before .before .before .loop .inv .upto .at-in)
     (λ c. search needs) (λ c κs. search needs) (λ c. search needs)
-    (λ c. omega (arith, place-in (turn (c .before .before .before)), ap pairReach (c .before .refusal .given .1)))
+    (λ c. omega (arith, place-in (turn (c .before .before .before)), ap rowReach (c .before .refusal .given .1)))
     (λ c. powers-kept (turn (c .before .before .before) .state))
     (λ c. weights-kept (turn (c .before .before .before) .state)) returns (λ c. search needs) (λ c. search needs)
     slice-write-powers (λ c. search needs) slice-write-weights

@@ -1,6 +1,5 @@
 -- `read_row` meets its contract.
-use mathlib.Core.Path.{refl, _∙_}
-use Rattle.text.proofs.Limit.{length-limits}
+use mathlib.Core.Path.{refl}
 use Rattle.reading.proofs.Row.{row-fault, row-read}
 use borrow.Author.Needs.{needs}
 use Rattle.reading.proofs.rows.read_row.Statement.{statement}
@@ -11,8 +10,7 @@ returns c = row-fault _ _ (rw (c .before .refusal .given .1) at (c .before .befo
 
 returns-2 : tie.Need-returns-2
 returns-2 c =
-    let start = c .before .before .before .before .before .before .before .before .before in
-    row-read _ _ (length-limits (start .args .limits .now) ∙ search needs) refl
+    row-read _ _ refl
     (rw (c .before .len .given .1) at (c .before .before .before .before .read-line .ensures))
 
 pub read-row-spec : {M : Type 1} → statement M
@@ -21,6 +19,7 @@ read-row-spec =
     (tie.spec
     (λ c. search needs)
     (λ c κs. search needs)
+    (λ c. search needs)
     (λ c. search needs)
     (λ c. search needs)
     (λ c. search needs)

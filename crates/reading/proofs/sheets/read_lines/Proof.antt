@@ -1,8 +1,9 @@
 -- `read_lines` meets its contract.
-use mathlib.Core.Path.{_≡_, ap, _∙_}
+use mathlib.Core.Path.{_≡_, refl, ap, _∙_}
 use Prim.Native.Nat.{ℕ}
 use lib.ListN.{length, length-replicate}
-use Rattle.sheet.specs.Sheet.{limitRows, sheetLimits, limitsOn}
+use Rattle.text.proofs.Limit.{full}
+use Rattle.sheet.specs.Sheet.{limitRows, limitsOn}
 use Rattle.sheet.specs.Places.{textWords}
 use Rattle.reading.proofs.NextLine.{due}
 use Rattle.reading.proofs.LineByLine.{no-lines, one-more}
@@ -30,7 +31,7 @@ same-length c =
     omega (arith, c .before .before .next-line10 .ensures .kept)
 
 returns : tie.Need-returns
-unfolding limitRows sheetLimits limitsOn
+unfolding limitRows limitsOn full
 returns c =
     let at-seat = c .before .before in
     let at-power = at-seat .before .before .before .before .before in
@@ -44,16 +45,16 @@ returns c =
     let at-hull = at-form .before .before .before .before .before in
     let start = at-hull .before .before .before .before .before in
     let none = no-lines (start .args .text .now) (start .args .words .now) (start .pre .1) in
-    let hull = one-more (omega arith) none (at-hull .next-line .ensures) in
-    let form = one-more (omega arith) hull (at-form .next-line2 .ensures) in
-    let q = one-more (omega arith) form (at-q .next-line3 .ensures) in
-    let r = one-more (omega arith) q (at-r .next-line4 .ensures) in
-    let s = one-more (omega arith) r (at-s .next-line5 .ensures) in
-    let t = one-more (omega arith) s (at-t .next-line6 .ensures) in
-    let vol = one-more (omega arith) t (at-vol .next-line7 .ensures) in
-    let mass = one-more (omega arith) vol (at-mass .next-line8 .ensures) in
-    let power = one-more (omega arith) mass (at-power .next-line9 .ensures) in
-    one-more (omega arith) power (at-seat .next-line10 .ensures)
+    let hull = one-more (omega arith) none (at-hull .next-line .ensures) refl in
+    let form = one-more (omega arith) hull (at-form .next-line2 .ensures) refl in
+    let q = one-more (omega arith) form (at-q .next-line3 .ensures) refl in
+    let r = one-more (omega arith) q (at-r .next-line4 .ensures) refl in
+    let s = one-more (omega arith) r (at-s .next-line5 .ensures) refl in
+    let t = one-more (omega arith) s (at-t .next-line6 .ensures) refl in
+    let vol = one-more (omega arith) t (at-vol .next-line7 .ensures) refl in
+    let mass = one-more (omega arith) vol (at-mass .next-line8 .ensures) refl in
+    let power = one-more (omega arith) mass (at-power .next-line9 .ensures) refl in
+    one-more (omega arith) power (at-seat .next-line10 .ensures) refl
 
 pub read-lines-spec : {M : Type 1} → statement M
 read-lines-spec =

@@ -5,7 +5,7 @@ use Prim.Native.Nat.{ℕ}
 use lib.ListN.{length, length-replicate}
 use Rattle.text.specs.Line.{shiftBy}
 use Rattle.ground.proofs.Stores.{putBack}
-use Rattle.sheet.specs.Sheet.{limitRows, sheetLimits, limitsOn}
+use Rattle.sheet.specs.Sheet.{limitRows, limitsOn}
 use Rattle.sheet.specs.Places.{textWords}
 use Rattle.sheet.specs.Lines.{lines}
 use Rattle.reading.specs.Steps.{restOn}
@@ -18,7 +18,7 @@ use Rattle.reading.proofs.sheets.read_parts.Statement.{statement}
 use Rattle.reading.proofs.sheets.read_parts.Tie as tie
 
 read-lines-requires : tie.Need-read-lines-requires
-unfolding limitRows sheetLimits limitsOn
+unfolding limitRows limitsOn
 read-lines-requires c κs = (refl, c .before .before .before .before .pre)
 
 text-from : tie.Need-sub-read-rest
