@@ -1,18 +1,19 @@
 -- The fittings, written one after another.
 use mathlib.Core.Path.{_≡_, refl, sym, ap, _∙_}
-use mathlib.Core.Bool.{Bool, true, false}
+use mathlib.Core.Bool.{false}
 use mathlib.Core.List.{List, [], _∷_, _++_, append-nil, append-assoc}
-use Prim.Native.Nat.{ℕ, suc, _+_, _≤_, _<_}
+use Prim.Native.Nat.{ℕ, suc, _+_, _*_, _≤_, _<_}
 use native.Mathlib.Numerals.{add-one}
 use native.Mathlib.Omega.{arith}
 use borrow.Author.Tests.{eq-eqb, ne-eqb}
 use lib.Dec.{eqb}
 use lib.ListN.{length, drop, getD, length-append, drop-of-length-le}
+use Rattle.text.specs.Limit.{ranging}
 use Rattle.text.specs.Line.{Line, Laid, numbersText, lineText}
+use Rattle.ground.proofs.Booleans.{by-test}
 use Rattle.ground.proofs.Stores.{drop-more}
 use Rattle.text.proofs.Laid.{laid-none, laid-more, laid-length}
-use Rattle.form.proofs.Pairs.{pairLine}
-use Rattle.sheet.specs.Lines.{fittings, fittingHigh, fitLine}
+use Rattle.sheet.specs.Lines.{fittings, fitLine}
 use Rattle.sheet.proofs.Writing.{fits-none, fits-empty, fits-line}
 use Rattle.writing.specs.Pieces.{fitsText}
 
@@ -20,65 +21,68 @@ use Rattle.writing.specs.Pieces.{fitsText}
 
 -- a FIT line whose number is n or more, as the code has it
 abbrev fitFrom : ℕ → Line
-fitFrom n = pairLine (fitLine .tag) n fittings 1 fittingHigh
+fitFrom n = record { tag = fitLine .tag; limits = ranging n fittings ∷ drop 1 (fitLine .limits) }
 
-pub fit-none : (n w : ℕ) → w ≡ 0 → fitsText n (w ∷ []) ≡ []
-fit-none n w e = fits-empty n w [] (eq-eqb w 0 e) ∙ fits-none (suc n)
+module _ (n w c : ℕ) where
+  pub fit-none : w ≡ 0 → fitsText n (w ∷ c ∷ []) ≡ []
+  fit-none e = fits-empty n w c [] (eq-eqb w 0 e) ∙ fits-none (suc n)
 
-fit-line : (n w : ℕ) → eqb w 0 ≡ false → fitsText n (w ∷ []) ≡ lineText fitLine (n ∷ w ∷ [])
-fit-line n w e = fits-line n w [] e ∙ rw (fits-none (suc n)) (append-nil (lineText fitLine (n ∷ w ∷ [])))
+  fit-line : eqb w 0 ≡ false → fitsText n (w ∷ c ∷ []) ≡ lineText fitLine (n ∷ w ∷ c ∷ [])
+  fit-line e = fits-line n w c [] e ∙ rw (fits-none (suc n)) (append-nil (lineText fitLine (n ∷ w ∷ c ∷ [])))
 
-pub fit-some : (n w : ℕ) → (w ≡ 0 → ⊥) → fitsText n (w ∷ []) ≡ lineText (fitFrom n) (n ∷ w ∷ [])
-unfolding numbersText
-fit-some n w e = fit-line n w (ne-eqb w 0 e)
+  pub fit-some : (w ≡ 0 → ⊥) → fitsText n (w ∷ c ∷ []) ≡ lineText (fitFrom n) (n ∷ w ∷ c ∷ [])
+  unfolding numbersText
+  fit-some e = fit-line (ne-eqb w 0 e)
 
--- a fitting, and then the others
-fits-first : (n w : ℕ) (ws : List ℕ) → fitsText n (w ∷ ws) ≡ fitsText n (w ∷ []) ++ fitsText (suc n) ws
-fits-first n w ws = go (eqb w 0) refl
-  where
-    go : (u : Bool) → eqb w 0 ≡ u → fitsText n (w ∷ ws) ≡ fitsText n (w ∷ []) ++ fitsText (suc n) ws
-    go true e = fits-empty n w ws e ∙ rw (fits-empty n w [] e, fits-none (suc n))
-    go false e = fits-line n w ws e ∙ ap (λ (x : List ℕ). x ++ fitsText (suc n) ws) (sym (fit-line n w e))
+  -- a fitting, and then the others
+  fits-first : (s : List ℕ) → fitsText n (w ∷ c ∷ s) ≡ fitsText n (w ∷ c ∷ []) ++ fitsText (suc n) s
+  fits-first s =
+      by-test (eqb w 0) (λ e. fits-empty n w c s e ∙ rw (fits-empty n w c [] e, fits-none (suc n)))
+      (λ e. fits-line n w c s e ∙ ap (λ (x : List ℕ). x ++ fitsText (suc n) s) (sym (fit-line e)))
 
 -- ---- the loop
 
--- i weights are passed, and their fittings are written up to the place `at`
-pub record State (ws o₀ o : List ℕ) (line i at : ℕ) : Type 0 where
+-- i lines are passed, and their fittings are written up to the place `at`
+pub record State (s o₀ o : List ℕ) (i at : ℕ) : Type 0 where
   pub so : List ℕ
-  pub numbered : line ≡ i + 1
   pub laid : Laid so o₀ 0 at o
-  pub so-far : fitsText 1 ws ≡ so ++ fitsText (i + 1) (drop i ws)
+  pub so-far : fitsText 1 s ≡ so ++ fitsText (i + 1) (drop (2 * i) s)
 
-pub start : (ws o : List ℕ) → State ws o o 1 0 0
-start ws o = record { so = []; numbered = refl; laid = laid-none o 0; so-far = refl }
+pub start : (s o : List ℕ) → State s o o 0 0
+start s o = record { so = []; laid = laid-none o 0; so-far = refl }
 
-module _ {ws o₀ o : List ℕ} {line i at : ℕ} (p : State ws o₀ o line i at) where
-  pub done : length ws ≤ i → Laid (fitsText 1 ws) o₀ 0 at o
-  done h = rw (p .so-far, drop-of-length-le ws {i = i} h, fits-none (i + 1), append-nil) (p .laid)
+module _ {s o₀ o : List ℕ} {i at : ℕ} (p : State s o₀ o i at) (n : length s ≡ 2 * fittings) where
+  pub done : fittings ≤ i → Laid (fitsText 1 s) o₀ 0 at o
+  done h = rw (p .so-far, drop-of-length-le s {i = 2 * i} (omega arith), fits-none (i + 1), append-nil) (p .laid)
 
-  module _ (h : i < length ws) where
-    abbrev here : ℕ → List ℕ
-    here n = fitsText n (getD ws i 0 ∷ [])
+  module _ (h : i < fittings) where
+    abbrev here : List ℕ
+    here = fitsText (i + 1) (getD s (2 * i) 0 ∷ getD s (2 * i + 1) 0 ∷ [])
 
     abbrev rest : List ℕ
-    rest = fitsText (i + 1 + 1) (drop (i + 1) ws)
+    rest = fitsText (i + 1 + 1) (drop (2 * (i + 1)) s)
 
-    entered : fitsText 1 ws ≡ p .so ++ (here line ++ rest)
+    entered : fitsText 1 s ≡ p .so ++ (here ++ rest)
     entered =
-        let e : fitsText (i + 1) (drop i ws) ≡ here (i + 1) ++ rest =
-        rw (drop-more ws i h, add-one (i + 1)) (fits-first (i + 1) (getD ws i 0) (drop (i + 1) ws)) in
-        p .so-far ∙ rw (e, p .numbered)
+        let next : 2 * i + 1 + 1 ≡ 2 * (i + 1) = omega arith in
+        let e : drop (2 * i) s ≡ getD s (2 * i) 0 ∷ getD s (2 * i + 1) 0 ∷ drop (2 * (i + 1)) s =
+        rw (drop-more s (2 * i) (omega arith), drop-more s (2 * i + 1) (omega arith), next) in
+        p .so-far
+        ∙ rw (
+          e,
+          fits-first (i + 1) (getD s (2 * i) 0) (getD s (2 * i + 1) 0) (drop (2 * (i + 1)) s),
+          add-one (i + 1),
+        )
 
-    pub room : length (fitsText 1 ws) ≤ length o₀ → at + length (here line) ≤ length o
+    pub room : length (fitsText 1 s) ≤ length o₀ → at + length here ≤ length o
     room r =
-        let n = length-append (p .so) (here line ++ rest) in
-        omega (arith, p .laid .end, laid-length (p .laid), ap length entered, length-append (here line) rest)
+        let n = length-append (p .so) (here ++ rest) in
+        omega (arith, p .laid .end, laid-length (p .laid), ap length entered, length-append here rest)
 
-    pub step : {r : ℕ} {o₁ : List ℕ} → Laid (here line) o at r o₁ → State ws o₀ o₁ (line + 1) (i + 1) r
+    pub step : {r : ℕ} {o₁ : List ℕ} → Laid here o at r o₁ → State s o₀ o₁ (i + 1) r
     step q =
         record {
-          so = p .so ++ here line;
-          numbered = omega (arith, p .numbered);
+          so = p .so ++ here;
           laid = laid-more (p .laid) q;
-          so-far = entered ∙ sym (append-assoc (p .so) (here line) rest);
+          so-far = entered ∙ sym (append-assoc (p .so) here rest);
         }

@@ -2,7 +2,7 @@
 use mathlib.Core.Path.{_≡_, sym, ap, _∙_}
 use mathlib.Core.Bool.{true, false}
 use mathlib.Core.List.{List, [], _++_}
-use Prim.Native.Nat.{ℕ, _+_, _-_, _≤_, _<_}
+use Prim.Native.Nat.{ℕ, _+_, _-_, _*_, _≤_, _<_}
 use native.Mathlib.Omega.{arith}
 use borrow.Author.Tests.{le-leb, lt-leb}
 use lib.ListN.{length, take, drop, length-append, length-drop}
@@ -48,8 +48,8 @@ module _ (s : List ℕ) {o₀ o₁ : List ℕ} {mid : ℕ}
     pub lines-in : mid ≤ length o₁
     lines-in = omega (arith, lengths, laid-length (p .laid))
 
-    pub weights-many : length (take (length s - fitsFrom) (drop fitsFrom s)) ≡ fittings
-    weights-many = ap length (rest-part s fitsFrom) ∙ length-drop fitsFrom s ∙ rw n
+    pub fits-many : length (take (length s - fitsFrom) (drop fitsFrom s)) ≡ 2 * fittings
+    fits-many = ap length (rest-part s fitsFrom) ∙ length-drop fitsFrom s ∙ rw n
 
     pub fits-room : length (fitsText 1 (take (length s - fitsFrom) (drop fitsFrom s)))
         ≤ length (take (length o₁ - mid) (drop mid o₁))

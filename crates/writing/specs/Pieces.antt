@@ -6,7 +6,7 @@ use lib.ListN.{length, take, drop}
 use Rattle.text.specs.Line.{Line, Laid, lineOf, lineText}
 use Rattle.form.specs.Writing.{rowsText, partsText}
 use Rattle.sheet.specs.Sheet.{limitRows}
-use Rattle.sheet.specs.Places.{textWords}
+use Rattle.sheet.specs.Places.{fittingsAt, textWords}
 use Rattle.sheet.specs.SheetText.{fitPart, fitRows, rowsOn, lastParts}
 
 -- the line of a tag and of the numbers from..to of a sheet
@@ -18,16 +18,16 @@ pub record Due (tag : List ℕ) (limits : List (List ℕ)) (s : List ℕ) (from 
   pub table : limits ≡ limitRows
   pub many : length s ≡ textWords
   pub order : from ≤ to
-  pub end : to ≤ textWords
+  pub end : to ≤ 1 + fittingsAt
   pub room : at + length (lineText (lineFrom tag from to) (drop from s)) ≤ length o
 
--- the text of the weights on the fitting lines from n on
+-- the text of the fitting lines from n on
 abbrev pub fitsText : ℕ → List ℕ → List ℕ
-fitsText n ws = rowsText (fitPart .kinds) (fitRows n ws)
+fitsText n s = rowsText (fitPart .kinds) (fitRows n s)
 
 -- the text of what follows the line SEAT: of the fittings, and END
 abbrev pub restText : List ℕ → List ℕ
-restText ws = partsText lastParts (rowsOn [] ws)
+restText s = partsText lastParts (rowsOn [] s)
 
 -- what of a text stands before the rest of it was laid into o from its start, and r is the place after it
 pub record LaidBefore (rest text o₀ : List ℕ) (r : ℕ) (o : List ℕ) : Type 0 where

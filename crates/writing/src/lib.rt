@@ -1,7 +1,7 @@
 // Writes a sheet as its one text.
 ghost use mathlib.Core.Path.{_≡_};
 ghost use mathlib.Core.List.{[], _∷_};
-ghost use Prim.Native.Nat.{_+_, _≤_};
+ghost use Prim.Native.Nat.{_+_, _*_, _≤_};
 ghost use lib.ListN.{length, drop};
 ghost use Rattle.text.specs.Line.{Laid, lineText};
 ghost use Rattle.answers.specs.Settled.{Settled};
@@ -13,8 +13,10 @@ ghost use Rattle.sheet.specs.TextCalls.{writeAnswer, writeInto};
 ghost use Rattle.writing.specs.Pieces.{lineFrom, Due, fitsText, restText, LaidBefore};
 use answers::Answer;
 use answers::NO_ROOM;
+use sheet::FITTING_COUNT;
 use sheet::FITTING_HIGH;
 use sheet::FITTING_LINES;
+use sheet::FITTINGS;
 use sheet::FORM_LINE;
 use sheet::HULL_LINE;
 use sheet::LIMITS;
@@ -69,29 +71,31 @@ fn write_lines(limits: &[Limit], sheet: &[u32], out: &mut [u8]) -> usize
 }
 
 // Writes the line of a fitting from a place on, if the fitting is there, and answers the place after it.
-fn write_fit(line: u32, weight: u32, out: &mut [u8], at: usize) -> usize
-    requires { ⌜ at + length (fitsText line (weight ∷ [])) ≤ length (now out) ⌝ }
-    ensures { λ r. ⌜ Laid (fitsText line (weight ∷ [])) (now (out .entry)) at r (now (out .exit)) ⌝ }
+fn write_fit(line: u32, weight: u32, count: u32, out: &mut [u8], at: usize) -> usize
+    requires { ⌜ at + length (fitsText line (weight ∷ count ∷ [])) ≤ length (now out) ⌝ }
+    ensures { λ r. ⌜ Laid (fitsText line (weight ∷ count ∷ [])) (now (out .entry)) at r (now (out .exit)) ⌝ }
 {
     if weight == 0 {
         return at;
     }
-    let limits = [[line, FITTING_LINES, PLAIN], [1, FITTING_HIGH, PLAIN]];
-    let fit = [line, weight];
+    let limits = [
+        [line, FITTING_LINES, PLAIN],
+        [1, FITTING_HIGH, PLAIN],
+        [1, FITTING_COUNT, FITTING_HIGH],
+    ];
+    let fit = [line, weight, count];
     at + spelling::write_line(b"FIT\t", &limits, &fit, &mut out[at..])
 }
 
-// Writes the fittings.
-fn write_fits(weights: &[u32], out: &mut [u8]) -> usize
-    requires { ⌜ (length (now weights) ≡ fittings) × (length (fitsText 1 (now weights)) ≤ length (now out)) ⌝ }
-    ensures { λ r. ⌜ Laid (fitsText 1 (now (weights .entry))) (now (out .entry)) 0 r (now (out .exit)) ⌝ }
+// Writes the fittings, whose lines count from 1.
+fn write_fits(fits: &[u32], out: &mut [u8]) -> usize
+    requires { ⌜ (length (now fits) ≡ 2 * fittings) × (length (fitsText 1 (now fits)) ≤ length (now out)) ⌝ }
+    ensures { λ r. ⌜ Laid (fitsText 1 (now (fits .entry))) (now (out .entry)) 0 r (now (out .exit)) ⌝ }
 {
-    let mut line = 1;
     let mut i = 0;
     let mut at = 0;
-    while i < weights.len() {
-        at = write_fit(line, weights[i], out, at);
-        line += 1;
+    while i < FITTINGS {
+        at = write_fit(i as u32 + 1, fits[2 * i], fits[2 * i + 1], out, at);
         i += 1;
     }
     at

@@ -2,7 +2,7 @@
 use mathlib.Core.Bool.{true}
 use mathlib.Core.Path.{_≡_, refl, sym, _∙_}
 use lib.Seq.{length-take-le}
-use Rattle.sheet.specs.Sheet.{limitRows, limitsOn, sheetLimits, sheetOk}
+use Rattle.sheet.specs.Sheet.{limitRows, limitsOn, sheetOk}
 use Rattle.sheet.proofs.Most.{text-most}
 use Rattle.writing.proofs.WriteCall.{Written, written, settled-outside, settled-short, settled-written}
 use native.Mathlib.Omega.{arith}
@@ -25,7 +25,7 @@ laid : (c : tie.After-write-words)
 laid c = written (within c) (c .write-words .ensures) (text-most (begun c .args .sheet .now) (within c))
 
 write-words-requires : tie.Need-write-words-requires
-unfolding limitRows sheetLimits limitsOn
+unfolding limitRows limitsOn
 write-words-requires c κs =
     let at-if1 = c .before .before .before in
     let start = at-if1 .before .before .before .before in

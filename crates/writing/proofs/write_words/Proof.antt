@@ -4,7 +4,7 @@ use Prim.Native.Nat.{_+_, _≤_}
 use lib.ListN.{length}
 use Rattle.sheet.specs.SheetText.{sheetText}
 use Rattle.text.proofs.Laid.{laid-length}
-use Rattle.writing.proofs.WriteCall.{lines-in, weights-many, fits-room, end-place, end-length, words-laid}
+use Rattle.writing.proofs.WriteCall.{lines-in, fits-many, fits-room, end-place, end-length, words-laid}
 use native.Mathlib.Omega.{arith}
 use borrow.Author.Needs.{needs}
 use Rattle.writing.proofs.write_words.Statement.{statement}
@@ -22,7 +22,7 @@ write-fits-requires c κs =
     let start = at-lines .before .before .before .before in
     let s = start .args .sheet .now in
     let lines = at-lines .write-lines .ensures in
-    (weights-many s lines (start .pre .1) (start .pre .2), fits-room s lines (start .pre .1) (start .pre .2))
+    (fits-many s lines (start .pre .1) (start .pre .2), fits-room s lines (start .pre .1) (start .pre .2))
 
 abbrev begun : tie.After-write-fits → tie.Start
 begun c = c .before .before .before .before .before .before .before .before .before
