@@ -78,13 +78,7 @@ pub extern "C" fn wb_open(mem: &mut [u32], desk: u32, hull: u32) -> WbAnswer
 
 // Puts a fitting on a line of a desk's draft.
 #[no_mangle]
-pub extern "C" fn wb_put(
-    mem: &mut [u32],
-    desk: u32,
-    line: u32,
-    weight: u32,
-    count: u32,
-) -> WbAnswer
+pub extern "C" fn wb_put(mem: &mut [u32], desk: u32, line: u32, weight: u32, count: u32) -> WbAnswer
     ensures { λ r. ⌜ WbChanges (step (now (mem .entry)) (work desk (put line weight count))) r (now (mem .exit)) ⌝ }
 {
     face(answering::put_fitting(mem, desk, line, weight, count))
