@@ -1,5 +1,6 @@
 -- `put_own` meets its contract.
 use Rattle.register.proofs.Own.{put-outside, put-within}
+use borrow.Author.Needs.{needs}
 use Rattle.answering.proofs.put_own.Statement.{statement}
 use Rattle.answering.proofs.put_own.Tie as tie
 
@@ -10,4 +11,4 @@ returns-2 : tie.Need-returns-2
 returns-2 c = put-outside _ _ _ (c .before .line-ok .ensures) (c .if1 .left)
 
 pub put-own-spec : {M : Type 1} → statement M
-put-own-spec = tie.close (tie.spec returns returns-2)
+put-own-spec = tie.close (tie.spec (λ c κs. search needs) returns returns-2)
