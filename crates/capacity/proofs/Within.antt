@@ -10,7 +10,7 @@ use lib.Seq.{getD-take, getD-drop}
 use Rattle.text.specs.Limit.{Limit, isNone, holds, allHold}
 use Rattle.ground.proofs.Booleans.{both-hold, false-true, by-test}
 use Rattle.text.proofs.Limit.{within-high, holds-within, none-zero}
-use Rattle.sheet.specs.Lines.{lines, fittings}
+use Rattle.sheet.specs.Lines.{lines, fittings, fittingHigh}
 use Rattle.sheet.specs.Sheet.{limitsOn, fitsOk, wordsOk}
 use Rattle.sheet.specs.Places.{lengthAt, referenceAt, transomWidthAt, readings, stationAt, aftAt, wellAt}
 use Rattle.sheet.specs.Places.{floodingAt}
@@ -20,7 +20,7 @@ use Rattle.capacity.specs.Words.{hullLength, reference, transomWidth, st
 use Rattle.capacity.specs.Words.{machinery}
 use Rattle.capacity.specs.Words.{positions, fittingsOf}
 use Rattle.capacity.specs.Highs.{highs, highAt, Readings, Stations, Fittings}
-use Rattle.capacity.proofs.Weights.{fits-light}
+use Rattle.capacity.proofs.Weights.{lineWeight, fits-light, line-most}
 
 holds-high : (l : Limit) (last n : ℕ) → holds l last n ≡ true → n ≤ l .high
 holds-high l last n e =
@@ -84,6 +84,9 @@ module _ (s : List ℕ) (ok : wordsOk s ≡ true) where
 
   pub fittings-within : Fittings (fittingsOf s)
   fittings-within = fits-light (fittingsOf s) (run .1)
+
+  pub line-within : (line : ℕ) → 1 ≤ line → lineWeight s line ≤ fittingHigh
+  line-within = line-most s fittings-within
 
   -- ---- the stations
 
