@@ -1,9 +1,9 @@
 // One reader and one writer for every line, of a sheet or of engine rows: its tag, then numbers by a table of limits.
 ghost use mathlib.Core.Path.{_≡_};
 ghost use mathlib.Core.Bool.{_&&_, cond};
-ghost use Prim.Native.Nat.{_+_, _<_, _^_};
+ghost use Prim.Native.Nat.{_+_, _≤_, _<_, _^_};
 ghost use lib.Dec.{eqb};
-ghost use lib.ListN.{drop, set};
+ghost use lib.ListN.{length, drop, set};
 ghost use Rattle.text.specs.Field.{begins};
 ghost use Rattle.text.specs.Quoted.{tab, feed, dash};
 ghost use Rattle.text.specs.Limit.{orNone, limitOf, limitsOf};
@@ -170,27 +170,28 @@ fn write_entry(l: Limit, n: u32, out: &mut [u8], at: usize) -> usize
     at + write_number(&mut out[from..], n as u64)
 }
 
-// Writes numbers by the limits of the table, as far as there are both, from a place on, and answers the place after
-// them.
+// Writes a number for each limit of the table from a place on, and answers the place after them.
 fn write_numbers(table: &[Limit], numbers: &[u32], out: &mut [u8], start: usize) -> usize
-    requires { ⌜ start < 2 ^ 63 ⌝ }
+    requires { ⌜ (start < 2 ^ 63) × (length (now table) ≤ length (now numbers)) ⌝ }
     ensures { λ r. ⌜ Laid (numbersText (limitsOf (now (table .entry))) (now (numbers .entry))) (now (out .entry))
         start r (now (out .exit)) ⌝ }
 {
-    let end = shorter(table.len(), numbers.len());
+    let count = table.len();
     let mut k = 0;
     let mut at = start;
-    while k < end {
+    while k < count {
         at = write_entry(table[k], numbers[k], out, at);
-        store(out, at, ender_before(end - k - 1));
+        store(out, at, ender_before(count - k - 1));
         at += 1;
         k += 1;
     }
     at
 }
 
-// Writes one line by its form from the start of out, as far as out goes, and answers how long the line is.
+// Writes one line by its form from the start of out, as far as out goes, and answers how long the line is. There is a
+// number for each limit of the table; those beyond are not written.
 pub fn write_line(tag: &[u8], table: &[Limit], numbers: &[u32], out: &mut [u8]) -> usize
+    requires { ⌜ length (now table) ≤ length (now numbers) ⌝ }
     ensures { λ r. ⌜ Laid (lineText (lineOf (now (tag .entry)) (now (table .entry))) (now (numbers .entry)))
         (now (out .entry)) 0 r (now (out .exit)) ⌝ }
 {

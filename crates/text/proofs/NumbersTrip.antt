@@ -7,12 +7,10 @@ use Prim.Native.Nat.{ℕ, _+_}
 use native.Mathlib.Nat.{add-zero}
 use native.Mathlib.Omega.{arith}
 use lib.Dec.{ltb}
-use lib.ListN.{length, drop, length-append}
-use lib.Seq.{drop-append-seam, drop-drop}
+use lib.ListN.{length, drop}
 use Rattle.text.specs.declared.LineRead.{LineRead}
 use Rattle.text.specs.declared.LineRead.the-variants.{Taken, Fault}
 use Rattle.text.specs.Quoted.{tab, feed}
-use Rattle.text.specs.Field.{fieldOf}
 use Rattle.text.specs.Number.{elevenDigits}
 use Rattle.text.specs.Limit.{Limit, counts, holds, spare, allHold}
 use Rattle.text.specs.Line.{Reading, shiftBy, ender, stopsShort, readEntry, readNumbers}

@@ -2,16 +2,15 @@
 use mathlib.Core.Path.{_≡_, refl, _∙_}
 use mathlib.Core.Bool.{cond}
 use mathlib.Core.List.{List, [], _∷_, _++_, append-nil, append-assoc}
-use Prim.Native.Nat.{ℕ, suc, _+_, _-_, _*_, _≤_, _<_, min}
+use Prim.Native.Nat.{ℕ, _+_, _-_, _*_, _≤_, _<_}
 use native.Mathlib.Omega.{arith}
-use borrow.Author.Tests.{eq-eqb, ne-eqb}
 use lib.Dec.{eqb}
-use lib.ListN.{length, take, drop, getD, set, length-drop, drop-of-length-le}
+use lib.ListN.{length, take, drop, getD, set, length-drop}
 use Rattle.text.specs.Quoted.{tab, feed}
 use Rattle.text.specs.Number.{elevenDigits}
 use Rattle.text.specs.Limit.{Limit, isNone, limitsOf}
 use Rattle.text.specs.Line.{Laid, entryText, closer, numbersText}
-use Rattle.ground.proofs.Booleans.{by-test, by-less}
+use Rattle.ground.proofs.Booleans.{by-test}
 use Rattle.ground.proofs.Stores.{drop-more}
 use Rattle.text.proofs.Number.{length-digits-ten}
 use Rattle.text.proofs.Limit.{limitAt, length-limits, limits-more, limits-end}
@@ -44,21 +43,20 @@ numbers-take (l ∷ ls) (n ∷ ns) = rw (closer-take ls ns, numbers-take ls ns)
 
 -- ---- the loop
 
--- how many are written
-abbrev pub manyWritten : List (List ℕ) → List ℕ → ℕ
-manyWritten table ns = min (length table) (length ns)
+-- there are as many numbers as limits, or more
+closer-left : (ls : List Limit) (ns : List ℕ) → length ls ≤ length ns
+    → closer ls ns ≡ cond (eqb (length ls) 0) feed tab
+closer-left [] ns h = refl
+closer-left (l ∷ ls) [] h = absurd (omega arith)
+closer-left (l ∷ ls) (n ∷ ns) h = rw (lib.Dec.eqb·suc-zero (length ls))
 
-closer-left : (ls : List Limit) (ns : List ℕ) → closer ls ns ≡ cond (eqb (min (length ls) (length ns)) 0) feed tab
-closer-left [] ns = rw (eq-eqb (min 0 (length ns)) 0 (omega arith))
-closer-left (l ∷ ls) [] = rw (eq-eqb (min (suc (length ls)) 0) 0 (omega arith))
-closer-left (l ∷ ls) (n ∷ ns) = rw (ne-eqb (min (suc (length ls)) (suc (length ns))) 0 (λ e. omega arith))
-
-closer-after : (table : List (List ℕ)) (ns : List ℕ) (k : ℕ)
+closer-after : (table : List (List ℕ)) (ns : List ℕ) (k : ℕ) → length table ≤ length ns
     → closer (limitsOf (drop (k + 1) table)) (drop (k + 1) ns)
-    ≡ cond (eqb (manyWritten table ns - k - 1) 0) feed tab
-closer-after table ns k =
-    let n : min (length table - (k + 1)) (length ns - (k + 1)) ≡ manyWritten table ns - k - 1 = omega arith in
-    closer-left (limitsOf (drop (k + 1) table)) (drop (k + 1) ns) ∙ rw (length-limits, length-drop, length-drop, n)
+    ≡ cond (eqb (length table - k - 1) 0) feed tab
+closer-after table ns k h =
+    let n : length table - (k + 1) ≡ length table - k - 1 = omega arith in
+    let m : length (limitsOf (drop (k + 1) table)) ≡ length table - k - 1 = rw (length-limits, length-drop, n) in
+    closer-left (limitsOf (drop (k + 1) table)) (drop (k + 1) ns) (omega (arith, m, length-drop (k + 1) ns)) ∙ rw m
 
 -- the text of the numbers from place k on
 abbrev pub textFrom : List (List ℕ) → List ℕ → ℕ → List ℕ
@@ -76,34 +74,27 @@ begin table ns o start =
     record { so = []; most = omega arith; laid = laid-none o start; so-far = refl }
 
 module _ {table : List (List ℕ)} {ns o₀ o : List ℕ} {start k at : ℕ} (s : State table ns o₀ o start k at) where
-  -- no limit is left, or no number
-  none-left : manyWritten table ns ≤ k → textFrom table ns k ≡ []
+  -- no limit is left
+  pub done : length table ≤ k → Laid (numbersText (limitsOf table) ns) o₀ start at o
   unfolding numbersText
-  none-left h =
-      by-less k (length table)
-      (λ l. rw (drop-of-length-le ns {i = k} (omega arith)) (numbers-none (limitsOf (drop k table))))
-      (λ l. rw (limits-end table k l))
-
-  pub done : manyWritten table ns ≤ k → Laid (numbersText (limitsOf table) ns) o₀ start at o
-  done h = rw (s .so-far, none-left h, append-nil) (s .laid)
+  done h =
+      let none : textFrom table ns k ≡ [] = rw (limits-end table k h) in
+      rw (s .so-far, none, append-nil) (s .laid)
 
   pub step : {mid e : ℕ} {o₁ : List ℕ}
-      → k < manyWritten table ns
+      → k < length table
+      → length table ≤ length ns
       → getD ns k 0 < elevenDigits
-      → e ≡ cond (eqb (manyWritten table ns - k - 1) 0) feed tab
+      → e ≡ cond (eqb (length table - k - 1) 0) feed tab
       → Laid (entryText (limitAt table k) (getD ns k 0)) o at mid o₁
       → State table ns o₀ (set o₁ mid e) start (k + 1) (mid + 1)
   unfolding numbersText
-  step {mid} {e} {o₁} h n w p =
+  step {mid} {e} {o₁} h l n w p =
       record {
         so = s .so ++ (entryText (limitAt table k) (getD ns k 0) ++ (e ∷ []));
         most = omega (arith, p .end, s .most, length-entry-ten (limitAt table k) (getD ns k 0) n);
         laid = laid-more (s .laid) (laid-more p (laid-byte o₁ mid e));
         so-far = s .so-far
-            ∙ rw (
-              limits-more table k (omega arith),
-              drop-more ns k (omega arith),
-              closer-after table ns k,
-              w,
-            ) (simp append-assoc);
+            ∙ rw (limits-more table k h, drop-more ns k (omega arith), closer-after table ns k l, w)
+            (simp append-assoc);
       }

@@ -1,11 +1,8 @@
 -- `write_numbers` meets its contract.
 use mathlib.Core.Path.{ap, _∙_}
-use mathlib.Core.Bool.{cond}
-use Prim.Native.Nat.{ℕ, _-_, _<_}
-use lib.Dec.{eqb}
+use Prim.Native.Nat.{_-_, _<_}
 use lib.ListN.{length, getD}
 use lib.Seq.{length-sets}
-use Rattle.text.specs.Quoted.{tab, feed}
 use Rattle.text.specs.Number.{elevenDigits}
 use Rattle.text.proofs.Limit.{limitAt}
 use Rattle.text.proofs.Writing.{State, begin, done, step, length-entry-ten}
@@ -15,18 +12,18 @@ use Rattle.spelling.proofs.lines.write_numbers.Statement.{statement}
 use Rattle.spelling.proofs.lines.write_numbers.Tie as tie
 
 abbrev Inv-loop : tie.InvT-loop
-Inv-loop table numbers out₀ start end k₀ at₀ out k at = State table numbers out₀ out start k at
+Inv-loop table numbers out₀ start count k₀ at₀ out k at = State table numbers out₀ out start k at
 
 abbrev μ-loop : tie.MeasureT-loop
-μ-loop table numbers out₀ start end k₀ at₀ out k at = end - k
+μ-loop table numbers out₀ start count k₀ at₀ out k at = count - k
 
 abbrev call : tie.At-loop Inv-loop μ-loop → tie.Start Inv-loop μ-loop
-call c = c .before .before .before .before
+call c = c .before .before .before
 
 write-entry-requires : tie.Need-write-entry-requires Inv-loop μ-loop
 write-entry-requires c κs =
     let at = c .before .before .before .before in
-    omega (arith, call at .pre, call at .good, at .loop .inv .most)
+    omega (arith, call at .pre .0, call at .good, at .loop .inv .most)
 
 -- ---- a number is written
 
@@ -45,23 +42,20 @@ add-at c =
     let at = turn (written c) in
     let s = call at in
     let l = length-entry-ten (limitAt (s .args .table .now) (at .loop .k)) _ (small (written c)) in
-    omega (arith, written c .write-entry .ensures .end, at .loop .inv .most, s .pre, s .good)
+    omega (arith, written c .write-entry .ensures .end, at .loop .inv .most, s .pre .0, s .good)
 
 loop-again : tie.Need-loop-again Inv-loop μ-loop
 loop-again c =
     let at = written c in
-    let end = turn at .before .shorter .ensures in
     rw (c .before .before .store .ensures)
-    (step (turn at .loop .inv) (omega arith) (small at)
-    (c .before .before .before .ender-before .ensures
-    ∙ ap (λ (n : ℕ). cond (eqb (n - turn at .loop .k - 1) 0) feed tab) end)
-    (at .write-entry .ensures))
+    (step (turn at .loop .inv) (omega arith) (call (turn at) .pre .1) (small at)
+    (c .before .before .before .ender-before .ensures) (at .write-entry .ensures))
 
 pub write-numbers-spec : {M : Type 1} → statement M
 write-numbers-spec =
     tie.close
-    (tie.spec Inv-loop μ-loop (λ c κs. search needs) (λ c. begin _ _ _ _)
+    (tie.spec Inv-loop μ-loop (λ c. begin _ _ _ _)
     (λ c. search needs) (λ c. search needs) (λ c. search needs) (λ c. search needs) write-entry-requires
     (λ c. search needs) (λ c. search needs) (λ c κs. search needs) (λ c κs. search needs) add-at (λ c. search needs)
     (λ c. search needs) loop-again (λ c. ap length (c .before .loop .inv .laid .laid) ∙ simp length-sets)
-    (λ c. done (c .before .loop .inv) (omega (arith, c .before .before .shorter .ensures))))
+    (λ c. done (c .before .loop .inv) (omega arith)))
