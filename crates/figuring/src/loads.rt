@@ -27,8 +27,9 @@ pub fn marked_c(sheet: &[u32]) -> u64
     requires { ⌜ wordsOk (now sheet) ≡ true ⌝ }
     ensures { λ r. ⌜ r ≡ orZero (markedC (now (sheet .entry))) ⌝ }
 {
-    let gain = gain_of(sheet);
+    // the boat first, so that no other sum has to outlive that one's call (DECISIONS)
     let loss = loss_of(sheet, boat_of(sheet) + carried_of(sheet));
+    let gain = gain_of(sheet);
     if LOW_POWER < sheet[DECLARED] {
         whole_part(gain, loss, MARKED_KILO)
     } else {
@@ -42,9 +43,10 @@ pub fn marked_a(sheet: &[u32]) -> u64
     requires { ⌜ wordsOk (now sheet) ≡ true ⌝ }
     ensures { λ r. ⌜ r ≡ orZero (markedA (now (sheet .entry))) ⌝ }
 {
-    let gain = gain_of(sheet) + HALF_MARKED;
+    // the boat first, so that no other sum has to outlive that one's call (DECISIONS)
     let boat = boat_of(sheet);
     let carried = carried_of(sheet);
+    let gain = gain_of(sheet) + HALF_MARKED;
     if sheet[OUTBOARD] == 1 {
         whole_part(gain, loss_of(sheet, boat + carried), MARKED_KILO)
     } else {

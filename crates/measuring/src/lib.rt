@@ -11,6 +11,8 @@ ghost use Rattle.sheet.specs.Places.{readings, stations, stationAt, aftAt, fitt
 ghost use Rattle.measuring.specs.Part.{partOk, Lent, WordPart, AlikePart};
 use sheet::AFT;
 use sheet::BARE;
+use sheet::FIT_COUNT;
+use sheet::FIT_WEIGHT;
 use sheet::FITTED;
 use sheet::FITTING_COUNT;
 use sheet::FITTING_HIGH;
@@ -100,19 +102,6 @@ fn fit_ok(weight: u32, count: u32) -> bool
     weight as u64 * count as u64 <= FITTING_HIGH as u64
 }
 
-// Whether line, weight and count are those of a FIT line within its limits.
-pub fn line_ok(line: u32, weight: u32, count: u32) -> bool
-    ensures { λ r. ⌜ r ≡ allHold (fitLine .limits) 0 (line ∷ weight ∷ count ∷ []) ⌝ }
-{
-    let limits = [
-        [1, FITTING_LINES, PLAIN],
-        [1, FITTING_HIGH, PLAIN],
-        [1, FITTING_COUNT, FITTING_HIGH],
-    ];
-    let numbers = [line, weight, count];
-    spelling::all_hold(&limits, &numbers)
-}
-
 // The same of all fitting lines.
 fn fits_ok(fits: &[u32]) -> bool
     requires { ⌜ length (now fits) ≡ 2 * fittings ⌝ }
@@ -127,6 +116,15 @@ fn fits_ok(fits: &[u32]) -> bool
         }
     }
     true
+}
+
+// Whether line, weight and count are those of a FIT line within its limits.
+pub fn line_ok(line: u32, weight: u32, count: u32) -> bool
+    ensures { λ r. ⌜ r ≡ allHold (fitLine .limits) 0 (line ∷ weight ∷ count ∷ []) ⌝ }
+{
+    let limits = [[1, FITTING_LINES, PLAIN], FIT_WEIGHT, FIT_COUNT];
+    let numbers = [line, weight, count];
+    spelling::all_hold(&limits, &numbers)
 }
 
 // Whether the words of a sheet, without its HULL number, are within their limits.

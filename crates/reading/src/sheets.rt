@@ -18,8 +18,8 @@ ghost use Rattle.reading.specs.Steps.{Due, ReadsOn, restOn, Past};
 use crate::RowRead;
 use crate::rows::read_row;
 use answers::Answer;
-use sheet::FITTING_COUNT;
-use sheet::FITTING_HIGH;
+use sheet::FIT_COUNT;
+use sheet::FIT_WEIGHT;
 use sheet::FITTING_LINES;
 use sheet::FITTINGS;
 use sheet::FORM_LINE;
@@ -109,11 +109,7 @@ fn read_fits(text: &[u8], fits: &mut [u32]) -> LineRead
     let mut next = 1;
     while read < FITTINGS {
         if spelling::starts(&text[at..], b'F') {
-            let limits = [
-                [next, FITTING_LINES, PLAIN],
-                [1, FITTING_HIGH, PLAIN],
-                [1, FITTING_COUNT, FITTING_HIGH],
-            ];
+            let limits = [[next, FITTING_LINES, PLAIN], FIT_WEIGHT, FIT_COUNT];
             match read_row(b"FIT\t", &limits, &text[at..]) {
                 RowRead::NoRow(refusal, place) => {
                     return LineRead::Fault(refusal, at + place);

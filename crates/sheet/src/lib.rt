@@ -103,6 +103,11 @@ pub const FITTING_HIGH: u32 = 500_000;
 
 pub const FITTING_COUNT: u32 = 99;
 
+// The limits of a FIT line after its line number: the weight of one piece, and how many there are.
+pub const FIT_WEIGHT: Limit = [1, FITTING_HIGH, PLAIN];
+
+pub const FIT_COUNT: Limit = [1, FITTING_COUNT, FITTING_HIGH];
+
 pub const ENGINE_POWER_HIGH: u32 = 200_000;
 
 pub const ENGINE_WEIGHT_HIGH: u32 = 1_000_000;

@@ -13,8 +13,8 @@ ghost use Rattle.sheet.specs.TextCalls.{writeAnswer, writeInto};
 ghost use Rattle.writing.specs.Pieces.{lineFrom, Due, fitsText, restText, LaidBefore};
 use answers::Answer;
 use answers::NO_ROOM;
-use sheet::FITTING_COUNT;
-use sheet::FITTING_HIGH;
+use sheet::FIT_COUNT;
+use sheet::FIT_WEIGHT;
 use sheet::FITTING_LINES;
 use sheet::FITTINGS;
 use sheet::FORM_LINE;
@@ -78,11 +78,7 @@ fn write_fit(line: u32, weight: u32, count: u32, out: &mut [u8], at: usize) -> u
     if weight == 0 {
         return at;
     }
-    let limits = [
-        [line, FITTING_LINES, PLAIN],
-        [1, FITTING_HIGH, PLAIN],
-        [1, FITTING_COUNT, FITTING_HIGH],
-    ];
+    let limits = [[line, FITTING_LINES, PLAIN], FIT_WEIGHT, FIT_COUNT];
     let fit = [line, weight, count];
     at + spelling::write_line(b"FIT\t", &limits, &fit, &mut out[at..])
 }

@@ -17,7 +17,7 @@ returns-2 c = cc (marked-inboard _ (ne-eqb _ _ (c .before .before .if1 .left)))
 pub marked-a-spec : {M : Type 1} → statement M
 marked-a-spec =
     tie.close
-    (tie.spec (λ c κs. search needs) (omega (arith, gain-most)) (λ c κs. search needs) (omega (arith, words-length))
+    (tie.spec (λ c κs. search needs) (omega (arith, words-length)) (λ c κs. search needs) (omega (arith, gain-most))
     (omega (arith, words-length)) (omega (arith, weight-most))
     (λ c κs. (omega (arith, words-length), omega (arith, weight-most))) (search needs) (omega (arith, weight-most))
     (omega (arith, weight-most)) (λ c κs. (omega (arith, words-length), omega (arith, weight-most))) (search needs)
