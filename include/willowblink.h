@@ -251,9 +251,9 @@ wb_answer wb_write_hull(const uint32_t *mem, size_t mem_len, uint32_t hull, uint
 wb_answer wb_read_sheet(const uint8_t *text, size_t text_len, wb_sheet *sheet);
 
 /*
- * Writes a sheet's one text from the start of out, each FIT line with its count. Reading it gives the same sheet, and writing what was read the same
- * bytes, of a text whose FIT lines all have their counts. Bytes of out after the text are left alone, and the text is not ended by a 0. WB_SHEET_TEXT
- * bytes are always room enough. The sheet is only read.
+ * Writes a sheet's one text from the start of out, each FIT line with its count. Reading it gives the same sheet. Writing what was read gives the text
+ * that was read, with a tab and 1 before the line feed of each FIT line that has no count. Bytes of out after the text are left alone, and the text is
+ * not ended by a 0. WB_SHEET_TEXT bytes are always room enough. The sheet is only read.
  * Answers: first is how many bytes were written. Refuses: 3 for a sheet outside the limits; 16 where out is shorter than the text.
  */
 wb_answer wb_write_sheet(const wb_sheet *sheet, uint8_t *out, size_t out_len);
