@@ -124,7 +124,7 @@ static uint32_t weighty_word(void)
 
 static void harm_memory(void)
 {
-    static const uint32_t sizes[] = {0, 1, DESK_AT(0), WB_REGISTER_WORDS - 1, WB_REGISTER_WORDS + 1, 2 * WB_REGISTER_WORDS};
+    static const uint32_t sizes[] = {0, 1, 1105, DESK_AT(0), 1673, WB_REGISTER_WORDS - 1, WB_REGISTER_WORDS + 1, 2 * WB_REGISTER_WORDS};
     if (one_in(5)) {
         lent[MEMORY].size = 4 * ONE_OF(sizes);
         return;

@@ -181,7 +181,8 @@ static void try_seventeen_hulls(void)
 
 static void try_wrong_sizes(void)
 {
-    static const uint32_t words[] = {0, 1, 2, DESK_AT(0) - 1, DESK_AT(0), 2248, 2250, 2251, 4096, 4498};
+    /* 1673 had a register of the version before, and its hulls were the first 1105 */
+    static const uint32_t words[] = {0, 1, 2, 1105, DESK_AT(0) - 1, DESK_AT(0), 1673, 2248, 2250, 2251, 4096, 4498};
     begin_part("memories of the wrong size");
     build(16, 8);
     lend_good_things();
