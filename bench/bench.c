@@ -76,7 +76,7 @@ static size_t engines_len;
     X(put_3_heavy, 3, "product", put, NONE, lent.full, LEN, 3, 7, 250001, 2) \
     X(put_7, 7, "", put, NONE, lent.spare, LEN, 7, 7, 2500, 12) \
     X(take, 0, "", take_off, (lent.full[WEIGHT_AT(3, 1)] = 3334, lent.full[COUNT_AT(3, 1)] = 1), lent.full, LEN, 3, 1) \
-    X(take_17, 17, "", take_off, lent.full[WEIGHT_AT(3, 9)] = 0, lent.full, LEN, 3, 9) \
+    X(take_17, 17, "", take_off, (lent.full[WEIGHT_AT(3, 9)] = 0, lent.full[COUNT_AT(3, 9)] = 0), lent.full, LEN, 3, 9) \
     X(replace, 0, "", replace, NONE, lent.full, LEN, 4, text, text_len) \
     X(replace_3, 3, "last weight", replace, NONE, lent.full, LEN, 4, beyond, text_len) \
     X(trial_a, 0, "", trial_a, NONE, lent.full, LEN, 3) \
