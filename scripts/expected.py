@@ -72,16 +72,16 @@ class Text:
     def refuse(self, number, at):
         raise Refused(number, self.passed + 1, at + 1)
 
-    def line(self, tag, *limits, last=NUMBER, optional=0):
-        """The numbers of the next line, the last few of which may be optional. Each that its tab or line feed ends is
-        judged by its limits, then the form."""
+    def line(self, tag, *limits, last=NUMBER, optional=False):
+        """The numbers of the next line; where the last is optional, it may be missing. Each that its tab or line feed
+        ends is judged by its limits, then the form."""
         parts = [bytes([byte]) for byte in tag]
         for _ in limits:
             parts += [NUMBER, b"\t"]
         if limits:
             parts[-2:] = [last, b"\n"]
-        for left_out in range(1, optional + 1):
-            parts[-1 - 2 * left_out] = EITHER
+        if optional:
+            parts[-3] = EITHER
         right, numbers = beginning(parts).match(self.lines[self.passed]), []
         for field, (low, high) in enumerate(limits, 1):
             if right[field] is None or right.end(field) == right.end():
@@ -115,7 +115,7 @@ class Sheet:
         self.fittings, last = [], 0
         while text.starts(b"F") and len(self.fittings) < MOST_FITS:
             limits = [(last + 1, 24), (1, 500000), (1, as_many_as_may_weigh)]
-            last, weight, count = (text.line(b"FIT\t", *limits, optional=1) + [1])[:3]
+            last, weight, count = (text.line(b"FIT\t", *limits, optional=True) + [1])[:3]
             self.fittings.append(weight * count)
         text.line(b"END\n")
         if not text.ended():
