@@ -423,6 +423,81 @@ static void try_emptied_lines(void)
         insist(mem[word] == 0, "a new hull has something on an empty line");
 }
 
+static void insist_hull_line(uint32_t hull, uint32_t line, uint32_t weight, uint32_t count)
+{
+    uint32_t at = HULL_AT(hull) + 1 + WEIGHT_IN_SHEET(line);
+    insist(mem[at] == weight && mem[at + 1] == count, "the hull's line does not have the two numbers that it was given");
+}
+
+/* The base hull's text with a fitting on one line, without the count where the line can say it so. */
+static void lend_line(uint32_t line, uint32_t weight, uint32_t count)
+{
+    wb_sheet sheet = base_hull();
+    sheet.fitting[line - 1] = (wb_fitting){weight, count};
+    lent[TEXT].size = short_text_of(&sheet, (uint32_t)1 << (line - 1), lent_bytes(TEXT));
+}
+
+static void expect_save(uint32_t edit)
+{
+    expect(attempt((struct call){.kind = SAVE, .desk = 3}), 0, edit, 0);
+    expect(attempt((struct call){.kind = OPEN, .desk = 3}), 0, edit, 0);
+}
+
+/* A line that is filled before and after: put, save, open and replace write both its numbers, also where the weight or the product stays the same. */
+static void try_changed_counts(uint32_t line)
+{
+    wb_sheet sheet = base_hull();
+    sheet.fitting[line - 1] = (wb_fitting){120, 12};
+    enter_alone(&sheet);
+    insist_hull_line(0, line, 120, 12);
+    expect_put(line, 120, 3, 0);
+    expect_save(1);
+    insist_hull_line(0, line, 120, 3);
+    expect_put(line, 120, 7, 0);
+    expect(attempt((struct call){.kind = OPEN, .desk = 3}), 0, 1, 0);
+    insist_line(line, 120, 3, "a draft that was opened over another has something of it");
+    expect_put(line, 120, 7, 0);
+    lend_line(line, 120, 1);
+    expect(attempt((struct call){.kind = REPLACE, .desk = 3}), 0, 0, 0);
+    insist_line(line, 120, 1, "a line without a count is not one piece");
+    lend_line(line, 120, 5);
+    expect(attempt((struct call){.kind = REPLACE, .desk = 3}), 0, 0, 0);
+    insist_line(line, 120, 5, "a line with a count does not have it");
+    expect_put(line, 120, 12, 0);
+    expect_save(2);
+    insist_hull_line(0, line, 120, 12);
+    expect_put(line, 60, 24, 0);
+    expect_save(3);
+    insist_hull_line(0, line, 60, 24);
+}
+
+/* New hulls, where every free word that is to be the count of a line is 7. */
+static void try_counts_in_free_words(uint32_t line)
+{
+    start_fresh();
+    for (uint32_t hull = 0; hull < 2; hull++) {
+        uint32_t count = hull == 0 ? 12 : 1;
+        for (uint32_t each = 1; each <= WB_FITTINGS; each++) {
+            mem[HULL_AT(hull) + 1 + WEIGHT_IN_SHEET(each)] = 120;
+            mem[HULL_AT(hull) + 2 + WEIGHT_IN_SHEET(each)] = 7;
+        }
+        lend_line(line, 120, count);
+        expect(attempt((struct call){.kind = NEW_HULL}), 0, hull, 0);
+        for (uint32_t each = 1; each <= WB_FITTINGS; each++)
+            insist_hull_line(hull, each, each == line ? 120 : 0, each == line ? count : 0);
+    }
+}
+
+static void try_filled_lines(void)
+{
+    static const uint32_t lines[] = {1, WB_FITTINGS};
+    begin_part("lines that are filled before and after");
+    for (size_t i = 0; i < sizeof lines / sizeof *lines; i++) {
+        try_changed_counts(lines[i]);
+        try_counts_in_free_words(lines[i]);
+    }
+}
+
 void try_register_edges(void)
 {
     begin_part("a memory with one word changed");
@@ -441,4 +516,5 @@ void try_register_edges(void)
     try_fittings();
     try_pieces();
     try_emptied_lines();
+    try_filled_lines();
 }
