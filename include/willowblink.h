@@ -73,7 +73,7 @@ typedef enum wb_refusal {
     WB_ACCEPTED = 0,
     WB_BAD_MEMORY = 1,      /* the register's memory is not WB_REGISTER_WORDS long, or a number in it is not one that a register has */
     WB_BROKEN_LINE = 2,     /* a text breaks the line rules; first and second are the place, or 0 and 0 where it is too long */
-    WB_OUTSIDE_LIMITS = 3,  /* a number is outside its limits; of a text's number first and second are the place */
+    WB_OUTSIDE_LIMITS = 3,  /* a number, or a fitting's weight times its count, is outside its limits; of a text first and second are the place */
     WB_FULL = 4,            /* sixteen hulls are entered */
     WB_NO_HULL = 5,         /* no such hull */
     WB_NO_DESK = 6,         /* a desk above 7 */
