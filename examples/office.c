@@ -46,6 +46,7 @@ struct work {
     uint32_t words[WB_REGISTER_WORDS];
     size_t count; /* how many words are lent: all, or none where the file has another size */
     uint32_t number[4];
+    const char *limits; /* of the numbers that the call judges, in words; NULL where a refusal says enough */
     int held;         /* whether the desk that opens a hull holds a draft */
     const char *path; /* of the text; NULL without one */
     int engines;      /* whether the text is one of engine rows */
@@ -74,7 +75,7 @@ static void trouble(const char *what, const char *path)
 static const char *const refusals[] = {
     [WB_BAD_MEMORY] = "this is no register, or one that was spoilt",
     [WB_BROKEN_LINE] = "the text breaks the line rules",
-    [WB_OUTSIDE_LIMITS] = "a number is outside its limits",
+    [WB_OUTSIDE_LIMITS] = "a number, or a fitting's weight times its count, is outside its limits",
     [WB_FULL] = "sixteen hulls are entered, and there is no room for another",
     [WB_NO_HULL] = "there is no such hull",
     [WB_NO_DESK] = "there is no such desk; the desks are 0 to 7",
@@ -251,6 +252,39 @@ static void say_found(const struct place *p, uint32_t refusal)
         fprintf(stderr, "there is the byte %d\n", *p->byte);
 }
 
+/* The number that stands there, of at most 10 digits. */
+static uint64_t number_at(const struct place *p, const uint8_t *at)
+{
+    uint64_t n = 0;
+    for (; digit_at(p, at); at++)
+        n = 10 * n + (uint64_t)(*at - '0');
+    return n;
+}
+
+/* A count of pieces that is refused although it is within 1 to 99: they weigh too much together. Says so, or answers 0 if it is no such count. */
+static int say_too_heavy(const struct place *p, const char *const *line)
+{
+    const uint8_t *weight = NULL, *field = p->start;
+    int fields = 0;
+    for (const uint8_t *at = p->start; at < p->byte; at++)
+        if (*at == '\t')
+            weight = field, field = at + 1, fields++;
+    uint64_t count = number_at(p, p->byte);
+    if (line != lines[FIT] || fields < 3 || count < 1 || count > 99)
+        return 0;
+    unsigned pieces = (unsigned)count, grams = (unsigned)number_at(p, weight); /* at most 500000, or it had been refused */
+    fprintf(stderr, "%u pieces of %u g weigh %u g, and a line may weigh at most 500000 g\n", pieces, grams, pieces * grams);
+    return 1;
+}
+
+/* The line in the table, of a place that is not its first byte. */
+static const char *const *line_of(const struct work *w, const struct place *p, uint32_t line)
+{
+    if (w->engines)
+        return lines[ENG];
+    return lines[line <= FIT ? line - 1 : *p->start == 'F' ? FIT : END];
+}
+
 /* Says what is wrong in the text, at the line and byte that its refusal carries. */
 static void explain(const struct work *w, wb_answer a)
 {
@@ -264,26 +298,26 @@ static void explain(const struct work *w, wb_answer a)
         left -= *p.start == '\n';
     p.byte = p.start + a.second - 1;
     fprintf(stderr, ", line %u, byte %u: ", (unsigned)a.first, (unsigned)a.second);
+    if (a.refusal == WB_OUTSIDE_LIMITS && say_too_heavy(&p, line_of(w, &p, a.first)))
+        return;
     if (a.second == 1)
         say_line_expected(&p, w->engines, a.first);
-    else if (w->engines)
-        say_expected(&p, a.refusal, lines[ENG]);
-    else if (a.first <= FIT)
-        say_expected(&p, a.refusal, lines[a.first - 1]);
     else
-        say_expected(&p, a.refusal, lines[*p.start == 'F' ? FIT : END]);
+        say_expected(&p, a.refusal, line_of(w, &p, a.first));
     fprintf(stderr, ", and ");
     say_found(&p, a.refusal);
 }
 
-/* Of a text that is at fault its file is named, and then what is wrong in it. */
+/* Of a text that is at fault its file is named, and then what is wrong in it; of the command line's own numbers the limits. */
 static int refuse(const struct work *w, wb_answer a)
 {
     const char *why = "for a reason that this program does not know";
+    int at_limits = w->limits != NULL && a.refusal == WB_OUTSIDE_LIMITS;
     int at_fault = w->path != NULL && (a.refusal == WB_BROKEN_LINE || a.refusal == WB_OUTSIDE_LIMITS);
     if (a.refusal < sizeof refusals / sizeof refusals[0])
         why = refusals[a.refusal];
-    printf("refused (%u): %s%s%s\n", (unsigned)a.refusal, at_fault ? w->path : "", at_fault ? ": " : "", why);
+    printf("refused (%u): %s%s%s", (unsigned)a.refusal, at_fault ? w->path : "", at_fault ? ": " : "", why);
+    printf("%s%s\n", at_limits ? "; " : "", at_limits ? w->limits : "");
     if (at_fault)
         explain(w, a);
     return REFUSED;
@@ -509,6 +543,7 @@ static void tell_open(const struct work *w, wb_answer a)
 
 static wb_answer ask_put(struct work *w)
 {
+    w->limits = "line 1 to 24, weight of one piece 1 to 500000 g, 1 to 99 pieces, which together weigh at most 500000 g";
     return wb_put(w->words, w->count, w->number[0], w->number[1], w->number[2], w->number[3]);
 }
 
@@ -524,6 +559,7 @@ static void tell_put(const struct work *w, wb_answer a)
 
 static wb_answer ask_take_off(struct work *w)
 {
+    w->limits = "line 1 to 24";
     return wb_take_off(w->words, w->count, w->number[0], w->number[1]);
 }
 

@@ -43,7 +43,33 @@ END {
     for (left = line; left > 1 && start <= size; start++)
         left -= code[start] == 10
     place = start + byte - 1
-    print whose ", line " line ", byte " byte ": " (byte == 1 ? line_expected() : expected()) ", and " found()
+    words = number == 3 ? too_heavy() : ""
+    if (words == "")
+        words = (byte == 1 ? line_expected() : expected()) ", and " found()
+    print whose ", line " line ", byte " byte ": " words
+}
+
+# The bytes of the line before the place. They are right, so they are letters, digits, - and tabs.
+function bytes_before(    at, bytes) {
+    for (at = start; at < place; at++)
+        bytes = bytes sprintf("%c", code[at])
+    return bytes
+}
+
+# The digits from the place on.
+function digits_there(    at, digits) {
+    for (at = place; code[at] >= 48 && code[at] <= 57; at++)
+        digits = digits sprintf("%c", code[at])
+    return digits
+}
+
+# Of a count of pieces that is refused although it is within 1 to 99: they weigh too much together. Of others nothing.
+function too_heavy(    fields, field, count) {
+    fields = split(bytes_before(), field, "\t")
+    count = digits_there() + 0
+    if (field[1] != "FIT" || fields < 4 || count < 1 || count > 99)
+        return ""
+    return count " pieces of " field[3] " g weigh " count * field[3] " g, and a line may weigh at most 500000 g"
 }
 
 # What may stand where a line begins.
@@ -64,9 +90,7 @@ function line_expected() {
 
 # What may stand further on in a line: the rest of its tag, a number, or what ends a number.
 function expected(    before, cells, cell, tag, tabs, at, next_one, ended, what) {
-    # these bytes are right, so they are letters, digits, - and tabs
-    for (at = start; at < place; at++)
-        before = before sprintf("%c", code[at])
+    before = bytes_before()
     cells = split(line_row(), cell, ";")
     tag = cell[1]
     tabs = gsub(/ /, "\t", tag)
@@ -121,15 +145,12 @@ function ending(digits,    digit) {
 }
 
 # What does stand there, with a hint where a screen does not show it.
-function found(    c, value) {
+function found(    c) {
     if (place > size)
         return "the text ends"
+    if (number == 3)
+        return "there is " digits_there()
     c = code[place]
-    if (number == 3) {
-        for (; c >= 48 && c <= 57; c = code[++place])
-            value = value sprintf("%c", c)
-        return "there is " value
-    }
     if (place == 1 && c == 239 && code[2] == 187 && code[3] == 191)
         return "there is a byte order mark: save the text without it"
     if (place == 1 && (c == 254 && code[2] == 255 || c == 255 && code[2] == 254))
