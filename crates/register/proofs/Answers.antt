@@ -1,8 +1,8 @@
--- Calls on memories well formed and not, computed: each end of a number and one beside it, every two refusals at once.
+-- Calls on memories that are well formed, computed: each end of a number and one beside it, every two refusals at once.
 use mathlib.Core.Path.{_≡_, refl}
 use mathlib.Core.List.{List, [], _∷_, _++_, map}
 use Prim.Native.Nat.{ℕ}
-use lib.ListN.{set, take, replicate}
+use lib.ListN.{replicate}
 use Rattle.text.specs.Field.{fieldOf, agreed}
 use Rattle.text.specs.Number.{restOf, numberOf, digitsIn, digitsOf}
 use Rattle.text.specs.Limit.{allHold}
@@ -27,33 +27,14 @@ use Rattle.memory.specs.Formed.{each, hullOk, draftOk, formed}
 use Rattle.memory.proofs.Memories.{sheet, hulls, draft, idle, full}
 use Rattle.register.specs.Refusals.{roomRefusal, hullRefusal, openRefusal, deskRefusal}
 use Rattle.register.specs.Calls.{put, takeOff, replace, tryPlate, plate, write}
-use Rattle.register.specs.Calls.{Call, newHull, openHull, work, save, dropDraft, ask, freshStep, step}
-use Rattle.register.proofs.Day.{Must, _must_, wanted, wrongs}
+use Rattle.register.specs.Calls.{newHull, openHull, work, save, dropDraft, ask, freshStep, step}
+use Rattle.register.proofs.Day.{Must, _must_, wanted}
+use Rattle.register.proofs.Unformed.{small}
 
 -- what each of the calls answers in the memory m
 answered : List ℕ → List Must → List Answer
 answered m [] = []
 answered m ((c must a) ∷ cs) = step m c .answer ∷ answered m cs
-
--- ---- memories that are not well formed
-
--- one hull, and desk 7 at work on it; a sheet stands where the second would be
-small : List ℕ
-small = 1 ∷ (hulls 2 0 ++ (replicate 1302 99 ++ (idle 7 ++ draft 0 0)))
-
--- the size, the count, an edit number, a draft's sheet; a hull's weight without its count, a draft's count without its
--- weight, too many pieces
-unformed : List (List ℕ)
-unformed =
-    take 2248 small ∷ set small 0 17 ∷ set small 1 65536 ∷ set small 2157 1999 ∷ set small 47 0 ∷ set small 2201 0
-    ∷ set small 2202 150 ∷ []
-
--- the memory comes first, of each call
-unformed-right : map (λ (m : List ℕ). map (λ (c : Call). step m c .answer) wrongs) unformed
-    ≡ replicate 7 (replicate 14 (Refused 1))
-unfolding unformed small sheet hulls draft idle formed each hullOk draftOk hullRefusal deskRefusal roomRefusal
-    openRefusal allHold okOn fitsOk
-unformed-right = refl
 
 -- ---- memories that are well formed
 
@@ -138,8 +119,8 @@ calls-right :
     × (answered edited on-edited ≡ map wanted on-edited) × (answered small on-small ≡ map wanted on-small)
 unfolding answered on-full on-fifteen on-edited on-small text outside ended small fifteen edited full sheet hulls
     draft idle formed each hullOk draftOk hullRefusal deskRefusal roomRefusal openRefusal readSheet sheetForm
-    numbersOn numbersOf fitsOf emptyLines fitsFrom readForm readParts readRows kindOf readLine agreed readNumbers readEntry
-    fieldOf numberOf restOf feeds sinceFeed allHold okOn fitsOk sheetText rowsOn fitRows partsText rowsText
+    numbersOn numbersOf fitsOf emptyLines fitsFrom readForm readParts readRows kindOf readLine agreed readNumbers
+    readEntry fieldOf numberOf restOf feeds sinceFeed allHold okOn fitsOk sheetText rowsOn fitRows partsText rowsText
     numbersText digitsOf digitsIn stationProduct volumeN netZ addedUp boatM exactX markedC rising rowsRight rowFor
     lacksRow engineWeight liveLoad persons lacksTests plateC inboardX loadX markedA formulaWatts powerA plateA ruleU
     markedU plateU

@@ -95,7 +95,8 @@ day =
     ∷ (openHull 8 1 must Refused 6) ∷ (openHull 0 2 must Refused 5) ∷ (save 0 must Refused 7)
     -- desk 0 works on hull 0, where desk 7 has opened it too
     ∷ (openHull 7 0 must Count 0) ∷ (openHull 0 0 must Count 0) ∷ (work 0 (put 25 1 1) must Refused 3)
-    ∷ (work 0 (put 2 250001 2) must Refused 3) ∷ (work 0 (put 2 1667 2) must Done) ∷ (tries 0 kindA must Plate 326 20000)
+    ∷ (work 0 (put 2 250001 2) must Refused 3) ∷ (work 0 (put 2 1667 2) must Done)
+    ∷ (tries 0 kindA must Plate 326 20000)
     ∷ (marks 0 kindA must Plate 327 20000) ∷ (tries 0 byC must Plate 325 3) ∷ (tries 0 kindU must Count 718)
     ∷ (marks 0 kindU must Count 720) ∷ (work 0 (takeOff 1) must Refused 17) ∷ (save 0 must Count 1)
     ∷ (marks 0 kindA must Plate 326 20000)
@@ -117,8 +118,8 @@ day =
 a-day : given freshWords day ≡ map wanted day
 unfolding given day text numbered-text eleven-digits too-long rows grams freshWords entered opened fitted replaced
     dropped saved each hullOk draftOk formed hullRefusal deskRefusal roomRefusal openRefusal readSheet sheetForm
-    numbersOn numbersOf fitsOf emptyLines fitsFrom readForm readParts readRows kindOf readLine agreed readNumbers readEntry
-    fieldOf numberOf restOf feeds sinceFeed allHold okOn fitsOk sheetText rowsOn fitRows partsText rowsText
+    numbersOn numbersOf fitsOf emptyLines fitsFrom readForm readParts readRows kindOf readLine agreed readNumbers
+    readEntry fieldOf numberOf restOf feeds sinceFeed allHold okOn fitsOk sheetText rowsOn fitRows partsText rowsText
     numbersText digitsOf digitsIn stationProduct volumeN netZ addedUp boatM exactX markedC rising rowsRight rowFor
     lacksRow engineWeight liveLoad persons lacksTests plateC inboardX loadX markedA formulaWatts powerA plateA ruleU
     markedU plateU
@@ -145,7 +146,7 @@ wrongs =
     ∷ ask 16 (plate kindA) ∷ ask 16 (plate (kindC [] [])) ∷ ask 16 (plate kindU) ∷ ask 16 (write [])
     ∷ []
 
--- the memory comes first, of each call
+-- the memory comes first
 no-memory : map (λ (c : Call). step [] c .answer) wrongs ≡ replicate 14 (Refused 1)
 unfolding formed roomRefusal hullRefusal openRefusal deskRefusal
 no-memory = refl

@@ -55,7 +55,8 @@ module _ (m : List ℕ) (d : ℕ) (t : List ℕ) (z : shared m (work d (replace 
 abbrev pub takesText : Call → Bool
 takesText (newHull t) = true
 takesText (openHull d h) = false
-takesText (work d w) = elim w [ put line weight count ↦ false | takeOff line ↦ false | replace t ↦ true | tryPlate k ↦ false ]
+takesText (work d w) =
+    elim w [ put line weight count ↦ false | takeOff line ↦ false | replace t ↦ true | tryPlate k ↦ false ]
 takesText (save d) = false
 takesText (dropDraft d) = false
 takesText (ask h q) = false

@@ -95,7 +95,8 @@ mixed = withRest "FIT\t1\t120\t12\nFIT\t2\t7\nFIT\t9\t40\t1\nFIT\t24\t500000\nEN
 threes : List ℕ
 threes = withRest "FIT\t1\t120\t12\nFIT\t2\t7\t1\nFIT\t9\t40\t1\nFIT\t24\t500000\t1\nEND\n"
 
-rewritten-right : (saying sheetText (readSheet mixed) ≡ right threes) × ((renewed mixed ≡ threes) × (renewed threes ≡ threes))
+rewritten-right :
+    (saying sheetText (readSheet mixed) ≡ right threes) × ((renewed mixed ≡ threes) × (renewed threes ≡ threes))
 unfolding mixed threes sheetText readSheet sheetForm rowsOn fitRows numbersOn numbersOf fitsOf fitsFrom emptyLines
     readForm readParts readRows kindOf readLine agreed readNumbers readEntry fieldOf numberOf restOf
     partsText rowsText numbersText digitsOf digitsIn renewed withOne tabs cutFrom

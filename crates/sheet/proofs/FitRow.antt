@@ -105,7 +105,8 @@ fitted-numbers from letter (n ∷ w ∷ []) e h =
     }
 fitted-numbers from letter (n ∷ w ∷ c ∷ []) e h =
     let k : Limit = rangingCount 1 fittingCount fittingHigh in
-    let p = both-hold (holds (ranging from fittings) 0 n) (holds (ranging 1 fittingHigh) n w && (holds k w c && true)) h in
+    let p =
+    both-hold (holds (ranging from fittings) 0 n) (holds (ranging 1 fittingHigh) n w && (holds k w c && true)) h in
     let q = both-hold (holds (ranging 1 fittingHigh) n w) (holds k w c && true) (p .1) in
     let b = ranging-between from fittings 0 n (p .0) in
     record {
@@ -121,7 +122,8 @@ fitted-numbers from letter (n ∷ w ∷ c ∷ []) e h =
     }
 fitted-numbers from letter (n ∷ w ∷ c ∷ d ∷ ns) e h =
     let k : Limit = rangingCount 1 fittingCount fittingHigh in
-    let p = both-hold (holds (ranging from fittings) 0 n) (holds (ranging 1 fittingHigh) n w && (holds k w c && false)) h in
+    let p =
+    both-hold (holds (ranging from fittings) 0 n) (holds (ranging 1 fittingHigh) n w && (holds k w c && false)) h in
     let q = both-hold (holds (ranging 1 fittingHigh) n w) (holds k w c && false) (p .1) in
     false-true (both-hold (holds k w c) false (q .1) .1)
 

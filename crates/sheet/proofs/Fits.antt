@@ -120,8 +120,8 @@ rows-from (r ∷ rs) next n m h =
     let ih = rows-from rs (nextAfter r) (nextAfter r) (omega arith) (hs .1) in
     let e : n + (fitNumber r - n) ≡ fitNumber r = omega (arith, f .n-low) in
     let s : List ℕ = fitsFrom (suc (fitNumber r)) rs in
-    let some =
-    row-some (fitNumber r) (fitWeight r) (fitCount r) s (ne-eqb (fitWeight r) 0 (λ z. omega (arith, f .pieces .some))) in
+    let there = ne-eqb (fitWeight r) 0 (λ z. omega (arith, f .pieces .some)) in
+    let some = row-some (fitNumber r) (fitWeight r) (fitCount r) s there in
     empty-rows (fitNumber r - n) n (fitWeight r ∷ fitCount r ∷ s) ∙ rw e (some ∙ rw ih)
 
 -- FIT rows that may stand, as lines, are those rows with their counts

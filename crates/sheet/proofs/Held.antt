@@ -1,5 +1,5 @@
--- Numbers on several lines, each line judged by itself, are judged alike in one run: only a limit that caps a number, or
--- counts one, looks back at the number before, and no line starts with such a limit.
+-- Numbers on several lines, each line judged by itself, are judged alike in one run: only a limit that caps a number
+-- or counts one looks back at the number before, and no line starts with such a limit.
 use mathlib.Core.Path.{_≡_, refl, sym, ap, _∙_}
 use mathlib.Core.Bool.{Bool, true, _&&_, and-assoc}
 use mathlib.Core.List.{List, [], _∷_, _++_}

@@ -1,19 +1,20 @@
 -- 02 (vi): old texts are read as they were. The form as it stood before, whose FIT lines have two numbers, is kept here
--- for this law alone: a text that it takes says the same rows by the form of today, and each of its fittings is one piece.
+-- for this law alone: a text that it takes says the same rows by the form of today, and each of its fittings is one
+-- piece.
 use mathlib.Core.Path.{_≡_, refl, sym, ap, subst, _∙_}
 use mathlib.Core.Bool.{Bool, true, true≢false, _&&_}
 use mathlib.Core.List.{List, [], _∷_, _++_}
 use Prim.Native.Nat.{ℕ, _≤_, max}
 use lib.Dec.{eqb}
 use Rattle.text.specs.Limit.{ranging, allHold}
-use Rattle.text.specs.Line.{Line, numbersText, lineText}
+use Rattle.text.specs.Line.{Line, numbersText}
 use Rattle.ground.proofs.Booleans.{both-hold, both-true}
-use Rattle.text.proofs.Two.{Two, two-numbers}
+use Rattle.text.proofs.Two.{two-numbers}
 use Rattle.text.proofs.Bounds.{between-ranging}
 use Rattle.form.specs.Parts.{Part, Form, Row, Rows, lineRow, risingLines, oneLine, letterOf, kindOf, nextAfter}
 use Rattle.form.specs.Outcome.{right, saying}
 use Rattle.form.specs.Reading.{readForm}
-use Rattle.form.specs.Writing.{rowOk, rowsOk, partOk, partsOk, formOk, rowText, rowsText, partsText, formText}
+use Rattle.form.specs.Writing.{rowOk, rowsOk, partOk, partsOk, rowText, rowsText, partsText}
 use Rattle.form.proofs.Held.{row-held, only-held, part-held, held-part}
 use Rattle.form.proofs.Single.{kind-self}
 use Rattle.form.proofs.Trip as T

@@ -31,7 +31,8 @@ row-lined : (next : ℕ) (r : Row) (n : ℕ) (ns : List ℕ) → r .numbers ≡ 
 unfolding tabs
 row-lined next r n ns e h =
     let o = only-held fitPart fitLine next r refl h in
-    rw (raised-text true next fitLine (n ∷ ns)) at (line-lined (raised true next fitLine) n ns tag-free (rw e at (o .1)))
+    let l = line-lined (raised true next fitLine) n ns tag-free (rw e at (o .1)) in
+    rw (raised-text true next fitLine (n ∷ ns)) at l
 
 row-renewed : (next : ℕ) (r : Row) (u : List ℕ) → rowOk fitPart next r ≡ true → Fitted (max 1 next) r
     → renewed (rowText (fitLine ∷ []) r ++ u)

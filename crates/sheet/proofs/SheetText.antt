@@ -28,8 +28,8 @@ pub written-reads : (s : List ℕ) → sheetOk s ≡ true → readSheet (sheetTe
 unfolding readSheet sheetText
 written-reads s h = rw (T.written-reads sheetForm (rowsOf s) sheet-made (rows-ok s h), sheet-rows s h)
 
--- what a text that reads as a sheet is: what that sheet is written as is the text renewed, 02 (vi), and so the text itself
--- where all its FIT lines have three numbers; and the sheet is within the limits, so it can be written
+-- what a text that reads as a sheet is: what that sheet is written as is the text renewed, 02 (vi), and so the text
+-- itself where all its FIT lines have three numbers; and the sheet is within the limits, so it can be written
 pub record Written (t s : List ℕ) : Type 0 where
   pub text : renewed t ≡ sheetText s
   pub same : isNew t ≡ true → t ≡ sheetText s

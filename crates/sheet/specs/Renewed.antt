@@ -1,5 +1,5 @@
--- 02 (vi): texts of before have FIT lines of two numbers; writing always gives three. What is written of a text that was
--- read is that text renewed: with a tab and `1` before the line feed of each FIT line of two numbers.
+-- 02 (vi): texts of before have FIT lines of two numbers; writing always gives three. What is written of a text that
+-- was read is that text renewed: with a tab and `1` before the line feed of each FIT line of two numbers.
 use Prim.Native.Nat.{ℕ, suc, _+_}
 use mathlib.Core.Bool.{Bool, true, false, not, _&&_, cond}
 use mathlib.Core.List.{List, [], _∷_, map}

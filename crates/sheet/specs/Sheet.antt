@@ -1,6 +1,6 @@
 -- What a sheet is: 93 numbers in the order of its text, the HULL number and then the 92 words that the register holds.
--- The words of the lines HULL to SEAT come first, then weight and count of each fitting line 1..24 in turn, both 0 for an
--- empty line; tested persons 0 stands for `-`.
+-- The words of the lines HULL to SEAT come first, then weight and count of each fitting line 1..24 in turn, both 0 for
+-- an empty line; tested persons 0 stands for `-`.
 use Prim.Native.Nat.{ℕ, zero, suc}
 use mathlib.Core.Bool.{Bool, true, false, _&&_, _||_}
 use mathlib.Core.List.{List, [], _∷_, _++_, map}
