@@ -30,8 +30,8 @@ pub data EndedBy (more : List Limit) (e : ℕ) : Type 0 where
   asDue : e ≡ ender more → EndedBy more e
   short : spare more ≡ true → e ≡ feed → EndedBy more e
 
--- t starts with a number of at most ten digits and a byte that may end it; after the number last, that number is outside
--- the limit `here`
+-- t starts with a number of at most ten digits and a byte that may end it; after the number last, that number is
+-- outside the limit `here`
 pub record Outside (here : Limit) (more : List Limit) (last : ℕ) (t : List ℕ) : Type 0 where
   pub value : ℕ
   pub end : ℕ

@@ -135,18 +135,3 @@ unfolding two text numbered-text freshWords entered each hullOk draftOk formed h
     agreed readNumbers readEntry fieldOf numberOf restOf allHold okOn fitsOk sheetText rowsOn fitRows
     partsText rowsText numbersText digitsOf digitsIn
 a-text = refl
-
--- ---- every call with everything wrong that can be
-
--- no such desk or hull, a text that is none, rows that are wrong, no room
-abbrev pub wrongs : List Call
-wrongs =
-    newHull [] ∷ openHull 8 16 ∷ work 8 (put 0 0 0) ∷ work 8 (takeOff 0) ∷ work 8 (replace []) ∷ work 8 (tryPlate kindA)
-    ∷ work 8 (tryPlate (kindC [] [])) ∷ work 8 (tryPlate kindU) ∷ save 8 ∷ dropDraft 8
-    ∷ ask 16 (plate kindA) ∷ ask 16 (plate (kindC [] [])) ∷ ask 16 (plate kindU) ∷ ask 16 (write [])
-    ∷ []
-
--- the memory comes first
-no-memory : map (λ (c : Call). step [] c .answer) wrongs ≡ replicate 14 (Refused 1)
-unfolding formed roomRefusal hullRefusal openRefusal deskRefusal
-no-memory = refl

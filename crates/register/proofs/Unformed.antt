@@ -1,4 +1,5 @@
--- Calls on memories that are not well formed, computed: the memory comes first, of each call.
+-- Every call with everything wrong, in no memory and in memories that are not well formed, computed: the memory comes
+-- first.
 use mathlib.Core.Path.{_≡_, refl}
 use mathlib.Core.List.{List, [], _∷_, _++_, map}
 use Prim.Native.Nat.{ℕ}
@@ -6,11 +7,25 @@ use lib.ListN.{set, take, replicate}
 use Rattle.text.specs.Limit.{allHold}
 use Rattle.answers.specs.declared.Answer.the-variants.{Refused}
 use Rattle.sheet.specs.Sheet.{fitsOk, okOn}
+use Rattle.capacity.specs.Kinds.{kindA, kindC, kindU}
 use Rattle.memory.specs.Formed.{each, hullOk, draftOk, formed}
 use Rattle.memory.proofs.Memories.{sheet, hulls, draft, idle}
 use Rattle.register.specs.Refusals.{roomRefusal, hullRefusal, openRefusal, deskRefusal}
-use Rattle.register.specs.Calls.{Call, work, step}
-use Rattle.register.proofs.Day.{wrongs}
+use Rattle.register.specs.Calls.{put, takeOff, replace, tryPlate, plate, write}
+use Rattle.register.specs.Calls.{Call, newHull, openHull, work, save, dropDraft, ask, step}
+
+-- no such desk or hull, a text that is none, rows that are wrong, no room
+abbrev pub wrongs : List Call
+wrongs =
+    newHull [] ∷ openHull 8 16 ∷ work 8 (put 0 0 0) ∷ work 8 (takeOff 0) ∷ work 8 (replace []) ∷ work 8 (tryPlate kindA)
+    ∷ work 8 (tryPlate (kindC [] [])) ∷ work 8 (tryPlate kindU) ∷ save 8 ∷ dropDraft 8
+    ∷ ask 16 (plate kindA) ∷ ask 16 (plate (kindC [] [])) ∷ ask 16 (plate kindU) ∷ ask 16 (write [])
+    ∷ []
+
+-- the memory comes first
+no-memory : map (λ (c : Call). step [] c .answer) wrongs ≡ replicate 14 (Refused 1)
+unfolding formed roomRefusal hullRefusal openRefusal deskRefusal
+no-memory = refl
 
 -- one hull, and desk 7 at work on it; a sheet stands where the second would be
 unfoldable pub small : List ℕ
