@@ -1,6 +1,7 @@
 -- 02 (vi): FIT lines of two numbers and of three, computed: what each is read as, where it is refused, and what is
 -- written of it.
 use mathlib.Core.Path.{_≡_, refl}
+use mathlib.Core.Bool.{true, false}
 use mathlib.Core.List.{List, [], _∷_, map}
 use Prim.Native.Nat.{ℕ}
 use Prim.Native.String.{String}
@@ -15,7 +16,7 @@ use Rattle.form.specs.Reading.{readRows, readParts, readForm}
 use Rattle.form.specs.Writing.{rowsText, partsText}
 use Rattle.sheet.specs.SheetText.{sheetForm, emptyLines, fitsFrom, fitRows, fitsOf, numbersOn, rowsOn}
 use Rattle.sheet.specs.SheetText.{readSheet, sheetText}
-use Rattle.sheet.specs.Renewed.{tabs, withOne, renewed}
+use Rattle.sheet.specs.Renewed.{tabs, withOne, renewed, noneOld, isNew}
 use Rattle.sheet.proofs.BaseHull.{withRest, newSample}
 use Rattle.sheet.proofs.Examples.{ended}
 use Rattle.sheet.proofs.PlaceFigures.{places, each}
@@ -101,3 +102,10 @@ unfolding mixed threes sheetText readSheet sheetForm rowsOn fitRows numbersOn nu
     readForm readParts readRows kindOf readLine agreed readNumbers readEntry fieldOf numberOf restOf
     partsText rowsText numbersText digitsOf digitsIn renewed withOne tabs cutFrom
 rewritten-right = (refl, (refl, refl))
+
+-- of which texts it may be said that they are written back as they are: those without a line of two numbers
+new-right :
+    map isNew (newSample ∷ threes ∷ withRest "END\n" ∷ mixed ∷ withRest "FIT\t1\t3334\nEND\n" ∷ [])
+    ≡ true ∷ true ∷ true ∷ false ∷ false ∷ []
+unfolding mixed threes noneOld tabs agreed cutFrom
+new-right = refl
