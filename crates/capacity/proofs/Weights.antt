@@ -2,7 +2,7 @@
 -- are; and what that comes to at most.
 use mathlib.Core.Path.{_≡_, refl}
 use mathlib.Core.Bool.{true}
-use mathlib.Core.List.{List, [], _∷_}
+use mathlib.Core.List.{List, [], _∷_, _++_}
 use Prim.Native.Nat.{ℕ, zero, suc, _+_, _*_, _≤_, _<_}
 use native.Mathlib.Omega.{arith}
 use borrow.Author.Tests.{eqb-true}
@@ -18,6 +18,7 @@ use Rattle.sheet.proofs.FitRow.{fit-pieces}
 use Rattle.sheet.proofs.Fits.{fits-length}
 use Rattle.capacity.specs.Words.{fittingsOf}
 use Rattle.capacity.specs.Weights.{addedUp}
+use Rattle.capacity.specs.Samples.{onePiece}
 use Rattle.capacity.specs.Highs.{Fittings}
 
 -- ---- the sum, one line after the other
@@ -70,11 +71,11 @@ f-sum s n =
     let d = sum-end (fittingsOf s) fittings (omega (arith, length-drop fittingsAt s)) in
     omega (arith, sum-lines s fittings n (omega arith))
 
--- ---- as it was: where each line has one piece, F is the sum of the weights
+-- ---- as it was: where each line has one piece or none, F is the sum of the weights
 
 unfoldable pub singly : List ℕ → List ℕ
 singly [] = []
-singly (w ∷ ws) = w ∷ 1 ∷ singly ws
+singly (w ∷ ws) = onePiece w ++ singly ws
 
 unfoldable pub formerSum : List ℕ → ℕ
 formerSum [] = 0
@@ -83,7 +84,10 @@ formerSum (w ∷ ws) = w + formerSum ws
 pub single-pieces : (ws : List ℕ) → addedUp (singly ws) ≡ formerSum ws
 unfolding addedUp singly formerSum
 single-pieces [] = refl
-single-pieces (w ∷ ws) = omega (arith, single-pieces ws)
+single-pieces (w ∷ ws) =
+    let others = single-pieces ws in
+    by-test (eqb w 0) (λ e. rw (e, addedUp) (omega (arith, others, eqb-true w 0 e)))
+    (λ e. rw (e, addedUp) (omega (arith, others)))
 
 -- ---- at most
 

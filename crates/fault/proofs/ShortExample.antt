@@ -36,7 +36,7 @@ short-by =
           (entered plain tab refl S (bytes "1") (bytes "500001\n") (number plain 1 (omega arith)) (inr (refl, weight)));
     }
 
--- and one with no count of it, and then a 0
+-- and one with a count, both outside their limits
 whole-by : LineThen fitLine (Just []) (bytes "FIT\t1\t500001\t0\n")
 unfolding fitLine digitsOf digitsIn
 whole-by =

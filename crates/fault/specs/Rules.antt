@@ -1,5 +1,5 @@
 -- 02 (v), the line rules: which texts of a form there are, whatever their numbers. Nothing here reads: a text is by a
--- rule if it can be put together so. Limits are no line rules, but that some numbers may be `-`.
+-- rule if it can be put together so. Limits are no line rules, but that some numbers may be `-` and some left out.
 use Prim.Native.Nat.{ℕ, zero, suc, _≤_, _<_}
 use mathlib.Core.Path.{_≡_}
 use mathlib.Core.Bool.{true}

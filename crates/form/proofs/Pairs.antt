@@ -1,16 +1,14 @@
--- Rows of two numbers whose first rises, as fittings and engines are.
+-- Rows of two numbers whose first rises, as engines are.
 use mathlib.Core.Path.{_≡_, refl}
 use mathlib.Core.Bool.{true}
 use mathlib.Core.List.{List, [], _∷_}
 use Prim.Native.Nat.{ℕ, _≤_, max}
-use native.Mathlib.Omega.{arith}
 use Rattle.text.specs.Limit.{ranging}
 use Rattle.text.specs.Line.{Line}
-use Rattle.text.proofs.Two.{two-numbers, numbers-two}
+use Rattle.text.proofs.Two.{two-numbers}
 use Rattle.form.specs.Parts.{Row, lineRow, risingLines, letterOf}
 use Rattle.form.specs.Writing.{rowOk}
-use Rattle.form.proofs.Held.{row-held, only-held}
-use Rattle.form.proofs.Single.{kind-self}
+use Rattle.form.proofs.Held.{only-held}
 
 module _ (tag : List ℕ) (low high least most : ℕ) where
   abbrev pub pairLine : Line
@@ -40,9 +38,3 @@ module _ (tag : List ℕ) (low high least most : ℕ) where
     where
       same : (b : ℕ) (ns ms : List ℕ) → b ≡ letterOf pairLine → ns ≡ ms → lineRow b ns ≡ lineRow (letterOf pairLine) ms
       same b ns ms e f = rw (e, f)
-
-  pub pair-ok : (few many next n w : ℕ) → next ≤ n → low ≤ n → n ≤ high → least ≤ w → w ≤ most
-      → rowOk (risingLines few many pairLine) next (pairRow n w) ≡ true
-  pair-ok few many next n w a b c d e =
-      rw (row-held (risingLines few many pairLine) next (pairRow n w) pairLine (kind-self pairLine))
-      (numbers-two (max low next) high least most n w (omega arith) c d e)

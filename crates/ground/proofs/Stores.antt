@@ -7,7 +7,7 @@ use native.Mathlib.Omega.{arith}
 use native.Mathlib.Numerals.{add-one}
 use lib.ListN.{length, getD, take, drop, set, replicate, length-append, length-drop, length-replicate}
 use lib.ListN.{replicate-append-replicate, take-append-drop, drop-of-length-le}
-use lib.Seq.{sets, sets-eq, drop-cons, drop-length, take-all, set-out, take-suc, length-take-le, take-set-le}
+use lib.Seq.{sets, sets-eq, drop-cons, take-all, set-out, take-suc, length-take-le, take-set-le}
 use lib.Seq.{drop-set-add, length-sets}
 use Rattle.ground.proofs.Booleans.{by-less}
 
@@ -45,10 +45,6 @@ take-sets l n i (x ∷ xs) h = take-sets (set l i x) n (suc i) xs (omega arith) 
 -- a list stored from the start, with what stands after it
 pub sets-start : (l xs : List ℕ) → length xs ≤ length l → sets l 0 xs ≡ xs ++ drop (length xs) l
 sets-start l xs h = sets-eq xs l 0 (omega arith) ∙ rw (zero-add (length xs))
-
--- a list stored over as many elements
-pub sets-whole : (l xs : List ℕ) → length xs ≡ length l → sets l 0 xs ≡ xs
-sets-whole l xs h = sets-start l xs (omega arith) ∙ rw (h, drop-length l, append-nil xs)
 
 -- ---- parts, as the code lends them
 

@@ -8,7 +8,7 @@ use lib.ListN.{set, take, drop, replicate}
 use Rattle.text.specs.Limit.{allHold}
 use Rattle.text.proofs.Examples.{upFrom}
 use Rattle.sheet.specs.Sheet.{fitsOk, okOn}
-use Rattle.memory.specs.Layout.{registerWords, fittingAt}
+use Rattle.memory.specs.Layout.{registerWords, fitting, fittingAt}
 use Rattle.memory.specs.Layout.{hullCount, edit, hullSheet, held, draftHull, opening, draftSheet}
 use Rattle.memory.specs.Formed.{each, hullOk, draftOk, formed}
 use Rattle.memory.specs.Updates.{fitted}
@@ -116,8 +116,9 @@ places-right :
     × (draftSheet m 0 ∷ draftSheet m 7 ∷ [] ≡ upFrom 92 1492 ∷ upFrom 92 2157 ∷ [])
     × (hullCount [] ∷ edit [] 0 ∷ held [] 0 ∷ draftHull [] 0 ∷ opening [] 0 ∷ [] ≡ replicate 5 0)
     × (fittingAt 0 1 ∷ fittingAt 0 24 ∷ fittingAt 7 1 ∷ fittingAt 7 24 ∷ [] ≡ 1536 ∷ 1582 ∷ 2201 ∷ 2247 ∷ [])
+    × (fitting m 0 1 ∷ fitting m 7 24 ∷ fitting [] 0 1 ∷ [] ≡ 1536 ∷ 2247 ∷ 0 ∷ [])
 unfolding upFrom
-places-right = (refl, refl, refl, refl, refl, refl, refl)
+places-right = (refl, refl, refl, refl, refl, refl, refl, refl)
 
 -- the words about fitting lines 1 and 2 of desk 7's draft: three pieces put on line 2, one taken off line 1
 puts-right :

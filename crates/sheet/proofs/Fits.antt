@@ -1,5 +1,5 @@
 -- FIT rows and the fitting lines of a sheet: the lines as rows are those lines, and rows as lines are those rows with
--- their counts; with the same limits.
+-- their counts.
 use mathlib.Core.Path.{_≡_, refl, sym, ap, _∙_}
 use mathlib.Core.Bool.{Bool, true, false}
 use mathlib.Core.List.{List, [], _∷_, _++_, append-nil}

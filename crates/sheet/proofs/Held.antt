@@ -12,7 +12,7 @@ use lib.Seq.{take-add, drop-drop, length-take-le}
 use Rattle.text.specs.Limit.{Limit, orNone, capped, holds, allHold}
 use Rattle.text.specs.Line.{Line}
 use Rattle.ground.proofs.Booleans.{both-hold}
-use Rattle.sheet.specs.Lines.{lines, fittings}
+use Rattle.sheet.specs.Lines.{fittings}
 use Rattle.sheet.specs.Sheet.{limitsOn, fitsOk, okOn}
 
 -- ---- limits that do not look back
@@ -26,7 +26,7 @@ holds-free l a b n e =
     let r = leb-true (l .rule) orNone e in
     rw (ne-eqb (l .rule) capped (λ z. omega arith), le-ltb capped (l .rule) (omega arith))
 
-pub hold-free : (ls : List Limit) (a b : ℕ) (ns : List ℕ) → opens ls ≡ true → allHold ls a ns ≡ allHold ls b ns
+hold-free : (ls : List Limit) (a b : ℕ) (ns : List ℕ) → opens ls ≡ true → allHold ls a ns ≡ allHold ls b ns
 unfolding opens allHold
 hold-free [] a b [] e = refl
 hold-free [] a b (n ∷ ns) e = refl
@@ -49,10 +49,6 @@ hold-parts (l ∷ ls) ms last (x ∷ xs) ys e f =
 unfoldable pub linesOpen : List Line → Bool
 linesOpen [] = true
 linesOpen (l ∷ ls) = opens (l .limits) && linesOpen ls
-
-pub lines-open : linesOpen lines ≡ true
-unfolding linesOpen opens
-lines-open = refl
 
 joined-open : (ls ms : List Limit) → opens ls ≡ true → opens ms ≡ true → opens (ls ++ ms) ≡ true
 unfolding opens

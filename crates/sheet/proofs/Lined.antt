@@ -28,11 +28,11 @@ pub record Lined (x : List ℕ) (many : ℕ) : Type 0 where
 
 -- ---- tabs
 
-pub tabs-tab : (t : List ℕ) → tabs (tab ∷ t) ≡ suc (tabs t)
+tabs-tab : (t : List ℕ) → tabs (tab ∷ t) ≡ suc (tabs t)
 unfolding tabs
 tabs-tab t = refl
 
-pub tabs-other : (b : ℕ) (t : List ℕ) → b ≢ tab → tabs (b ∷ t) ≡ tabs t
+tabs-other : (b : ℕ) (t : List ℕ) → b ≢ tab → tabs (b ∷ t) ≡ tabs t
 unfolding tabs
 tabs-other b t n = rw (ne-eqb b tab n, tabs)
 

@@ -92,7 +92,7 @@ clash [] t = false
 clash (a ∷ s) [] = false
 clash (a ∷ s) (b ∷ t) = not (eqb b a) || clash s t
 
-pub clash-agreed : (s t x : List ℕ) → clash s t ≡ true → agreed s (t ++ x) ≢ length s
+clash-agreed : (s t x : List ℕ) → clash s t ≡ true → agreed s (t ++ x) ≢ length s
 unfolding clash agreed
 clash-agreed [] t x h e = false-true h
 clash-agreed (a ∷ s) [] x h e = false-true h

@@ -1,5 +1,5 @@
 -- Demand 2, the single text: a sheet within the limits that is written reads back as itself, and a text that reads as a
--- sheet is what that sheet is written as. Both follow from the form's.
+-- sheet, renewed, is what that sheet is written as. Both follow from the form's.
 use mathlib.Core.Path.{_≡_, sym, ap, _∙_}
 use mathlib.Core.Bool.{true}
 use mathlib.Core.List.{List}

@@ -33,7 +33,7 @@ pub ender-ends : (ls : List Limit) → Ends (ender ls)
 ender-ends [] = refl
 ender-ends (l ∷ ls) = refl
 
-pub closer-ends : (ls : List Limit) (ns : List ℕ) → Ends (closer ls ns)
+closer-ends : (ls : List Limit) (ns : List ℕ) → Ends (closer ls ns)
 closer-ends [] ns = refl
 closer-ends (l ∷ ls) [] = refl
 closer-ends (l ∷ ls) (n ∷ ns) = refl

@@ -5,7 +5,7 @@ use mathlib.Core.List.{List, [], _∷_}
 use Prim.Native.Nat.{ℕ, _≤_}
 use Rattle.text.specs.Limit.{ranging, holds, allHold}
 use Rattle.ground.proofs.Booleans.{both-hold, false-true}
-use Rattle.text.proofs.Bounds.{ranging-between, between-ranging}
+use Rattle.text.proofs.Bounds.{ranging-between}
 
 -- two numbers, from a to b and from c to d
 pub record Two (a b c d : ℕ) (ns : List ℕ) : Type 0 where
@@ -42,12 +42,3 @@ module _ (a b c d : ℕ) where
   two-numbers (n ∷ w ∷ m ∷ ns) h =
       let p = both-hold (holds (ranging a b) 0 n) (holds (ranging c d) n w && false) h in
       false-true (both-hold (holds (ranging c d) n w) false (p .1) .1)
-
-  pub numbers-two : (n w : ℕ)
-      → a ≤ n
-      → n ≤ b
-      → c ≤ w
-      → w ≤ d
-      → allHold (ranging a b ∷ ranging c d ∷ []) 0 (n ∷ w ∷ []) ≡ true
-  unfolding allHold
-  numbers-two n w e f g h = rw (between-ranging a b 0 n e f, between-ranging c d n w g h)
