@@ -127,6 +127,10 @@ fitted-numbers from letter (n ∷ w ∷ c ∷ d ∷ ns) e h =
     let q = both-hold (holds (ranging 1 fittingHigh) n w) (holds k w c && false) (p .1) in
     false-true (both-hold (holds k w c) false (q .1) .1)
 
+-- 02 (vi): a row as it is written has all three numbers
+row-three : (n w c : ℕ) → fitRow n w c .numbers ≡ n ∷ w ∷ c ∷ []
+row-three n w c = refl
+
 -- a line's number, weight and count, all of them there
 pub line-fitted : (n w c : ℕ) → allHold (fitLine .limits) 0 (n ∷ w ∷ c ∷ []) ≡ true → Fitted 1 (fitRow n w c)
 line-fitted n w c h = fitted-numbers 1 (letterOf fitLine) (n ∷ w ∷ c ∷ []) refl h

@@ -15,7 +15,7 @@ pub mod RenewedForm  -- and of a sheet's rows
 pub mod SheetText  -- the single text of a sheet, both ways; 2 or 3 alone
 pub mod EngineText  -- the single text of engine rows, both ways; their columns; 2 or 3 alone
 pub mod Writing  -- a sheet's text, line by line
-pub mod Most  -- 610 bytes, and the sheet that reaches them
+pub mod Most  -- 658 bytes, and the sheet that reaches them
 pub mod Calls  -- the single text as a caller sees it
 pub mod Places  -- where a refused text is wrong: line and byte are where it goes wrong by the line rules
 pub mod Refused  -- what comes first, which refusal has a place; a refused call leaves every lent byte

@@ -18,7 +18,7 @@ use Rattle.text.proofs.Writing.{numbers-take}
 use Rattle.text.proofs.Most.{numbersMost, numbers-most, lineMost, line-most}
 use Rattle.form.specs.Parts.{kindOf}
 use Rattle.form.specs.Writing.{rowsText, partsText}
-use Rattle.sheet.specs.Lines.{lines, fittings, fitLine, endLine}
+use Rattle.sheet.specs.Lines.{lines, fittings, fittingCount, fitLine, endLine}
 use Rattle.sheet.specs.Sheet.{limitsOn, fitOk, fitsOk, okOn, sheetOk}
 use Rattle.sheet.specs.SheetText.{sheetForm, fitRows, rowsOn, sheetText}
 use Rattle.sheet.proofs.FitRow.{Pieces, fit-pieces, piece-most}
@@ -30,7 +30,7 @@ use Rattle.sheet.proofs.Writing.{fitsText, text-fits, fits-none, fits-e
 abbrev digits : ℕ → ℕ
 digits n = length (digitsOf n)
 
-digits-are : (digits 9 ≡ 1) × ((digits 99 ≡ 2) × ((digits 50000 ≡ 5) × (digits 500000 ≡ 6)))
+digits-are : (digits 9 ≡ 1) × ((digits fittingCount ≡ 2) × ((digits 50000 ≡ 5) × (digits 500000 ≡ 6)))
 unfolding digitsOf digitsIn
 digits-are = (refl, (refl, (refl, refl)))
 
@@ -52,7 +52,7 @@ piece-digits w c p =
     omega (
       arith,
       length-digits-mono w 50000 (omega (arith, k, p .counted .product)),
-      length-digits-mono c 99 (p .counted .most),
+      length-digits-mono c fittingCount (p .counted .most),
       d .1 .0,
       d .1 .1 .0,
     ))
