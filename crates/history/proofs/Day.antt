@@ -32,7 +32,7 @@ use Rattle.register.specs.Refusals.{hullRefusal, deskRefusal, roomRefusal, open
 use Rattle.memory.proofs.Changes.{fresh-changes}
 use Rattle.register.proofs.Effects.{fresh-right-size}
 use Rattle.sheet.proofs.BaseHull.{form, mass, power, seats, sheetWith}
-use Rattle.register.specs.Calls.{put, takeOff, tryPlate, plate, write, newHull, openHull, work, save, dropDraft, ask}
+use Rattle.register.specs.Calls.{setFitting, tryPlate, plate, write, newHull, openHull, work, save, dropDraft, ask}
 use Rattle.history.specs.Replies.{says, reply, next}
 use Rattle.history.specs.Runs.{Event, _⇒_, call}
 use Rattle.history.specs.History.{role, block, spot, serial}
@@ -64,15 +64,15 @@ day : List Event
 day =
     entering
     ∷ (openHull 0 0 ⇒ says (Count 0)) ∷ (openHull 1 0 ⇒ says (Count 0))
-    ∷ (work 1 (put 2 1667 2) ⇒ says Done) ∷ (work 0 (put 1 500 1) ⇒ says Done)
+    ∷ (work 1 (setFitting 2 1667 2) ⇒ says Done) ∷ (work 0 (setFitting 1 500 1) ⇒ says Done)
     ∷ (ask 0 (plate kindA) ⇒ says (Plate 327 20000)) ∷ (ask 0 (plate kindU) ⇒ says (Count 720))
     ∷ (work 1 (tryPlate kindA) ⇒ says (Plate 326 20000)) ∷ (work 1 (tryPlate kindU) ⇒ says (Count 718))
     ∷ (save 1 ⇒ says (Count 1)) ∷ (ask 0 (plate kindA) ⇒ says (Plate 326 20000))
     ∷ (ask 0 (plate kindU) ⇒ says (Count 718))
     -- desk 0 is behind, and opens anew; meanwhile desk 3 opens too
     ∷ (save 0 ⇒ says (Refused 8)) ∷ (openHull 0 0 ⇒ says (Count 1)) ∷ (openHull 3 0 ⇒ says (Count 1))
-    ∷ (work 0 (takeOff 1) ⇒ says (Refused 17)) ∷ trialC
-    ∷ writing ∷ (work 0 (takeOff 2) ⇒ says Done) ∷ (save 0 ⇒ says (Count 2))
+    ∷ (work 0 (setFitting 1 0 0) ⇒ says (Refused 17)) ∷ (work 0 (setFitting 25 0 0) ⇒ says (Refused 3)) ∷ trialC
+    ∷ writing ∷ (work 0 (setFitting 2 0 0) ⇒ says Done) ∷ (save 0 ⇒ says (Count 2))
     -- desk 3 is behind, and gives up
     ∷ (save 3 ⇒ says (Refused 8)) ∷ (dropDraft 3 ⇒ says Done) ∷ (save 3 ⇒ says (Refused 7))
     ∷ faulty ∷ (ask 1 (plate kindA) ⇒ says (Refused 5)) ∷ (ask 0 (plate kindA) ⇒ says (Plate 327 20000))
@@ -83,13 +83,13 @@ serial-day =
     entering
     ∷ (ask 0 (plate kindA) ⇒ says (Plate 327 20000)) ∷ (ask 0 (plate kindU) ⇒ says (Count 720))
     -- desk 1's block, at its save's place, its trials among its calls
-    ∷ (openHull 1 0 ⇒ says (Count 0)) ∷ (work 1 (put 2 1667 2) ⇒ says Done)
+    ∷ (openHull 1 0 ⇒ says (Count 0)) ∷ (work 1 (setFitting 2 1667 2) ⇒ says Done)
     ∷ (work 1 (tryPlate kindA) ⇒ says (Plate 326 20000)) ∷ (work 1 (tryPlate kindU) ⇒ says (Count 718))
     ∷ (save 1 ⇒ says (Count 1))
     ∷ (ask 0 (plate kindA) ⇒ says (Plate 326 20000)) ∷ (ask 0 (plate kindU) ⇒ says (Count 718)) ∷ writing
     -- desk 0's second draft; its first is left out
-    ∷ (openHull 0 0 ⇒ says (Count 1)) ∷ (work 0 (takeOff 1) ⇒ says (Refused 17)) ∷ trialC
-    ∷ (work 0 (takeOff 2) ⇒ says Done) ∷ (save 0 ⇒ says (Count 2))
+    ∷ (openHull 0 0 ⇒ says (Count 1)) ∷ (work 0 (setFitting 1 0 0) ⇒ says (Refused 17)) ∷ (work 0 (setFitting 25 0 0) ⇒ says (Refused 3)) ∷ trialC
+    ∷ (work 0 (setFitting 2 0 0) ⇒ says Done) ∷ (save 0 ⇒ says (Count 2))
     ∷ faulty ∷ (ask 1 (plate kindA) ⇒ says (Refused 5)) ∷ (ask 0 (plate kindA) ⇒ says (Plate 327 20000))
     ∷ []
 

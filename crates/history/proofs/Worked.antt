@@ -17,9 +17,9 @@ use Rattle.memory.specs.Layout.{draftSheet}
 use Rattle.memory.specs.Formed.{formed}
 use Rattle.memory.proofs.Sound.{sound}
 use Rattle.memory.proofs.OneSlot.{ButDesk, SheetChanges}
-use Rattle.register.specs.Refusals.{deskRefusal, putOwn, takeOwn, orRefused, onText}
-use Rattle.register.specs.Calls.{Work, Call, put, takeOff, replace, tryPlate, work, workAnswer, workMakes, step}
-use Rattle.register.proofs.Effects.{leaves-same, refused-leaves, put-changes, take-changes, replace-changes}
+use Rattle.register.specs.Refusals.{deskRefusal, setOwn, orRefused, onText}
+use Rattle.register.specs.Calls.{Work, Call, setFitting, replace, tryPlate, work, workAnswer, workMakes, step}
+use Rattle.register.proofs.Effects.{leaves-same, refused-leaves, set-changes, replace-changes}
 use Rattle.history.specs.Replies.{reply, next}
 use Rattle.history.specs.Told.{worked}
 use Rattle.history.proofs.Model.{Draft, State, workSays, atDesk, edited}
@@ -60,9 +60,8 @@ module _ (m : List ℕ) (d : ℕ) (ok : formed m ≡ true) (z : deskRefusal m d 
   work-changes : (w : Work)
       → isRefusal (workAnswer w (draftSheet m d)) ≡ false
       → SheetChanges (workMakes m d w) m d (worked w (draftSheet m d))
-  work-changes (put line weight count) e =
-      put-changes m d z line weight count (no-refusal (putOwn line weight count) Done e)
-  work-changes (takeOff line) e = take-changes m d z line (no-refusal (takeOwn (draftSheet m d) line) Done e)
+  work-changes (setFitting line weight count) e =
+      set-changes m d z line weight count (no-refusal (setOwn (draftSheet m d) line weight count) Done e)
   work-changes (replace t) e = on-read t e (replace-changes m d z t)
   work-changes (tryPlate k) e = unchanged m d ok
 

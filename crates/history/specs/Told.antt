@@ -8,7 +8,7 @@ use lib.Dec.{eqb}
 use lib.Seq.{sets}
 use Rattle.sheet.specs.Places.{fittingWord}
 use Rattle.register.specs.Refusals.{sheetOf}
-use Rattle.register.specs.Calls.{Work, put, takeOff, replace, tryPlate, newHull, openHull, work, save, dropDraft, ask}
+use Rattle.register.specs.Calls.{Work, setFitting, replace, tryPlate, newHull, openHull, work, save, dropDraft, ask}
 use Rattle.history.specs.Replies.{accepted}
 use Rattle.history.specs.Runs.{Event, _⇒_}
 use Rattle.history.specs.History.{itsOpen, itsCall, itsEnd, elsewhere, role}
@@ -69,8 +69,7 @@ quietSince d h (e ∷ past) =
 
 -- the sheet s after a piece of work that was accepted
 abbrev pub worked : Work → List ℕ → List ℕ
-worked (put line weight count) s = sets s (fittingWord line) (weight ∷ count ∷ [])
-worked (takeOff line) s = sets s (fittingWord line) (0 ∷ 0 ∷ [])
+worked (setFitting line weight count) s = sets s (fittingWord line) (weight ∷ count ∷ [])
 worked (replace t) s = sheetOf t
 worked (tryPlate k) s = s
 

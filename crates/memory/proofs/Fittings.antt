@@ -1,10 +1,11 @@
--- The words of a sheet stay within limits when weight and count of a fitting line are changed for others within theirs.
+-- A fitting line that is set to a weight and a count within their limits: the words of the sheet stay within theirs. And
+-- of all words of the memory two are set.
 use mathlib.Core.Path.{_≡_, sym, _∙_}
 use mathlib.Core.Bool.{true}
 use mathlib.Core.List.{List, [], _∷_}
 use Prim.Native.Nat.{ℕ, zero, suc, _+_, _*_, _≤_, _<_}
 use native.Mathlib.Omega.{arith}
-use lib.ListN.{take, drop}
+use lib.ListN.{getD, take, drop}
 use lib.Seq.{sets, length-sets}
 use Rattle.text.specs.Limit.{allHold}
 use Rattle.ground.proofs.Booleans.{both-hold, both-true, false-true}
@@ -13,6 +14,9 @@ use Rattle.sheet.specs.Lines.{lines, fittings}
 use Rattle.sheet.specs.Sheet.{limitsOn, fitOk, fitsOk, wordsOk}
 use Rattle.sheet.specs.Places.{fittingWord, fittingsAt}
 use Rattle.sheet.proofs.Words.{words-length, words-run}
+use Rattle.memory.specs.Layout.{desks, Sized, fittingAt}
+use Rattle.memory.specs.Updates.{fitted}
+use Rattle.memory.proofs.Parts.{word-outside, word-inside}
 
 module _ (w c : ℕ) (f : fitOk w c ≡ true) where
   -- line k of n, counted from 0
@@ -45,3 +49,27 @@ module _ (w c : ℕ) (f : fitOk w c ≡ true) where
         drop-sets s fittingsAt (2 * k) xs,
         p .0,
       ) (fits-set fittings k (drop fittingsAt s) (omega arith) (p .1))
+
+pub record FittedWords (m : List ℕ) (d line w c : ℕ) : Type 0 where
+  pub weight : getD (fitted m d line w c) (fittingAt d line) 0 ≡ w
+  pub count : getD (fitted m d line w c) (1 + fittingAt d line) 0 ≡ c
+  pub others : (k : ℕ)
+      → (k ≡ fittingAt d line → ⊥)
+      → (k ≡ 1 + fittingAt d line → ⊥)
+      → getD (fitted m d line w c) k 0 ≡ getD m k 0
+
+pub fitted-two : (m : List ℕ) (d line w c : ℕ)
+    → Sized m
+    → d < desks
+    → 1 ≤ line
+    → line ≤ fittings
+    → FittedWords m d line w c
+unfolding fitted
+fitted-two m d line w c h l a b =
+    let at : ℕ = fittingAt d line in
+    let xs : List ℕ = w ∷ c ∷ [] in
+    record {
+      weight = word-inside m at xs 0 (omega arith) (omega arith) (omega arith);
+      count = word-inside m at xs 1 (omega arith) (omega arith) (omega arith);
+      others = λ k p q. word-outside m at xs k (λ u v. p (omega (arith, q)));
+    }

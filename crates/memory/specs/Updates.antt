@@ -19,7 +19,7 @@ entered m s = set (sets m (hullAt (hullCount m)) (hullSlot 0 s)) countAt (hullCo
 unfoldable pub opened : List ℕ → ℕ → ℕ → List ℕ
 opened m d h = sets m (draftAt d) (draftSlot h (edit m h) (hullSheet m h))
 
--- put a fitting, or with weight 0 and count 0 take one off
+-- a fitting line set to a weight and a count; both are 0 where it is emptied
 unfoldable pub fitted : List ℕ → ℕ → ℕ → ℕ → ℕ → List ℕ
 fitted m d line weight count = sets m (fittingAt d line) (weight ∷ count ∷ [])
 

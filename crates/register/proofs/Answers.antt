@@ -8,7 +8,6 @@ use Rattle.text.specs.Number.{restOf, numberOf, digitsIn, digitsOf}
 use Rattle.text.specs.Limit.{allHold}
 use Rattle.text.specs.Line.{readEntry, readNumbers, readLine, numbersText}
 use Rattle.text.specs.Place.{feeds, sinceFeed}
-use Rattle.answers.specs.declared.Answer.{Answer}
 use Rattle.answers.specs.declared.Answer.the-variants.{Refused, RefusedAt, Done, Count, Plate}
 use Rattle.form.specs.Parts.{kindOf, numbersOf}
 use Rattle.form.specs.Reading.{readRows, readParts, readForm}
@@ -26,15 +25,10 @@ use Rattle.capacity.specs.Kinds.{kindA, kindC, kindU}
 use Rattle.memory.specs.Formed.{each, hullOk, draftOk, formed}
 use Rattle.memory.proofs.Memories.{sheet, hulls, draft, idle, full}
 use Rattle.register.specs.Refusals.{roomRefusal, hullRefusal, openRefusal, deskRefusal}
-use Rattle.register.specs.Calls.{put, takeOff, replace, tryPlate, plate, write}
+use Rattle.register.specs.Calls.{setFitting, replace, tryPlate, plate, write}
 use Rattle.register.specs.Calls.{newHull, openHull, work, save, dropDraft, ask, freshStep, step}
-use Rattle.register.proofs.Day.{Must, _must_, wanted}
+use Rattle.register.proofs.Day.{Must, _must_, wanted, answered}
 use Rattle.register.proofs.Unformed.{small}
-
--- what each of the calls answers in the memory m
-answered : List ℕ → List Must → List Answer
-answered m [] = []
-answered m ((c must a) ∷ cs) = step m c .answer ∷ answered m cs
 
 -- ---- memories that are well formed
 
@@ -75,7 +69,8 @@ on-fifteen = (newHull text must Count 15) ∷ []
 on-edited : List Must
 on-edited =
     (save 6 must Count 65535) ∷ (save 7 must Refused 9) ∷ (save 4 must Refused 8) ∷ (save 5 must Refused 8)
-    ∷ (save 2 must Refused 7) ∷ (save 3 must Refused 7) ∷ (save 8 must Refused 6) ∷ (work 3 (takeOff 24) must Refused 7)
+    ∷ (save 2 must Refused 7) ∷ (save 3 must Refused 7) ∷ (save 8 must Refused 6)
+    ∷ (work 3 (setFitting 24 0 0) must Refused 7)
     ∷ []
 
 on-small : List Must
@@ -89,19 +84,6 @@ on-small =
     ∷ (openHull 7 0 must Count 0) ∷ (openHull 8 0 must Refused 6) ∷ (openHull 7 1 must Refused 5)
     ∷ (openHull 8 1 must Refused 6) ∷ (dropDraft 7 must Done) ∷ (dropDraft 6 must Refused 7)
     ∷ (dropDraft 8 must Refused 6)
-    -- a fitting's line, weight and count; their product, which never wraps
-    ∷ (work 7 (put 1 1 1) must Done) ∷ (work 7 (put 24 500000 1) must Done) ∷ (work 7 (put 0 1 1) must Refused 3)
-    ∷ (work 7 (put 25 1 1) must Refused 3) ∷ (work 7 (put 1 0 1) must Refused 3)
-    ∷ (work 7 (put 1 500001 1) must Refused 3) ∷ (work 7 (put 1 1 99) must Done) ∷ (work 7 (put 1 1 100) must Refused 3)
-    ∷ (work 7 (put 1 1 0) must Refused 3) ∷ (work 7 (put 1 0 0) must Refused 3)
-    ∷ (work 7 (put 2 250000 2) must Done) ∷ (work 7 (put 2 250001 2) must Refused 3)
-    ∷ (work 7 (put 1 5050 99) must Done) ∷ (work 7 (put 1 5051 99) must Refused 3)
-    ∷ (work 7 (put 1 4294967295 4294967295) must Refused 3) ∷ (work 7 (put 1 4294967295 1) must Refused 3)
-    ∷ (work 7 (put 1 1 4294967295) must Refused 3) ∷ (work 7 (put 1 65536 65536) must Refused 3)
-    ∷ (work 6 (put 0 0 0) must Refused 7) ∷ (work 8 (put 0 0 0) must Refused 6)
-    ∷ (work 7 (takeOff 1) must Done) ∷ (work 7 (takeOff 24) must Refused 17) ∷ (work 7 (takeOff 0) must Refused 3)
-    ∷ (work 7 (takeOff 25) must Refused 3) ∷ (work 6 (takeOff 0) must Refused 7) ∷ (work 8 (takeOff 0) must Refused 6)
-    ∷ (work 8 (takeOff 24) must Refused 6)
     -- plates: the desk, its draft and the hull before the rows
     ∷ (work 7 (tryPlate kindA) must Plate 326 20000) ∷ (work 7 (tryPlate (kindC [] [])) must Refused 10)
     ∷ (work 6 (tryPlate (kindC [] [])) must Refused 7) ∷ (work 8 (tryPlate (kindC [] [])) must Refused 6)

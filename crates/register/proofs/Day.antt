@@ -30,7 +30,7 @@ use Rattle.memory.specs.Formed.{each, hullOk, draftOk, formed}
 use Rattle.memory.specs.Updates.{freshWords, entered, opened, fitted, replaced, dropped, saved}
 use Rattle.sheet.proofs.BaseHull.{form, mass, power, seats, sheetWith}
 use Rattle.register.specs.Refusals.{roomRefusal, hullRefusal, openRefusal, deskRefusal}
-use Rattle.register.specs.Calls.{put, takeOff, replace, tryPlate, plate, write}
+use Rattle.register.specs.Calls.{setFitting, replace, tryPlate, plate, write}
 use Rattle.register.specs.Calls.{Call, newHull, openHull, work, save, dropDraft, ask, step}
 
 -- a call, with the answer that it must give
@@ -41,8 +41,13 @@ pub data Must : Type 0 where
 abbrev pub wanted : Must → Answer
 wanted (c must a) = a
 
+-- what each of the calls answers in the memory m
+unfoldable pub answered : List ℕ → List Must → List Answer
+answered m [] = []
+answered m ((c must a) ∷ cs) = step m c .answer ∷ answered m cs
+
 -- what the calls answer, one after the other, from the memory m on
-given : List ℕ → List Must → List Answer
+unfoldable pub given : List ℕ → List Must → List Answer
 given m [] = []
 given m ((c must a) ∷ cs) = step m c .answer ∷ given (step m c .memory) cs
 
@@ -94,15 +99,15 @@ day =
     -- no such desk, hull or draft
     ∷ (openHull 8 1 must Refused 6) ∷ (openHull 0 2 must Refused 5) ∷ (save 0 must Refused 7)
     -- desk 0 works on hull 0, where desk 7 has opened it too
-    ∷ (openHull 7 0 must Count 0) ∷ (openHull 0 0 must Count 0) ∷ (work 0 (put 25 1 1) must Refused 3)
-    ∷ (work 0 (put 2 250001 2) must Refused 3) ∷ (work 0 (put 2 1667 2) must Done)
+    ∷ (openHull 7 0 must Count 0) ∷ (openHull 0 0 must Count 0) ∷ (work 0 (setFitting 25 0 0) must Refused 3)
+    ∷ (work 0 (setFitting 2 250001 2) must Refused 3) ∷ (work 0 (setFitting 2 1667 2) must Done)
     ∷ (tries 0 kindA must Plate 326 20000)
     ∷ (marks 0 kindA must Plate 327 20000) ∷ (tries 0 byC must Plate 325 3) ∷ (tries 0 kindU must Count 718)
-    ∷ (marks 0 kindU must Count 720) ∷ (work 0 (takeOff 1) must Refused 17) ∷ (save 0 must Count 1)
+    ∷ (marks 0 kindU must Count 720) ∷ (work 0 (setFitting 1 0 0) must Refused 17) ∷ (save 0 must Count 1)
     ∷ (marks 0 kindA must Plate 326 20000)
-    -- desk 7's draft is behind; opened anew it is the saved sheet, from which the fitting is taken off
-    ∷ (save 7 must Refused 8) ∷ (openHull 7 0 must Count 1) ∷ (work 7 (takeOff 2) must Done)
-    ∷ (work 7 (takeOff 2) must Refused 17) ∷ (save 7 must Count 2) ∷ (marks 0 byC must Plate 326 3)
+    -- desk 7's draft is behind; opened anew it is the saved sheet, whose fitting line is emptied
+    ∷ (save 7 must Refused 8) ∷ (openHull 7 0 must Count 1) ∷ (work 7 (setFitting 2 0 0) must Done)
+    ∷ (work 7 (setFitting 2 0 0) must Refused 17) ∷ (save 7 must Count 2) ∷ (marks 0 byC must Plate 326 3)
     ∷ (marks 1 byC must Plate 325 3) ∷ (marks 1 kindU must Count 718) ∷ (marks 2 kindA must Refused 5)
     ∷ (marks 2 kindU must Refused 5)
     -- replace, then drop: nothing of it is left

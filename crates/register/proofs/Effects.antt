@@ -22,10 +22,11 @@ use Rattle.memory.proofs.Changes.{EnteredChanges, entered-changes, OpenedChange
 use Rattle.memory.proofs.Changes.{saved-changes}
 use Rattle.memory.proofs.Changes.{FittedChanges, fitted-changes, ReplacedChanges, replaced-changes, DroppedChanges}
 use Rattle.memory.proofs.Changes.{dropped-changes}
-use Rattle.register.specs.Refusals.{roomRefusal, openRefusal, deskRefusal, putOwn, takeOwn, leaves, sheetOf}
+use Rattle.memory.proofs.Fittings.{FittedWords, fitted-two}
+use Rattle.register.specs.Refusals.{roomRefusal, openRefusal, deskRefusal, setOwn, leaves, sheetOf}
 use Rattle.register.specs.Calls.{Call, Step, lent, makes, fills, freshStep, step}
 use Rattle.register.proofs.Refusals.{room-goes, open-goes, desk-goes}
-use Rattle.register.proofs.Own.{put-fits, take-fits}
+use Rattle.register.proofs.Own.{set-fits}
 use Rattle.register.proofs.Keeps.{text-words}
 
 -- ---- what an answer leaves
@@ -102,17 +103,17 @@ open-changes m d h z =
     opened-changes m d h (s .size) (g .desk) (omega (arith, s .few, g .entered))
 
 module _ (m : List ℕ) (d : ℕ) (z : deskRefusal m d ≡ 0) where
-  pub put-changes : (line w c : ℕ) → putOwn line w c ≡ 0 → FittedChanges m d line w c
-  put-changes line w c y =
+  pub set-changes : (line w c : ℕ) → setOwn (draftSheet m d) line w c ≡ 0 → FittedChanges m d line w c
+  set-changes line w c y =
       let g = desk-goes m d z in
-      let p = put-fits line w c y in
+      let p = set-fits (draftSheet m d) line w c y in
       fitted-changes m d line w c (sound m (g .ok) .size) (g .desk) (p .low) (p .high)
 
-  pub take-changes : (line : ℕ) → takeOwn (draftSheet m d) line ≡ 0 → FittedChanges m d line 0 0
-  take-changes line y =
+  pub set-words : (line w c : ℕ) → setOwn (draftSheet m d) line w c ≡ 0 → FittedWords m d line w c
+  set-words line w c y =
       let g = desk-goes m d z in
-      let p = take-fits (draftSheet m d) line y in
-      fitted-changes m d line 0 0 (sound m (g .ok) .size) (g .desk) (p .low) (p .high)
+      let p = set-fits (draftSheet m d) line w c y in
+      fitted-two m d line w c (sound m (g .ok) .size) (g .desk) (p .low) (p .high)
 
   pub replace-changes : (t s : List ℕ) → readSheet t ≡ right s → ReplacedChanges m d (sheetOf t)
   replace-changes t s e =

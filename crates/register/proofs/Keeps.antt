@@ -12,7 +12,6 @@ use Rattle.answers.specs.declared.Answer.{Answer}
 use Rattle.answers.specs.declared.Answer.the-variants.{Refused, RefusedAt, Done, Count, Plate}
 use Rattle.sheet.specs.Sheet.{wordsOk}
 use Rattle.sheet.specs.SheetText.{readSheet}
-use Rattle.sheet.proofs.FitRow.{pieces-fit}
 use Rattle.sheet.proofs.Words.{words-of}
 use Rattle.sheet.proofs.SheetText.{reads-written}
 use Rattle.memory.specs.Layout.{registerWords, hullCount, draftSheet}
@@ -20,12 +19,12 @@ use Rattle.memory.specs.Formed.{formed}
 use Rattle.memory.proofs.Sound.{sound}
 use Rattle.memory.proofs.Keeps.{fresh-formed, entered-formed, opened-formed, fitted-formed, replaced-formed}
 use Rattle.memory.proofs.Keeps.{dropped-formed, saved-formed}
-use Rattle.register.specs.Refusals.{putOwn, takeOwn, saveOwn, orRefused, leaves, sheetOf, onText}
-use Rattle.register.specs.Calls.{Work, put, takeOff, replace, tryPlate, Call, newHull, openHull, work, save}
+use Rattle.register.specs.Refusals.{setOwn, saveOwn, orRefused, leaves, sheetOf, onText}
+use Rattle.register.specs.Calls.{Work, setFitting, replace, tryPlate, Call, newHull, openHull, work, save}
 use Rattle.register.specs.Calls.{dropDraft, ask}
 use Rattle.register.specs.Calls.{workAnswer, workMakes, shared, own, makes, freshStep, step}
 use Rattle.register.proofs.Refusals.{DeskGoes, desk-goes, room-goes, open-goes}
-use Rattle.register.proofs.Own.{put-fits, take-fits, save-unspent}
+use Rattle.register.proofs.Own.{set-fits, save-unspent}
 
 -- ---- a memory that is kept, or changed into another well-formed one
 
@@ -66,17 +65,11 @@ work-keeps : (m : List ℕ) (d : ℕ) (w : Work)
     → formed m ≡ true
     → DeskGoes m d
     → formed (leaves (workAnswer w (draftSheet m d)) (workMakes m d w) m) ≡ true
-work-keeps m d (put line w c) ok g =
-    past-refusal (putOwn line w c) Done _ m ok
+work-keeps m d (setFitting line w c) ok g =
+    past-refusal (setOwn (draftSheet m d) line w c) Done _ m ok
     (λ y.
-    let p = put-fits line w c y in
-    fitted-formed m d line w c ok (g .desk) (g .some) (p .low) (p .high) (pieces-fit w c (p .pieces)))
-work-keeps m d (takeOff line) ok g =
-    let s = draftSheet m d in
-    past-refusal (takeOwn s line) Done _ m ok
-    (λ y.
-    let p = take-fits s line y in
-    fitted-formed m d line 0 0 ok (g .desk) (g .some) (p .low) (p .high) refl)
+    let p = set-fits (draftSheet m d) line w c y in
+    fitted-formed m d line w c ok (g .desk) (g .some) (p .low) (p .high) (p .fits))
 work-keeps m d (replace t) ok g = past-text t Done _ m ok (replaced-formed m d (sheetOf t) ok (g .desk) (g .some))
 work-keeps m d (tryPlate k) ok g = kept-or-made (workAnswer (tryPlate k) (draftSheet m d)) m m ok ok
 

@@ -3,8 +3,11 @@ pub mod Told  -- which answers have a place, and that it is the one the reader f
 pub mod Day  -- a day, computed
 pub mod Unformed  -- calls in memories that are not well formed, computed
 pub mod Answers  -- every call at its ends, and which refusal comes first, computed
+pub mod SetFigures  -- a fitting line set and emptied, computed
 pub mod Refusals  -- what calls share
 pub mod Own  -- what only one call asks
+pub mod SetFitting  -- what setting a fitting line does, by its numbers
+pub mod Withdrawn  -- what put and take off did, setting a fitting line does
 pub mod Keeps  -- a well-formed memory stays so
 pub mod Effects  -- a refused call leaves all; what an accepted one makes
 pub mod Makes  -- the change that each accepted call is

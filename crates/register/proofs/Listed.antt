@@ -1,7 +1,7 @@
 -- 01, Refusal numbers: every call on the register refuses by a number of the list, first to last, and so never by 0.
 use mathlib.Core.Path.{_≡_, refl}
 use mathlib.Core.Bool.{Bool, true, false, _&&_, cond}
-use mathlib.Core.List.{List, [], _∷_}
+use mathlib.Core.List.{List, _∷_}
 use Prim.Native.Nat.{ℕ, _+_}
 use native.Mathlib.Omega.{arith}
 use borrow.Author.Tests.{eqb-false, le-leb}
@@ -13,8 +13,8 @@ use Rattle.answers.specs.Refusals.{badMemory, emptyLine}
 use Rattle.answers.specs.declared.Answer.{Answer}
 use Rattle.answers.specs.declared.Answer.the-variants.{Refused, Done, Count}
 use Rattle.answers.proofs.Outcomes.{OfList, text-listed}
-use Rattle.text.specs.Limit.{allHold}
-use Rattle.sheet.specs.Lines.{fittings, fitLine}
+use Rattle.sheet.specs.Lines.{fittings}
+use Rattle.sheet.specs.Sheet.{noFitting, fitOk}
 use Rattle.sheet.specs.Places.{fittingWord}
 use Rattle.sheet.specs.SheetText.{readSheet}
 use Rattle.sheet.proofs.SheetText.{sheet-fault}
@@ -23,10 +23,10 @@ use Rattle.capacity.proofs.Answers.{plate-listed}
 use Rattle.memory.specs.Layout.{mostHulls, desks, registerWords, hullCount, edit, hullSheet, held, draftHull, opening}
 use Rattle.memory.specs.Layout.{draftSheet}
 use Rattle.memory.specs.Formed.{mostEdits, formed}
-use Rattle.register.specs.Refusals.{freshRefusal, roomRefusal, hullRefusal, openRefusal, deskRefusal, putOwn}
-use Rattle.register.specs.Refusals.{takeOwn, saveOwn}
+use Rattle.register.specs.Refusals.{freshRefusal, roomRefusal, hullRefusal, openRefusal, deskRefusal, setOwn}
+use Rattle.register.specs.Refusals.{saveOwn}
 use Rattle.register.specs.Refusals.{orRefused, onText}
-use Rattle.register.specs.Calls.{Work, put, takeOff, replace, tryPlate, Ask, plate, write}
+use Rattle.register.specs.Calls.{Work, setFitting, replace, tryPlate, Ask, plate, write}
 use Rattle.register.specs.Calls.{Call, newHull, openHull, work, save, dropDraft, ask, workAnswer, askAnswer}
 use Rattle.register.specs.Calls.{shared, own, freshStep, step}
 
@@ -67,12 +67,10 @@ shared-listed m (ask h q) = either OrNone (formed m) (either OrNone (ltb h (hull
 
 -- ---- what only one call asks
 
-put-listed : (line w c : ℕ) → OrNone (putOwn line w c)
-put-listed line w c = either OrNone (allHold (fitLine .limits) 0 (line ∷ w ∷ c ∷ [])) refl refl
-
-take-listed : (s : List ℕ) (line : ℕ) → OrNone (takeOwn s line)
-take-listed s line =
-    either OrNone (leb 1 line && leb line fittings) (either OrNone (eqb (getD s (fittingWord line) 0) 0) refl refl) refl
+set-listed : (s : List ℕ) (line w c : ℕ) → OrNone (setOwn s line w c)
+set-listed s line w c =
+    either OrNone (leb 1 line && (leb line fittings && fitOk w c))
+    (either OrNone (noFitting w c && eqb (getD s (fittingWord line) 0) 0) refl refl) refl
 
 save-listed : (m : List ℕ) (d : ℕ) → OrNone (saveOwn m d)
 save-listed m d =
@@ -80,8 +78,7 @@ save-listed m d =
     either OrNone (eqb e (opening m d)) (either OrNone (eqb e mostEdits) refl refl) refl
 
 work-listed : (w : Work) (s : List ℕ) → OfList (workAnswer w s)
-work-listed (put line w c) s = by-refusal (putOwn line w c) Done (put-listed line w c) refl
-work-listed (takeOff line) s = by-refusal (takeOwn s line) Done (take-listed s line) refl
+work-listed (setFitting line w c) s = by-refusal (setOwn s line w c) Done (set-listed s line w c) refl
 work-listed (replace t) s = by-text t Done refl
 work-listed (tryPlate k) s = plate-listed k s
 

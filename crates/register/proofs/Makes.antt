@@ -9,21 +9,17 @@ use Rattle.answers.specs.Values.{isRefusal}
 use Rattle.sheet.specs.SheetText.{readSheet}
 use Rattle.memory.specs.Layout.{draftSheet}
 use Rattle.memory.specs.Updates.{entered, opened, fitted, replaced, dropped, saved}
-use Rattle.register.specs.Refusals.{roomRefusal, openRefusal, deskRefusal, putOwn, takeOwn, saveOwn, sheetOf}
+use Rattle.register.specs.Refusals.{roomRefusal, openRefusal, deskRefusal, setOwn, saveOwn, sheetOf}
 use Rattle.register.specs.Refusals.{onText}
-use Rattle.register.specs.Calls.{put, takeOff, replace, write, newHull, openHull, work, save, dropDraft, ask}
+use Rattle.register.specs.Calls.{setFitting, replace, write, newHull, openHull, work, save, dropDraft, ask}
 use Rattle.register.specs.Calls.{step}
 use Rattle.register.proofs.Effects.{refused-leaves}
 
 module _ (m : List ℕ) (d : ℕ) (z : deskRefusal m d ≡ 0) where
-  pub put-makes : (line w c : ℕ) → putOwn line w c ≡ 0
-      → step m (work d (put line w c)) .memory ≡ fitted m d line w c
-  put-makes line w c y = rw (z, y) refl
-
-  pub take-makes : (line : ℕ)
-      → takeOwn (draftSheet m d) line ≡ 0
-      → step m (work d (takeOff line)) .memory ≡ fitted m d line 0 0
-  take-makes line y = rw (z, y) refl
+  pub set-makes : (line w c : ℕ)
+      → setOwn (draftSheet m d) line w c ≡ 0
+      → step m (work d (setFitting line w c)) .memory ≡ fitted m d line w c
+  set-makes line w c y = rw (z, y) refl
 
   pub replace-makes : (t s : List ℕ)
       → readSheet t ≡ right s

@@ -1,7 +1,7 @@
--- The checks that are a call's own: put, take off, save.
-use mathlib.Core.Path.{_≡_, refl, sym}
+-- The checks that are a call's own: set a fitting line, save.
+use mathlib.Core.Path.{_≡_, refl, sym, _∙_}
 use mathlib.Core.Bool.{Bool, true, false, _&&_}
-use mathlib.Core.List.{List, [], _∷_}
+use mathlib.Core.List.{List}
 use Prim.Native.Nat.{ℕ, _≤_, _<_}
 use native.Mathlib.Omega.{arith}
 use borrow.Author.Tests.{eqb-false, leb-true, le-leb, lt-leb, eq-eqb, ne-eqb}
@@ -9,70 +9,60 @@ use lib.Dec.{eqb, leb}
 use lib.ListN.{getD}
 use Rattle.ground.proofs.Booleans.{both-hold}
 use Rattle.answers.specs.Refusals.{outsideLimits, editedSince, editsSpent, emptyLine}
-use Rattle.text.specs.Limit.{allHold}
-use Rattle.sheet.specs.Lines.{fittings, fitLine}
+use Rattle.sheet.specs.Lines.{fittings}
+use Rattle.sheet.specs.Sheet.{fitOk}
 use Rattle.sheet.specs.Places.{sheetWords, fittingWord}
-use Rattle.sheet.proofs.FitRow.{Pieces, line-fitted}
+use Rattle.sheet.proofs.FitRow.{empty-count}
 use Rattle.memory.specs.Layout.{draftSheetAt, edit, draftHull, opening, draftSheet, fittingAt}
 use Rattle.memory.specs.Formed.{mostEdits}
 use Rattle.memory.proofs.Parts.{part-word}
-use Rattle.register.specs.Refusals.{putOwn, takeOwn, saveOwn}
+use Rattle.register.specs.Refusals.{setOwn, saveOwn}
 use Rattle.register.proofs.Refusals.{passes, passes-not}
 
--- ---- put a fitting
+-- ---- set a fitting line
 
-module _ (line weight count : ℕ) where
-  -- by what the code has found of the three numbers
-  module _ {held : Bool} (told : held ≡ allHold (fitLine .limits) 0 (line ∷ weight ∷ count ∷ [])) where
-    pub put-outside : held ≡ false → outsideLimits ≡ putOwn line weight count
-    put-outside e = rw (← told, e) refl
-
-    pub put-within : held ≡ true → 0 ≡ putOwn line weight count
-    put-within e = rw (← told, e) refl
-
-  pub record PutFits : Type 0 where
-    pub low : 1 ≤ line
-    pub high : line ≤ fittings
-    pub pieces : Pieces weight count
-
-  pub put-fits : putOwn line weight count ≡ 0 → PutFits
-  put-fits z =
-      let f =
-      line-fitted line weight count
-      (passes (allHold (fitLine .limits) 0 (line ∷ weight ∷ count ∷ [])) _ outsideLimits refl z .0) in
-      record { low = f .n-low; high = f .n-high; pieces = f .pieces }
-
--- ---- take off a fitting
-
--- a fitting line's word, on the draft's sheet and in the memory
+-- its weight, on the draft's sheet and in the memory
 pub line-word : (m : List ℕ) (d line : ℕ)
     → line ≤ fittings
     → getD (draftSheet m d) (fittingWord line) 0 ≡ getD m (fittingAt d line) 0
 line-word m d line j = part-word m (draftSheetAt d) sheetWords (fittingWord line) (omega (arith, j))
 
-module _ (s : List ℕ) (line : ℕ) where
-  pub take-line-low : line < 1 → outsideLimits ≡ takeOwn s line
-  take-line-low l = rw (lt-leb 1 line l) refl
+module _ (s : List ℕ) (line weight count : ℕ) where
+  pub set-line-low : line < 1 → outsideLimits ≡ setOwn s line weight count
+  set-line-low l = rw (lt-leb 1 line l) refl
 
-  pub take-line-high : 1 ≤ line → fittings < line → outsideLimits ≡ takeOwn s line
-  take-line-high k l = rw (le-leb 1 line k, lt-leb line fittings l) refl
+  pub set-line-high : 1 ≤ line → fittings < line → outsideLimits ≡ setOwn s line weight count
+  set-line-high k l = rw (le-leb 1 line k, lt-leb line fittings l) refl
 
-  module _ {w : ℕ} (k : 1 ≤ line) (j : line ≤ fittings) (e : w ≡ getD s (fittingWord line) 0) where
-    pub take-empty : w ≡ 0 → emptyLine ≡ takeOwn s line
-    take-empty z = rw (le-leb 1 line k, le-leb line fittings j, ← e, eq-eqb w 0 z) refl
+  -- by what the code has found of weight and count, and of the line's weight
+  module _ {ok : Bool} (k : 1 ≤ line) (j : line ≤ fittings) (told : ok ≡ fitOk weight count) where
+    pub set-outside : ok ≡ false → outsideLimits ≡ setOwn s line weight count
+    set-outside e = rw (le-leb 1 line k, le-leb line fittings j, ← told, e) refl
 
-    pub take-there : (w ≡ 0 → ⊥) → 0 ≡ takeOwn s line
-    take-there n = rw (le-leb 1 line k, le-leb line fittings j, ← e, ne-eqb w 0 n) refl
+    pub set-filled : ok ≡ true → (weight ≡ 0 → ⊥) → 0 ≡ setOwn s line weight count
+    set-filled e n = rw (le-leb 1 line k, le-leb line fittings j, ← told, e, ne-eqb weight 0 n) refl
 
-  pub record TakeFits : Type 0 where
+    module _ {w : ℕ} (f : w ≡ getD s (fittingWord line) 0) (e : ok ≡ true) (z : weight ≡ 0) where
+      no-count : count ≡ 0
+      no-count = empty-count count (rw z at (sym told ∙ e))
+
+      pub set-empty : w ≡ 0 → emptyLine ≡ setOwn s line weight count
+      set-empty q = rw (le-leb 1 line k, le-leb line fittings j, z, no-count, ← f, q) refl
+
+      pub set-emptied : (w ≡ 0 → ⊥) → 0 ≡ setOwn s line weight count
+      set-emptied n = rw (le-leb 1 line k, le-leb line fittings j, z, no-count, ← f, ne-eqb w 0 n) refl
+
+  pub record SetFits : Type 0 where
     pub low : 1 ≤ line
     pub high : line ≤ fittings
+    pub fits : fitOk weight count ≡ true
 
-  pub take-fits : takeOwn s line ≡ 0 → TakeFits
-  take-fits z =
-      let e = passes (leb 1 line && leb line fittings) _ outsideLimits refl z .0 in
-      let a = both-hold (leb 1 line) (leb line fittings) e in
-      record { low = leb-true 1 line (a .0); high = leb-true line fittings (a .1) }
+  pub set-fits : setOwn s line weight count ≡ 0 → SetFits
+  set-fits z =
+      let within = leb line fittings && fitOk weight count in
+      let a = both-hold (leb 1 line) within (passes (leb 1 line && within) _ outsideLimits refl z .0) in
+      let b = both-hold (leb line fittings) (fitOk weight count) (a .1) in
+      record { low = leb-true 1 line (a .0); high = leb-true line fittings (b .0); fits = b .1 }
 
 -- ---- save
 

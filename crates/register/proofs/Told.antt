@@ -1,6 +1,6 @@
 -- 02 (v), which answers have a place. A new hull and replace, where nothing that calls share refuses them, tell of a
 -- refused text the number, the line and the byte that the reader found, whichever they are. No call that takes no text
--- has a place in its answer, whatever the memory: a put's 3 has none.
+-- has a place in its answer, whatever the memory: the 3 of a fitting line that is set has none.
 use mathlib.Core.Path.{_≡_, refl}
 use mathlib.Core.Bool.{Bool, true, false, true≢false}
 use mathlib.Core.List.{List, _∷_}
@@ -18,8 +18,8 @@ use Rattle.sheet.proofs.Places.{sheet-places, rooms-right}
 use Rattle.sheet.proofs.Refused.{write-unplaced}
 use Rattle.capacity.proofs.Answers.{plate-unplaced}
 use Rattle.memory.specs.Layout.{hullCount, edit, hullSheet, draftHull, draftSheet}
-use Rattle.register.specs.Refusals.{freshRefusal, putOwn, takeOwn, saveOwn, orRefused, onText}
-use Rattle.register.specs.Calls.{put, takeOff, replace, tryPlate, plate, write}
+use Rattle.register.specs.Refusals.{freshRefusal, setOwn, saveOwn, orRefused, onText}
+use Rattle.register.specs.Calls.{setFitting, replace, tryPlate, plate, write}
 use Rattle.register.specs.Calls.{Call, newHull, openHull, work, save, dropDraft, ask}
 use Rattle.register.specs.Calls.{shared, own, freshStep, step}
 
@@ -56,7 +56,7 @@ abbrev pub takesText : Call → Bool
 takesText (newHull t) = true
 takesText (openHull d h) = false
 takesText (work d w) =
-    elim w [ put line weight count ↦ false | takeOff line ↦ false | replace t ↦ true | tryPlate k ↦ false ]
+    elim w [ setFitting line weight count ↦ false | replace t ↦ true | tryPlate k ↦ false ]
 takesText (save d) = false
 takesText (dropDraft d) = false
 takesText (ask h q) = false
@@ -67,8 +67,8 @@ numbered-unplaced refusal a h = either Unplaced (eqb refusal 0) h refl
 own-unplaced : (m : List ℕ) (c : Call) → takesText c ≡ false → Unplaced (own m c)
 own-unplaced m (newHull t) n = absurd (true≢false n)
 own-unplaced m (openHull d h) n = refl
-own-unplaced m (work d (put line weight count)) n = numbered-unplaced (putOwn line weight count) Done refl
-own-unplaced m (work d (takeOff line)) n = numbered-unplaced (takeOwn (draftSheet m d) line) Done refl
+own-unplaced m (work d (setFitting line weight count)) n =
+    numbered-unplaced (setOwn (draftSheet m d) line weight count) Done refl
 own-unplaced m (work d (replace t)) n = absurd (true≢false n)
 own-unplaced m (work d (tryPlate k)) n = plate-unplaced k (draftSheet m d)
 own-unplaced m (save d) n = numbered-unplaced (saveOwn m d) (Count (edit m (draftHull m d) + 1)) refl

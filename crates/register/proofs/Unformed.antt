@@ -11,13 +11,13 @@ use Rattle.capacity.specs.Kinds.{kindA, kindC, kindU}
 use Rattle.memory.specs.Formed.{each, hullOk, draftOk, formed}
 use Rattle.memory.proofs.Memories.{sheet, hulls, draft, idle}
 use Rattle.register.specs.Refusals.{roomRefusal, hullRefusal, openRefusal, deskRefusal}
-use Rattle.register.specs.Calls.{put, takeOff, replace, tryPlate, plate, write}
+use Rattle.register.specs.Calls.{setFitting, replace, tryPlate, plate, write}
 use Rattle.register.specs.Calls.{Call, newHull, openHull, work, save, dropDraft, ask, step}
 
 -- no such desk or hull, a text that is none, rows that are wrong, no room
 abbrev pub wrongs : List Call
 wrongs =
-    newHull [] ∷ openHull 8 16 ∷ work 8 (put 0 0 0) ∷ work 8 (takeOff 0) ∷ work 8 (replace []) ∷ work 8 (tryPlate kindA)
+    newHull [] ∷ openHull 8 16 ∷ work 8 (setFitting 0 1 0) ∷ work 8 (setFitting 1 0 0) ∷ work 8 (replace []) ∷ work 8 (tryPlate kindA)
     ∷ work 8 (tryPlate (kindC [] [])) ∷ work 8 (tryPlate kindU) ∷ save 8 ∷ dropDraft 8
     ∷ ask 16 (plate kindA) ∷ ask 16 (plate (kindC [] [])) ∷ ask 16 (plate kindU) ∷ ask 16 (write [])
     ∷ []

@@ -12,14 +12,13 @@ use Rattle.sheet.specs.TextCalls.{writeAnswer, writeInto}
 use Rattle.capacity.specs.Kinds.{PlateKind, plateOf}
 use Rattle.memory.specs.Layout.{hullCount, edit, hullSheet, draftHull, draftSheet}
 use Rattle.memory.specs.Updates.{freshWords, entered, opened, fitted, replaced, dropped, saved}
-use Rattle.register.specs.Refusals.{freshRefusal, roomRefusal, hullRefusal, openRefusal, deskRefusal, putOwn}
-use Rattle.register.specs.Refusals.{takeOwn, saveOwn}
+use Rattle.register.specs.Refusals.{freshRefusal, roomRefusal, hullRefusal, openRefusal, deskRefusal, setOwn}
+use Rattle.register.specs.Refusals.{saveOwn}
 use Rattle.register.specs.Refusals.{orRefused, leaves, sheetOf, onText}
 
--- what a desk does on its draft: a fitting's line, weight and count; a line; a text; a plate on trial
+-- what a desk does on its draft: sets a fitting line to a weight and a count; replaces it by a text; tries a plate
 pub data Work : Type 0 where
-  put : ℕ → ℕ → ℕ → Work
-  takeOff : ℕ → Work
+  setFitting : ℕ → ℕ → ℕ → Work
   replace : List ℕ → Work
   tryPlate : PlateKind → Work
 
@@ -64,8 +63,7 @@ shared m (ask h q) = hullRefusal m h
 
 -- work on a draft whose sheet is s
 abbrev pub workAnswer : Work → List ℕ → Answer
-workAnswer (put line weight count) s = orRefused (putOwn line weight count) Done
-workAnswer (takeOff line) s = orRefused (takeOwn s line) Done
+workAnswer (setFitting line weight count) s = orRefused (setOwn s line weight count) Done
 workAnswer (replace t) s = onText t Done
 workAnswer (tryPlate k) s = plateOf k s
 
@@ -86,8 +84,7 @@ own m (ask h q) = askAnswer h q (hullSheet m h)
 -- ---- what it makes, where nothing refuses it: of the memory, and of the lent output
 
 abbrev pub workMakes : List ℕ → ℕ → Work → List ℕ
-workMakes m d (put line weight count) = fitted m d line weight count
-workMakes m d (takeOff line) = fitted m d line 0 0
+workMakes m d (setFitting line weight count) = fitted m d line weight count
 workMakes m d (replace t) = replaced m d (sheetOf t)
 workMakes m d (tryPlate k) = m
 

@@ -3,17 +3,17 @@
 -- nothing.
 use Prim.Native.Nat.{ℕ}
 use mathlib.Core.Bool.{_&&_, cond}
-use mathlib.Core.List.{List, [], _∷_}
+use mathlib.Core.List.{List, []}
 use lib.Dec.{eqb, leb, ltb}
 use lib.ListN.{length, getD, drop}
-use Rattle.text.specs.Limit.{allHold}
 use Rattle.form.specs.Outcome.{right, wrong}
 use Rattle.answers.specs.Refusals.{badMemory, outsideLimits, full, noHull, noDesk, noDraft, editedSince, editsSpent}
 use Rattle.answers.specs.Refusals.{emptyLine}
 use Rattle.answers.specs.declared.Answer.{Answer}
 use Rattle.answers.specs.declared.Answer.the-variants.{Refused, RefusedAt, Done, Count, Plate}
 use Rattle.sheet.specs.Places.{fittingWord}
-use Rattle.sheet.specs.Lines.{fittings, fitLine}
+use Rattle.sheet.specs.Lines.{fittings}
+use Rattle.sheet.specs.Sheet.{noFitting, fitOk}
 use Rattle.sheet.specs.SheetText.{readSheet}
 use Rattle.memory.specs.Layout.{mostHulls, desks, registerWords, hullCount, edit, held, draftHull, opening}
 use Rattle.memory.specs.Formed.{mostEdits, formed}
@@ -42,14 +42,12 @@ deskRefusal m d = cond (formed m) (cond (ltb d desks) (cond (eqb (held m d) 0) n
 
 -- ---- what only this call asks
 
--- put: line, weight and count are held to the limits of a FIT line, 02 (vi)
-abbrev pub putOwn : ℕ → ℕ → ℕ → ℕ
-putOwn line weight count = cond (allHold (fitLine .limits) 0 (line ∷ weight ∷ count ∷ [])) 0 outsideLimits
-
--- take off: the line, and then that it is not empty on the sheet s
-abbrev pub takeOwn : List ℕ → ℕ → ℕ
-takeOwn s line =
-    cond (leb 1 line && leb line fittings) (cond (eqb (getD s (fittingWord line) 0) 0) emptyLine 0) outsideLimits
+-- set a fitting line, 02 (ix): that there is such a line and that it may have this weight and count, which both are 0 to
+-- empty it; and then, of a line that is to be emptied, that it is not empty on the sheet s
+abbrev pub setOwn : List ℕ → ℕ → ℕ → ℕ → ℕ
+setOwn s line weight count =
+    cond (leb 1 line && (leb line fittings && fitOk weight count))
+    (cond (noFitting weight count && eqb (getD s (fittingWord line) 0) 0) emptyLine 0) outsideLimits
 
 -- save: that the hull was not edited since the open, and then that an edit number is left
 abbrev pub saveOwn : List ℕ → ℕ → ℕ

@@ -23,9 +23,13 @@ limitRows = map (λ (l : Limit). l .low ∷ l .high ∷ l .rule ∷ []) (limitsO
 
 -- ---- within the limits
 
+-- a fitting line that is empty has neither weight nor count
+abbrev pub noFitting : ℕ → ℕ → Bool
+noFitting weight count = eqb weight 0 && eqb count 0
+
 -- 02 (vi): a fitting line is empty, or has the weight and the count of a FIT line
 abbrev pub fitOk : ℕ → ℕ → Bool
-fitOk weight count = (eqb weight 0 && eqb count 0) || allHold (drop 1 (fitLine .limits)) 0 (weight ∷ count ∷ [])
+fitOk weight count = noFitting weight count || allHold (drop 1 (fitLine .limits)) 0 (weight ∷ count ∷ [])
 
 -- so many of them
 unfoldable pub fitsOk : ℕ → List ℕ → Bool

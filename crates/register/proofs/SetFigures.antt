@@ -1,0 +1,81 @@
+-- 02 (ix), a fitting line set and emptied, computed: each figure of its limits and one beside it, 3 before 17, and what
+-- is left. Desk 7's draft has 3334 g on line 1 and nothing on the others.
+use mathlib.Core.Path.{_≡_, refl}
+use mathlib.Core.List.{List, [], _∷_, map}
+use Prim.Native.Nat.{ℕ}
+use lib.ListN.{set, take, drop}
+use Rattle.text.specs.Limit.{allHold}
+use Rattle.answers.specs.declared.Answer.the-variants.{Refused, Done}
+use Rattle.sheet.specs.Sheet.{fitsOk, okOn}
+use Rattle.memory.specs.Formed.{each, hullOk, draftOk, formed}
+use Rattle.memory.specs.Updates.{fitted}
+use Rattle.memory.proofs.Memories.{sheet, hulls, draft, idle}
+use Rattle.register.specs.Refusals.{deskRefusal}
+use Rattle.register.specs.Calls.{setFitting, Call, work, step}
+use Rattle.register.proofs.Day.{Must, _must_, wanted, answered, given}
+use Rattle.register.proofs.Unformed.{small}
+
+abbrev sets : ℕ → ℕ → ℕ → Call
+sets line weight count = work 7 (setFitting line weight count)
+
+-- what is refused with 3, whether its line is full or empty
+outside : List Must
+outside =
+    (sets 25 0 0 must Refused 3) ∷ (sets 0 0 0 must Refused 3) ∷ (sets 25 1 1 must Refused 3)
+    ∷ (sets 0 1 1 must Refused 3) ∷ (sets 4294967295 0 0 must Refused 3)
+    -- just one of the two is 0
+    ∷ (sets 1 0 1 must Refused 3) ∷ (sets 1 1 0 must Refused 3) ∷ (sets 1 500001 0 must Refused 3)
+    ∷ (sets 1 0 500 must Refused 3) ∷ (sets 24 0 1 must Refused 3) ∷ (sets 24 1 0 must Refused 3)
+    ∷ (sets 1 500000 0 must Refused 3) ∷ (sets 1 0 99 must Refused 3)
+    -- a weight, a count, a product, which never wraps
+    ∷ (sets 1 500001 1 must Refused 3) ∷ (sets 1 1 100 must Refused 3) ∷ (sets 1 5051 99 must Refused 3)
+    ∷ (sets 2 250001 2 must Refused 3) ∷ (sets 1 65536 65536 must Refused 3) ∷ (sets 1 2147483648 2 must Refused 3)
+    ∷ (sets 1 4294967295 4294967295 must Refused 3) ∷ (sets 1 4294967295 1 must Refused 3)
+    ∷ (sets 1 1 4294967295 must Refused 3)
+    ∷ []
+
+-- on the draft as it is
+figures : List Must
+figures =
+    -- a full line is emptied, an empty one is not; and each is set
+    (sets 1 0 0 must Done) ∷ (sets 2 0 0 must Refused 17) ∷ (sets 24 0 0 must Refused 17)
+    ∷ (sets 1 1 1 must Done) ∷ (sets 2 1 1 must Done) ∷ (sets 24 500000 1 must Done) ∷ (sets 1 500000 1 must Done)
+    ∷ (sets 1 1 99 must Done) ∷ (sets 1 5050 99 must Done) ∷ (sets 2 250000 2 must Done)
+    -- the values that are there
+    ∷ (sets 1 3334 1 must Done)
+    -- the desk and its draft before the line
+    ∷ (work 6 (setFitting 25 0 0) must Refused 7) ∷ (work 6 (setFitting 1 1 0) must Refused 7)
+    ∷ (work 6 (setFitting 24 0 0) must Refused 7) ∷ (work 8 (setFitting 25 0 0) must Refused 6)
+    ∷ (work 8 (setFitting 1 0 1) must Refused 6) ∷ (work 8 (setFitting 24 0 0) must Refused 6)
+    ∷ []
+
+-- one after the other: line 1 emptied, and so empty; set, set to the same, to one piece less; and emptied again
+in-turn : List Must
+in-turn =
+    (sets 1 0 0 must Done) ∷ (sets 1 0 0 must Refused 17) ∷ (sets 1 5050 99 must Done) ∷ (sets 1 5050 99 must Done)
+    ∷ (sets 1 5050 98 must Done) ∷ (sets 1 0 0 must Done) ∷ (sets 1 0 0 must Refused 17)
+    ∷ []
+
+emptied : List ℕ
+emptied = step small (sets 1 0 0) .memory
+
+sets-right :
+    (answered small outside ≡ map wanted outside) × (answered emptied outside ≡ map wanted outside)
+    × (answered small figures ≡ map wanted figures) × (given small in-turn ≡ map wanted in-turn)
+unfolding outside figures in-turn emptied answered given small sheet hulls draft idle formed each hullOk draftOk
+    deskRefusal allHold okOn fitsOk fitted
+sets-right = (refl, refl, refl, refl)
+
+-- the words of lines 1 and 2; refused, all are as they were
+lines-left :
+    map (λ (c : Call). take 4 (drop 2201 (step small c .memory)))
+    (sets 1 0 0 ∷ sets 1 120 12 ∷ sets 2 120 12 ∷ sets 1 0 12 ∷ sets 1 120 0 ∷ sets 2 0 0 ∷ sets 25 0 0 ∷ [])
+    ≡ (0 ∷ 0 ∷ 0 ∷ 0 ∷ []) ∷ (120 ∷ 12 ∷ 0 ∷ 0 ∷ []) ∷ (3334 ∷ 1 ∷ 120 ∷ 12 ∷ []) ∷ (3334 ∷ 1 ∷ 0 ∷ 0 ∷ [])
+    ∷ (3334 ∷ 1 ∷ 0 ∷ 0 ∷ []) ∷ (3334 ∷ 1 ∷ 0 ∷ 0 ∷ []) ∷ (3334 ∷ 1 ∷ 0 ∷ 0 ∷ []) ∷ []
+unfolding small sheet hulls draft idle formed each hullOk draftOk deskRefusal allHold okOn fitsOk fitted
+lines-left = refl
+
+-- and all words of the memory
+emptied-whole : emptied ≡ set (set small 2201 0) 2202 0
+unfolding emptied small sheet hulls draft idle formed each hullOk draftOk deskRefusal allHold okOn fitsOk fitted
+emptied-whole = refl
