@@ -8,8 +8,8 @@ ghost use Rattle.sheet.specs.Places.{sheetWords};
 ghost use Rattle.memory.specs.Layout.{mostHulls, hullSheet, draftHull, draftSheet};
 ghost use Rattle.memory.specs.Asked.{AtDesk};
 ghost use Rattle.capacity.specs.Kinds.{kindA, kindC, kindU};
-ghost use Rattle.register.specs.Refusals.{hullRefusal, deskRefusal, roomRefusal, openRefusal, putOwn, takeOwn, saveOwn};
-ghost use Rattle.register.specs.Calls.{put, takeOff, replace, tryPlate, plate, write, newHull, openHull, work, save};
+ghost use Rattle.register.specs.Refusals.{hullRefusal, deskRefusal, roomRefusal, openRefusal, setOwn, saveOwn};
+ghost use Rattle.register.specs.Calls.{setFitting, replace, tryPlate, plate, write, newHull, openHull, work, save};
 ghost use Rattle.register.specs.Calls.{dropDraft, ask, freshStep, step, Changes, Writes};
 use answers::Answer;
 use answers::BAD_MEMORY;
@@ -211,37 +211,11 @@ pub fn open_hull(mem: &mut [u32], desk: u32, hull: u32) -> Answer
     Answer::Count(keeping::open_draft(mem, desk as usize, hull))
 }
 
-// What refuses a put for what it is given: a line, a weight or a count outside the limits of a FIT line.
-fn put_own(line: u32, weight: u32, count: u32) -> u32
-    ensures { λ r. ⌜ r ≡ putOwn line weight count ⌝ }
-{
-    if measuring::line_ok(line, weight, count) {
-        0
-    } else {
-        OUTSIDE_LIMITS
-    }
-}
-
-// Puts so many pieces of a fitting on a line of a desk's draft, in place of what is there.
-pub fn put_fitting(mem: &mut [u32], desk: u32, line: u32, weight: u32, count: u32) -> Answer
-    ensures { λ r. ⌜ Changes (step (now (mem .entry)) (work desk (put line weight count))) r (now (mem .exit)) ⌝ }
-{
-    let refusal = desk_refusal(&mem[..], desk);
-    if refusal != 0 {
-        return Answer::Refused(refusal);
-    }
-    let own = put_own(line, weight, count);
-    if own != 0 {
-        return Answer::Refused(own);
-    }
-    keeping::set_fitting(mem, desk as usize, line as usize, weight, count);
-    Answer::Done
-}
-
-// What refuses a taking off from a draft that is there: a line outside the limits, then an empty one.
-fn take_own(mem: &[u32], desk: u32, line: u32) -> u32
+// What refuses a fitting line that is to be set, of a draft that is there: a line, a weight or a count outside the limits,
+// 0 and 0 being within them, and then an empty line that is to be emptied.
+fn set_own(mem: &[u32], desk: u32, line: u32, weight: u32, count: u32) -> u32
     requires { ⌜ AtDesk (now mem) desk ⌝ }
-    ensures { λ r. ⌜ r ≡ takeOwn (draftSheet (now (mem .entry)) desk) line ⌝ }
+    ensures { λ r. ⌜ r ≡ setOwn (draftSheet (now (mem .entry)) desk) line weight count ⌝ }
 {
     if line < 1 {
         return OUTSIDE_LIMITS;
@@ -249,26 +223,34 @@ fn take_own(mem: &[u32], desk: u32, line: u32) -> u32
     if FITTING_LINES < line {
         return OUTSIDE_LIMITS;
     }
-    if keeping::fitting(mem, desk as usize, line as usize) == 0 {
-        EMPTY_LINE
+    if measuring::fit_ok(weight, count) {
+        if weight != 0 {
+            return 0;
+        }
+        if keeping::fitting(mem, desk as usize, line as usize) == 0 {
+            EMPTY_LINE
+        } else {
+            0
+        }
     } else {
-        0
+        OUTSIDE_LIMITS
     }
 }
 
-// Takes off the fitting on a line of a desk's draft.
-pub fn take_off(mem: &mut [u32], desk: u32, line: u32) -> Answer
-    ensures { λ r. ⌜ Changes (step (now (mem .entry)) (work desk (takeOff line))) r (now (mem .exit)) ⌝ }
+// Sets a fitting line of a desk's draft to so many pieces of a weight, in place of what is there; 0 and 0 empty it.
+pub fn set_fitting(mem: &mut [u32], desk: u32, line: u32, weight: u32, count: u32) -> Answer
+    ensures { λ r. ⌜ Changes (step (now (mem .entry)) (work desk (setFitting line weight count))) r
+        (now (mem .exit)) ⌝ }
 {
     let refusal = desk_refusal(&mem[..], desk);
     if refusal != 0 {
         return Answer::Refused(refusal);
     }
-    let own = take_own(&mem[..], desk, line);
+    let own = set_own(&mem[..], desk, line, weight, count);
     if own != 0 {
         return Answer::Refused(own);
     }
-    keeping::set_fitting(mem, desk as usize, line as usize, 0, 0);
+    keeping::set_fitting(mem, desk as usize, line as usize, weight, count);
     Answer::Done
 }
 

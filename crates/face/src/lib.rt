@@ -7,7 +7,7 @@ ghost use Rattle.sheet.specs.SheetText.{readSheet};
 ghost use Rattle.sheet.specs.EngineText.{readEngines};
 ghost use Rattle.sheet.specs.TextCalls.{readAnswer, readInto, writeAnswer, writeInto, enginesAnswer, columnsInto};
 ghost use Rattle.capacity.specs.Kinds.{kindA, kindC, kindU};
-ghost use Rattle.register.specs.Calls.{put, takeOff, replace, tryPlate, plate, write, newHull, openHull, work, save};
+ghost use Rattle.register.specs.Calls.{setFitting, replace, tryPlate, plate, write, newHull, openHull, work, save};
 ghost use Rattle.register.specs.Calls.{dropDraft, ask, freshStep, step, WbChanges, WbWrites};
 ghost use Rattle.answers.specs.Values.{faced};
 use answers::Answer;
@@ -76,20 +76,19 @@ pub extern "C" fn wb_open(mem: &mut [u32], desk: u32, hull: u32) -> WbAnswer
     face(answering::open_hull(mem, desk, hull))
 }
 
-// Puts a fitting on a line of a desk's draft.
+// Sets a fitting line of a desk's draft; 0 and 0 empty it.
 #[no_mangle]
-pub extern "C" fn wb_put(mem: &mut [u32], desk: u32, line: u32, weight: u32, count: u32) -> WbAnswer
-    ensures { λ r. ⌜ WbChanges (step (now (mem .entry)) (work desk (put line weight count))) r (now (mem .exit)) ⌝ }
+pub extern "C" fn wb_set_fitting(
+    mem: &mut [u32],
+    desk: u32,
+    line: u32,
+    weight: u32,
+    count: u32,
+) -> WbAnswer
+    ensures { λ r. ⌜ WbChanges (step (now (mem .entry)) (work desk (setFitting line weight count))) r
+        (now (mem .exit)) ⌝ }
 {
-    face(answering::put_fitting(mem, desk, line, weight, count))
-}
-
-// Takes off the fitting on a line of a desk's draft.
-#[no_mangle]
-pub extern "C" fn wb_take_off(mem: &mut [u32], desk: u32, line: u32) -> WbAnswer
-    ensures { λ r. ⌜ WbChanges (step (now (mem .entry)) (work desk (takeOff line))) r (now (mem .exit)) ⌝ }
-{
-    face(answering::take_off(mem, desk, line))
+    face(answering::set_fitting(mem, desk, line, weight, count))
 }
 
 // Makes a desk's draft the sheet of a text.

@@ -1,29 +1,23 @@
 // Whether the numbers of a sheet are within their limits: the quick check that the register and the writer make. Words
 // of alike limits are judged together, by the greatest of them, and fittings line by line.
 ghost use mathlib.Core.Path.{_≡_};
-ghost use mathlib.Core.List.{[], _∷_};
 ghost use Prim.Native.Nat.{_+_, _*_, _<_};
 ghost use lib.ListN.{length};
-ghost use Rattle.text.specs.Limit.{allHold};
-ghost use Rattle.sheet.specs.Lines.{fittings, fitLine};
+ghost use Rattle.sheet.specs.Lines.{fittings};
 ghost use Rattle.sheet.specs.Sheet.{fitOk, fitsOk, wordsOk, sheetOk};
 ghost use Rattle.sheet.specs.Places.{readings, stations, stationAt, aftAt, fittingsAt, sheetWords, textWords};
 ghost use Rattle.measuring.specs.Part.{partOk, Lent, WordPart, AlikePart};
 use sheet::AFT;
 use sheet::BARE;
-use sheet::FIT_COUNT;
-use sheet::FIT_WEIGHT;
 use sheet::FITTED;
 use sheet::FITTING_COUNT;
 use sheet::FITTING_HIGH;
-use sheet::FITTING_LINES;
 use sheet::FITTINGS;
 use sheet::LENGTH;
 use sheet::LIMITS;
 use sheet::READINGS;
 use sheet::STATION_Q;
 use text::Limit;
-use text::PLAIN;
 
 // The stations stand between FORM and VOL.
 const STATIONS: usize = (AFT - STATION_Q) / READINGS;
@@ -87,7 +81,7 @@ fn from_stations(limits: &[Limit], words: &[u32]) -> bool
 
 // Whether a fitting line is empty, or its weight and count are within their limits. One piece is no heavier than all,
 // so that the weight of all tells.
-fn fit_ok(weight: u32, count: u32) -> bool
+pub fn fit_ok(weight: u32, count: u32) -> bool
     ensures { λ r. ⌜ r ≡ fitOk weight count ⌝ }
 {
     if weight == 0 {
@@ -116,15 +110,6 @@ fn fits_ok(fits: &[u32]) -> bool
         }
     }
     true
-}
-
-// Whether line, weight and count are those of a FIT line within its limits.
-pub fn line_ok(line: u32, weight: u32, count: u32) -> bool
-    ensures { λ r. ⌜ r ≡ allHold (fitLine .limits) 0 (line ∷ weight ∷ count ∷ []) ⌝ }
-{
-    let limits = [[1, FITTING_LINES, PLAIN], FIT_WEIGHT, FIT_COUNT];
-    let numbers = [line, weight, count];
-    spelling::all_hold(&limits, &numbers)
 }
 
 // Whether the words of a sheet, without its HULL number, are within their limits.

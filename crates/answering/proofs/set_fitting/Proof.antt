@@ -1,24 +1,24 @@
--- `take_off` meets its contract.
-use Rattle.register.proofs.Own.{take-fits}
+-- `set_fitting` meets its contract.
+use Rattle.register.proofs.Own.{set-fits}
 use Rattle.answering.proofs.Sheets.{at-desk, at-line}
 use Rattle.answering.proofs.Settling.{refused, passed, done}
 use Rattle.memory.specs.Layout.{draftSheet}
 use mathlib.Core.Path.{sym, _∙_}
 use borrow.Author.Needs.{needs}
-use Rattle.answering.proofs.take_off.Statement.{statement}
-use Rattle.answering.proofs.take_off.Tie as tie
+use Rattle.answering.proofs.set_fitting.Statement.{statement}
+use Rattle.answering.proofs.set_fitting.Tie as tie
 
 returns : tie.Need-returns
 returns c = refused (c .before .desk-refusal .ensures) _ _ (c .if1 .taken)
 
-take-own-requires : tie.Need-take-own-requires
-take-own-requires c κs = at-desk (sym (c .before .before .desk-refusal .ensures) ∙ c .before .if1 .left)
+set-own-requires : tie.Need-set-own-requires
+set-own-requires c κs = at-desk (sym (c .before .before .desk-refusal .ensures) ∙ c .before .if1 .left)
 
 returns-2 : tie.Need-returns-2
 returns-2 c =
     let at-if1 = c .before .before .before in
     passed (at-if1 .before .desk-refusal .ensures) _ _ _ (at-if1 .if1 .left)
-    (refused (c .before .take-own .ensures) _ _ (c .if2 .taken))
+    (refused (c .before .set-own .ensures) _ _ (c .if2 .taken))
 
 set-fitting-requires : tie.Need-set-fitting-requires
 set-fitting-requires c κs =
@@ -26,8 +26,8 @@ set-fitting-requires c κs =
     let at-if1 = at-if2 .before .before .before in
     let start = at-if1 .before .before .before .before in
     let p =
-    take-fits (draftSheet (start .args .mem .now) (start .args .desk)) (start .args .line)
-    (sym (at-if2 .before .take-own .ensures) ∙ at-if2 .if2 .left) in
+    set-fits (draftSheet (start .args .mem .now) (start .args .desk)) (start .args .line) (start .args .weight)
+    (start .args .count) (sym (at-if2 .before .set-own .ensures) ∙ at-if2 .if2 .left) in
     at-line _ _ (sym (at-if1 .before .desk-refusal .ensures) ∙ at-if1 .if1 .left) (start .args .line) (p .low) (p .high)
 
 returns-3 : tie.Need-returns-3
@@ -35,11 +35,11 @@ returns-3 c =
     let at-if2 = c .before .before .before .before in
     let at-if1 = at-if2 .before .before .before in
     passed (at-if1 .before .desk-refusal .ensures) _ _ _ (at-if1 .if1 .left)
-    (passed (at-if2 .before .take-own .ensures) _ _ _ (at-if2 .if2 .left)
+    (passed (at-if2 .before .set-own .ensures) _ _ _ (at-if2 .if2 .left)
     (done (c .before .before .set-fitting .ensures)))
 
-pub take-off-spec : {M : Type 1} → statement M
-take-off-spec =
+pub set-fitting-spec : {M : Type 1} → statement M
+set-fitting-spec =
     tie.close
-    (tie.spec (λ c κs. search needs) (λ c. search needs) returns take-own-requires (λ c. search needs) returns-2
+    (tie.spec (λ c κs. search needs) (λ c. search needs) returns set-own-requires (λ c. search needs) returns-2
     set-fitting-requires (λ c. search needs) returns-3)
