@@ -95,11 +95,11 @@ with at x = set (set full at (x .0)) (suc at) (x .1)
 
 -- on the first line and the last of hull 15, and of desk 7's draft
 lines-right :
-    (map (λ (x : ℕ × ℕ). formed (with 1441 x)) fits ≡ fits-right)
-    × (map (λ (x : ℕ × ℕ). formed (with 1487 x)) fits ≡ fits-right)
-    × (map (λ (x : ℕ × ℕ). formed (with 2201 x)) fits ≡ fits-right)
-    × (map (λ (x : ℕ × ℕ). formed (with 2247 x)) fits ≡ fits-right)
-unfolding fits fits-right with full sheet hulls draft idle formed each hullOk draftOk allHold okOn fitsOk
+    (map (λ (x : ℕ × ℕ). hullOk (with 1441 x) 15) fits ≡ fits-right)
+    × (map (λ (x : ℕ × ℕ). hullOk (with 1487 x) 15) fits ≡ fits-right)
+    × (map (λ (x : ℕ × ℕ). draftOk (with 2201 x) 7) fits ≡ fits-right)
+    × (map (λ (x : ℕ × ℕ). draftOk (with 2247 x) 7) fits ≡ fits-right)
+unfolding fits fits-right with full sheet hulls draft idle hullOk draftOk allHold okOn fitsOk
 lines-right = (refl, refl, refl, refl)
 
 -- ---- where things stand
@@ -120,9 +120,9 @@ places-right :
 unfolding upFrom
 places-right = (refl, refl, refl, refl, refl, refl, refl, refl)
 
--- the words about fitting lines 1 and 2 of desk 7's draft: three pieces put on line 2, one taken off line 1
-puts-right :
+-- the words about fitting lines 1 and 2 of desk 7's draft: line 2 set to three pieces, line 1 emptied
+fitted-right :
     map (λ (o : List ℕ). take 6 (drop 2200 o)) (full ∷ fitted full 7 2 1111 3 ∷ fitted full 7 1 0 0 ∷ [])
     ≡ (3 ∷ 3334 ∷ 1 ∷ 0 ∷ 0 ∷ 0 ∷ []) ∷ (3 ∷ 3334 ∷ 1 ∷ 1111 ∷ 3 ∷ 0 ∷ []) ∷ (3 ∷ 0 ∷ 0 ∷ 0 ∷ 0 ∷ 0 ∷ []) ∷ []
 unfolding full sheet hulls draft idle fitted
-puts-right = refl
+fitted-right = refl
