@@ -6,6 +6,7 @@ use mathlib.Core.List.{List, [], _∷_, map}
 use Prim.Native.Nat.{ℕ}
 use Prim.Native.String.{String}
 use lib.ListN.{take, drop, set}
+use Rattle.text.specs.Quoted.{bytes}
 use Rattle.text.specs.Field.{fieldOf, agreed}
 use Rattle.text.specs.Number.{restOf, numberOf, digitsIn, digitsOf}
 use Rattle.text.specs.Line.{readEntry, readNumbers, readLine, numbersText}
@@ -80,11 +81,15 @@ unfolding refused ended readSheet sheetForm feeds sinceFeed
     readForm readParts readRows kindOf readLine agreed readNumbers readEntry fieldOf numberOf restOf
 refused-right = refl
 
--- 01's sheet with its count stopped before a byte, or spoilt there, is wrong at that byte
+-- its lines from the 11th on, which is where its bytes part from those of the sheet without a count
+fit-and-end : List ℕ
+fit-and-end = bytes "FIT\t1\t3334\t1\nEND\n"
+
+-- 01's sheet with its count stopped before a byte of these, or spoilt there, is wrong at that byte
 new-bytes-right :
-    (each (λ k. ended (readSheet (take k newSample))) 0 newSample ≡ places 1 1 newSample)
-    × (each (λ k. ended (readSheet (set newSample k 13))) 0 newSample ≡ places 1 1 newSample)
-unfolding ended each places readSheet sheetForm feeds sinceFeed
+    (each (λ k. ended (readSheet (take k newSample))) 222 fit-and-end ≡ places 11 1 fit-and-end)
+    × (each (λ k. ended (readSheet (set newSample k 13))) 222 fit-and-end ≡ places 11 1 fit-and-end)
+unfolding fit-and-end ended each places readSheet sheetForm feeds sinceFeed
     readForm readParts readRows kindOf readLine agreed readNumbers readEntry fieldOf numberOf restOf
 new-bytes-right = (refl, refl)
 
