@@ -27,6 +27,7 @@ use Rattle.memory.proofs.Memories.{sheet, hulls, draft, idle, full}
 use Rattle.register.specs.Refusals.{roomRefusal, hullRefusal, openRefusal, deskRefusal}
 use Rattle.register.specs.Calls.{setFitting, replace, tryPlate, plate, write}
 use Rattle.register.specs.Calls.{newHull, openHull, work, save, dropDraft, ask, freshStep, step}
+use Rattle.register.proofs.Wanted.{alike, agree, as-wanted}
 use Rattle.register.proofs.Day.{Must, _must_, wanted, answered}
 use Rattle.register.proofs.Unformed.{small}
 
@@ -99,14 +100,19 @@ on-small =
 calls-right :
     (answered full on-full ≡ map wanted on-full) × (answered fifteen on-fifteen ≡ map wanted on-fifteen)
     × (answered edited on-edited ≡ map wanted on-edited) × (answered small on-small ≡ map wanted on-small)
-unfolding answered on-full on-fifteen on-edited on-small text outside ended small fifteen edited full sheet hulls
+unfolding alike agree answered on-full on-fifteen on-edited on-small text outside ended small fifteen edited full sheet hulls
     draft idle formed each hullOk draftOk hullRefusal deskRefusal roomRefusal openRefusal readSheet sheetForm
     numbersOn numbersOf fitsOf emptyLines fitsFrom readForm readParts readRows kindOf readLine agreed readNumbers
     readEntry fieldOf numberOf restOf feeds sinceFeed allHold okOn fitsOk sheetText rowsOn fitRows partsText rowsText
     numbersText digitsOf digitsIn stationProduct volumeN netZ addedUp boatM exactX markedC rising rowsRight rowFor
     lacksRow engineWeight liveLoad persons lacksTests plateC inboardX loadX markedA formulaWatts powerA plateA ruleU
     markedU plateU
-calls-right = (refl, refl, refl, refl)
+calls-right = (
+  as-wanted (answered full on-full) (map wanted on-full) refl,
+  as-wanted (answered fifteen on-fifteen) (map wanted on-fifteen) refl,
+  as-wanted (answered edited on-edited) (map wanted on-edited) refl,
+  as-wanted (answered small on-small) (map wanted on-small) refl,
+)
 
 -- fresh start looks at the size alone
 fresh-right : map (λ (n : ℕ). freshStep (replicate n 99) .answer) (2248 ∷ 2249 ∷ 2250 ∷ [])

@@ -32,6 +32,7 @@ use Rattle.sheet.proofs.BaseHull.{form, mass, power, seats, sheetWith}
 use Rattle.register.specs.Refusals.{roomRefusal, hullRefusal, openRefusal, deskRefusal}
 use Rattle.register.specs.Calls.{setFitting, replace, tryPlate, plate, write}
 use Rattle.register.specs.Calls.{Call, newHull, openHull, work, save, dropDraft, ask, step}
+use Rattle.register.proofs.Wanted.{alike, agree, as-wanted}
 
 -- a call, with the answer that it must give
 infix 5 _must_
@@ -121,14 +122,14 @@ day =
     ∷ []
 
 a-day : given freshWords day ≡ map wanted day
-unfolding given day text numbered-text eleven-digits too-long rows grams freshWords entered opened fitted replaced
+unfolding alike agree given day text numbered-text eleven-digits too-long rows grams freshWords entered opened fitted replaced
     dropped saved each hullOk draftOk formed hullRefusal deskRefusal roomRefusal openRefusal readSheet sheetForm
     numbersOn numbersOf fitsOf emptyLines fitsFrom readForm readParts readRows kindOf readLine agreed readNumbers
     readEntry fieldOf numberOf restOf feeds sinceFeed allHold okOn fitsOk sheetText rowsOn fitRows partsText rowsText
     numbersText digitsOf digitsIn stationProduct volumeN netZ addedUp boatM exactX markedC rising rowsRight rowFor
     lacksRow engineWeight liveLoad persons lacksTests plateC inboardX loadX markedA formulaWatts powerA plateA ruleU
     markedU plateU
-a-day = refl
+a-day = as-wanted (given freshWords day) (map wanted day) refl
 
 -- the bytes of a hull's text: the register's number, and nothing beyond the text
 two : List ℕ

@@ -1,5 +1,6 @@
 -- The laws of the calls on the register.
 pub mod Told  -- which answers have a place, and that it is the one the reader found
+pub mod Wanted  -- answers beside those that are wanted, decided
 pub mod Day  -- a day, computed
 pub mod Unformed  -- calls in memories that are not well formed, computed
 pub mod Answers  -- every call at its ends, and which refusal comes first, computed

@@ -12,6 +12,7 @@ use Rattle.memory.specs.Updates.{fitted}
 use Rattle.memory.proofs.Memories.{sheet, hulls, draft, idle}
 use Rattle.register.specs.Refusals.{deskRefusal}
 use Rattle.register.specs.Calls.{setFitting, Call, work, step}
+use Rattle.register.proofs.Wanted.{alike, agree, as-wanted}
 use Rattle.register.proofs.Day.{Must, _must_, wanted, answered, given}
 use Rattle.register.proofs.Unformed.{small}
 
@@ -56,15 +57,21 @@ in-turn =
     ∷ (sets 1 5050 98 must Done) ∷ (sets 1 0 0 must Done) ∷ (sets 1 0 0 must Refused 17)
     ∷ []
 
+-- line 1 without its fitting
 emptied : List ℕ
-emptied = step small (sets 1 0 0) .memory
+emptied = set (set small 2201 0) 2202 0
 
 sets-right :
     (answered small outside ≡ map wanted outside) × (answered emptied outside ≡ map wanted outside)
     × (answered small figures ≡ map wanted figures) × (given small in-turn ≡ map wanted in-turn)
-unfolding outside figures in-turn emptied answered given small sheet hulls draft idle formed each hullOk draftOk
-    deskRefusal allHold okOn fitsOk fitted
-sets-right = (refl, refl, refl, refl)
+unfolding alike agree outside figures in-turn emptied answered given small sheet hulls draft idle formed each hullOk
+    draftOk deskRefusal allHold okOn fitsOk fitted
+sets-right = (
+  as-wanted (answered small outside) (map wanted outside) refl,
+  as-wanted (answered emptied outside) (map wanted outside) refl,
+  as-wanted (answered small figures) (map wanted figures) refl,
+  as-wanted (given small in-turn) (map wanted in-turn) refl,
+)
 
 -- the words of lines 1 and 2; refused, all are as they were
 lines-left :
@@ -75,7 +82,7 @@ lines-left :
 unfolding small sheet hulls draft idle formed each hullOk draftOk deskRefusal allHold okOn fitsOk fitted
 lines-left = refl
 
--- and all words of the memory
-emptied-whole : emptied ≡ set (set small 2201 0) 2202 0
+-- and all words of the memory: of the line that is emptied its two are 0
+emptied-whole : step small (sets 1 0 0) .memory ≡ emptied
 unfolding emptied small sheet hulls draft idle formed each hullOk draftOk deskRefusal allHold okOn fitsOk fitted
 emptied-whole = refl
