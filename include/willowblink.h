@@ -163,17 +163,12 @@ wb_answer wb_new_hull(uint32_t *mem, size_t mem_len, const uint8_t *text, size_t
 wb_answer wb_open(uint32_t *mem, size_t mem_len, uint32_t desk, uint32_t hull);
 
 /*
- * Puts a fitting on a line of the desk's draft, count pieces of weight grams each, in place of what is there. The rest of the draft, the hulls and the
- * other drafts are left alone.
- * Answers: done. Refuses: 1, 6, 7; 3 for a line outside 1..24, a weight outside 1..500000, a count outside 1..99, or a weight times count above 500000.
+ * Sets a line of the desk's draft to count pieces of weight grams each, in place of what is there; with weight 0 and count 0 it empties the line. The
+ * rest of the draft, the hulls and the other drafts are left alone.
+ * Answers: done. Refuses: 1, 6, 7; 3 for a line outside 1..24, for just one of weight and count being 0, a weight above 500000, a count above 99, or a
+ * weight times count above 500000; then 17 for emptying a line that is empty.
  */
-wb_answer wb_put(uint32_t *mem, size_t mem_len, uint32_t desk, uint32_t line, uint32_t weight, uint32_t count);
-
-/*
- * Takes off the fitting on a line of the desk's draft, all its pieces. The rest of the draft, the hulls and the other drafts are left alone.
- * Answers: done. Refuses: 1, 6, 7; 3 for a line outside 1..24; 17 where the line is empty.
- */
-wb_answer wb_take_off(uint32_t *mem, size_t mem_len, uint32_t desk, uint32_t line);
+wb_answer wb_set_fitting(uint32_t *mem, size_t mem_len, uint32_t desk, uint32_t line, uint32_t weight, uint32_t count);
 
 /*
  * Makes the desk's draft the sheet of a text. The text's HULL number is judged and then ignored: the draft is of the hull that it was of, opened at the
