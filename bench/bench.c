@@ -71,12 +71,12 @@ static size_t engines_len;
     X(open, 0, "", open, NONE, lent.full, LEN, 3, 5) \
     X(open_5, 5, "", open, NONE, lent.full, LEN, 3, 16) \
     X(open_6, 6, "", open, NONE, lent.full, LEN, 8, 5) \
-    X(put, 0, "", put, NONE, lent.full, LEN, 3, 7, 2500, 12) \
-    X(put_3, 3, "line", put, NONE, lent.full, LEN, 3, 25, 2500, 12) \
-    X(put_3_heavy, 3, "product", put, NONE, lent.full, LEN, 3, 7, 250001, 2) \
-    X(put_7, 7, "", put, NONE, lent.spare, LEN, 7, 7, 2500, 12) \
-    X(take, 0, "", take_off, (lent.full[WEIGHT_AT(3, 1)] = 3334, lent.full[COUNT_AT(3, 1)] = 1), lent.full, LEN, 3, 1) \
-    X(take_17, 17, "", take_off, (lent.full[WEIGHT_AT(3, 9)] = 0, lent.full[COUNT_AT(3, 9)] = 0), lent.full, LEN, 3, 9) \
+    X(set, 0, "", set_fitting, NONE, lent.full, LEN, 3, 7, 2500, 12) \
+    X(set_3, 3, "line", set_fitting, NONE, lent.full, LEN, 3, 25, 2500, 12) \
+    X(set_3_heavy, 3, "product", set_fitting, NONE, lent.full, LEN, 3, 7, 250001, 2) \
+    X(set_7, 7, "", set_fitting, NONE, lent.spare, LEN, 7, 7, 2500, 12) \
+    X(empty, 0, "emptied", set_fitting, (lent.full[WEIGHT_AT(3, 1)] = 3334, lent.full[COUNT_AT(3, 1)] = 1), lent.full, LEN, 3, 1, 0, 0) \
+    X(empty_17, 17, "", set_fitting, (lent.full[WEIGHT_AT(3, 9)] = 0, lent.full[COUNT_AT(3, 9)] = 0), lent.full, LEN, 3, 9, 0, 0) \
     X(replace, 0, "", replace, NONE, lent.full, LEN, 4, text, text_len) \
     X(replace_3, 3, "last weight", replace, NONE, lent.full, LEN, 4, beyond, text_len) \
     X(trial_a, 0, "", trial_a, NONE, lent.full, LEN, 3) \

@@ -153,18 +153,39 @@ static uint32_t random_hull(void)
     return one_in(10) || mem[0] == 0 || mem[0] > 16 ? hostile_number() : random_between(0, one_in(2) ? mem[0] - 1 : (mem[0] - 1) / 4);
 }
 
+static uint32_t zero_or_hostile(void)
+{
+    return one_in(3) ? 0 : hostile_number();
+}
+
+/* What a line is set to: a fitting, nothing, or what is on the line already; then at times another weight or another count. */
+static wb_fitting random_setting(uint32_t desk, uint32_t line)
+{
+    wb_fitting fitting = random_fitting();
+    fitting.weight += one_in(8);
+    if (one_in(3))
+        fitting = (wb_fitting){0, 0};
+    else if (one_in(8) && desk < WB_DESKS && line >= 1 && line <= WB_FITTINGS)
+        fitting = (wb_fitting){mem[WEIGHT_AT(desk, line)], mem[COUNT_AT(desk, line)]};
+    if (one_in(6))
+        fitting.weight = zero_or_hostile();
+    if (one_in(6))
+        fitting.count = zero_or_hostile();
+    return fitting;
+}
+
 static struct call random_call(void)
 {
-    static const enum kind often[] = {NEW_HULL, NEW_HULL, OPEN, OPEN, OPEN, OPEN, PUT, PUT, TAKE_OFF, REPLACE, REPLACE, TRIAL_A, TRIAL_C, TRIAL_U,
-                                      SAVE, SAVE, DROP, PLATE_A, PLATE_C, PLATE_U, WRITE_HULL, READ_SHEET, WRITE_SHEET, READ_ENGINES};
+    static const enum kind often[] = {NEW_HULL, NEW_HULL, OPEN, OPEN, OPEN, OPEN, SET_FITTING, SET_FITTING, SET_FITTING, REPLACE, REPLACE, TRIAL_A,
+                                      TRIAL_C, TRIAL_U, SAVE, SAVE, DROP, PLATE_A, PLATE_C, PLATE_U, WRITE_HULL, READ_SHEET, WRITE_SHEET, READ_ENGINES};
     struct call call;
-    wb_fitting fitting = random_fitting();
     call.kind = one_in(400) ? FRESH : ONE_OF(often);
     call.desk = random_desk();
     call.hull = random_hull();
     call.line = one_in(6) ? hostile_number() : random_between(1, 24);
-    call.weight = one_in(6) ? hostile_number() : fitting.weight + one_in(8);
-    call.count = one_in(6) ? hostile_number() : fitting.count;
+    wb_fitting fitting = random_setting(call.desk, call.line);
+    call.weight = fitting.weight;
+    call.count = fitting.count;
     return call;
 }
 

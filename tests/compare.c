@@ -28,8 +28,7 @@ static const struct {
     [FRESH] = {"fresh", 0, BIT(MEMORY), BIT(0) | BIT(1)},
     [NEW_HULL] = {"new_hull", BIT(TEXT), BIT(MEMORY), BIT(0) | BIT(1) | BIT(2) | BIT(3) | BIT(4)},
     [OPEN] = {"open", 0, BIT(MEMORY), BIT(0) | BIT(1) | BIT(5) | BIT(6)},
-    [PUT] = {"put", 0, BIT(MEMORY), BIT(0) | BIT(1) | BIT(3) | BIT(6) | BIT(7)},
-    [TAKE_OFF] = {"take_off", 0, BIT(MEMORY), BIT(0) | BIT(1) | BIT(3) | BIT(6) | BIT(7) | BIT(17)},
+    [SET_FITTING] = {"set_fitting", 0, BIT(MEMORY), BIT(0) | BIT(1) | BIT(3) | BIT(6) | BIT(7) | BIT(17)},
     [REPLACE] = {"replace", BIT(TEXT), BIT(MEMORY), BIT(0) | BIT(1) | BIT(2) | BIT(3) | BIT(6) | BIT(7)},
     [TRIAL_A] = {"trial_a", BIT(MEMORY), 0, BIT(0) | BIT(1) | BIT(6) | BIT(7) | BIT(12) | BIT(13), 128},
     [TRIAL_C] = {"trial_c", BIT(MEMORY) | BIT(POWERS) | BIT(WEIGHTS), 0,
@@ -266,10 +265,8 @@ static wb_answer call_office(const struct office *office, struct call call, cons
         return office->new_hull(mem, len, text, text_len);
     case OPEN:
         return office->open(mem, len, call.desk, call.hull);
-    case PUT:
-        return office->put(mem, len, call.desk, call.line, call.weight, call.count);
-    case TAKE_OFF:
-        return office->take_off(mem, len, call.desk, call.line);
+    case SET_FITTING:
+        return office->set_fitting(mem, len, call.desk, call.line, call.weight, call.count);
     case REPLACE:
         return office->replace(mem, len, call.desk, text, text_len);
     case SAVE:

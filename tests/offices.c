@@ -5,12 +5,12 @@
 #include "reference.h"
 
 const struct office library = {
-    wb_fresh, wb_new_hull, wb_open, wb_put, wb_take_off, wb_replace, wb_trial_a, wb_trial_c, wb_trial_u, wb_save, wb_drop, wb_plate_a, wb_plate_c,
+    wb_fresh, wb_new_hull, wb_open, wb_set_fitting, wb_replace, wb_trial_a, wb_trial_c, wb_trial_u, wb_save, wb_drop, wb_plate_a, wb_plate_c,
     wb_plate_u, wb_write_hull, wb_read_sheet, wb_write_sheet, wb_read_engines,
 };
 
 const struct office reference = {
-    ref_fresh, ref_new_hull, ref_open, ref_put, ref_take_off, ref_replace, ref_trial_a, ref_trial_c, ref_trial_u, ref_save, ref_drop, ref_plate_a,
+    ref_fresh, ref_new_hull, ref_open, ref_set_fitting, ref_replace, ref_trial_a, ref_trial_c, ref_trial_u, ref_save, ref_drop, ref_plate_a,
     ref_plate_c, ref_plate_u, ref_write_hull, ref_read_sheet, ref_write_sheet, ref_read_engines,
 };
 
@@ -21,8 +21,7 @@ const struct office reference = {
  * that looked at it would not show. Here the calls are declared as taking all 64 bits, under names of our own that the linker knows as theirs.
  */
 wb_answer wide_open(uint32_t *, size_t, uint64_t, uint64_t) __asm__("wb_open");
-wb_answer wide_put(uint32_t *, size_t, uint64_t, uint64_t, uint64_t, uint64_t) __asm__("wb_put");
-wb_answer wide_take_off(uint32_t *, size_t, uint64_t, uint64_t) __asm__("wb_take_off");
+wb_answer wide_set_fitting(uint32_t *, size_t, uint64_t, uint64_t, uint64_t, uint64_t) __asm__("wb_set_fitting");
 wb_answer wide_replace(uint32_t *, size_t, uint64_t, const uint8_t *, size_t) __asm__("wb_replace");
 wb_answer wide_trial_a(const uint32_t *, size_t, uint64_t) __asm__("wb_trial_a");
 wb_answer wide_trial_c(const uint32_t *, size_t, uint64_t, const uint32_t *, size_t, const uint32_t *, size_t) __asm__("wb_trial_c");
@@ -45,14 +44,9 @@ static wb_answer open_soiled(uint32_t *mem, size_t len, uint32_t desk, uint32_t 
     return wide_open(mem, len, soiled(desk), soiled(hull));
 }
 
-static wb_answer put_soiled(uint32_t *mem, size_t len, uint32_t desk, uint32_t line, uint32_t weight, uint32_t count)
+static wb_answer set_fitting_soiled(uint32_t *mem, size_t len, uint32_t desk, uint32_t line, uint32_t weight, uint32_t count)
 {
-    return wide_put(mem, len, soiled(desk), soiled(line), soiled(weight), soiled(count));
-}
-
-static wb_answer take_off_soiled(uint32_t *mem, size_t len, uint32_t desk, uint32_t line)
-{
-    return wide_take_off(mem, len, soiled(desk), soiled(line));
+    return wide_set_fitting(mem, len, soiled(desk), soiled(line), soiled(weight), soiled(count));
 }
 
 static wb_answer replace_soiled(uint32_t *mem, size_t len, uint32_t desk, const uint8_t *text, size_t text_len)
@@ -109,6 +103,6 @@ static wb_answer write_hull_soiled(const uint32_t *mem, size_t len, uint32_t hul
 
 /* The calls that take no such number are as they are. */
 const struct office library_with_rubbish = {
-    wb_fresh, wb_new_hull, open_soiled, put_soiled, take_off_soiled, replace_soiled, trial_a_soiled, trial_c_soiled, trial_u_soiled, save_soiled,
+    wb_fresh, wb_new_hull, open_soiled, set_fitting_soiled, replace_soiled, trial_a_soiled, trial_c_soiled, trial_u_soiled, save_soiled,
     drop_soiled, plate_a_soiled, plate_c_soiled, plate_u_soiled, write_hull_soiled, wb_read_sheet, wb_write_sheet, wb_read_engines,
 };

@@ -1,5 +1,5 @@
 /*
- * offices.h: the eighteen calls as one table, of the library and of the reference; and of the library once more with rubbish beside every number.
+ * offices.h: the seventeen calls as one table, of the library and of the reference; and of the library once more with rubbish beside every number.
  */
 #ifndef WILLOWBLINK_OFFICES_H
 #define WILLOWBLINK_OFFICES_H
@@ -10,8 +10,7 @@ struct office {
     wb_answer (*fresh)(uint32_t *, size_t);
     wb_answer (*new_hull)(uint32_t *, size_t, const uint8_t *, size_t);
     wb_answer (*open)(uint32_t *, size_t, uint32_t, uint32_t);
-    wb_answer (*put)(uint32_t *, size_t, uint32_t, uint32_t, uint32_t, uint32_t);
-    wb_answer (*take_off)(uint32_t *, size_t, uint32_t, uint32_t);
+    wb_answer (*set_fitting)(uint32_t *, size_t, uint32_t, uint32_t, uint32_t, uint32_t);
     wb_answer (*replace)(uint32_t *, size_t, uint32_t, const uint8_t *, size_t);
     wb_answer (*trial_a)(const uint32_t *, size_t, uint32_t);
     wb_answer (*trial_c)(const uint32_t *, size_t, uint32_t, const uint32_t *, size_t, const uint32_t *, size_t);

@@ -407,7 +407,7 @@ static void try_full_register(void)
     }
     for (uint32_t desk = 0; desk < WB_DESKS; desk++) {
         expect(attempt((struct call){.kind = OPEN, .desk = desk, .hull = 2 * desk + 1}), 0, 0, 0);
-        expect(attempt((struct call){.kind = PUT, .desk = desk, .line = desk + 1, .weight = 25000, .count = 4}), 0, 0, 0);
+        expect(attempt((struct call){.kind = SET_FITTING, .desk = desk, .line = desk + 1, .weight = 25000, .count = 4}), 0, 0, 0);
     }
     for (uint32_t hull = 0; hull < WB_HULLS; hull++)
         expect(attempt((struct call){.kind = PLATE_U, .hull = hull}), 0, hulls[hull], 0);

@@ -1,5 +1,5 @@
 /*
- * reference.c: a second opinion on the eighteen calls, in plain C. The rules are docs/RULES.md, the layout of the memory docs/REGISTER.md.
+ * reference.c: a second opinion on the seventeen calls, in plain C. The rules are docs/RULES.md, the layout of the memory docs/REGISTER.md.
  *
  * Nothing of the library is used, and nothing is clever: each part stands in the order of the rules, so that the two can be read side by side.
  */
@@ -602,30 +602,19 @@ wb_answer ref_open(uint32_t *mem, size_t mem_len, uint32_t desk, uint32_t hull)
     return accepted(from[EDIT], 0);
 }
 
-wb_answer ref_put(uint32_t *mem, size_t mem_len, uint32_t desk, uint32_t line, uint32_t weight, uint32_t count)
+wb_answer ref_set_fitting(uint32_t *mem, size_t mem_len, uint32_t desk, uint32_t line, uint32_t weight, uint32_t count)
 {
     uint32_t fault = judge_draft(mem, mem_len, desk);
     if (fault)
         return refused(fault);
-    if (!is_line(line) || !is_fitting(weight, count))
+    int empties = weight == 0 && count == 0;
+    if (!is_line(line) || !(empties || is_fitting(weight, count)))
         return refused(WB_OUTSIDE_LIMITS);
     uint32_t *fitting = mem + desk_at(desk) + DRAFT_SHEET + fitting_at(line);
+    if (empties && is_empty(fitting))
+        return refused(WB_EMPTY_LINE);
     fitting[WEIGHT] = weight;
     fitting[COUNT] = count;
-    return accepted(0, 0);
-}
-
-wb_answer ref_take_off(uint32_t *mem, size_t mem_len, uint32_t desk, uint32_t line)
-{
-    uint32_t fault = judge_draft(mem, mem_len, desk);
-    if (fault)
-        return refused(fault);
-    if (!is_line(line))
-        return refused(WB_OUTSIDE_LIMITS);
-    uint32_t *fitting = mem + desk_at(desk) + DRAFT_SHEET + fitting_at(line);
-    if (is_empty(fitting))
-        return refused(WB_EMPTY_LINE);
-    fitting[WEIGHT] = fitting[COUNT] = 0;
     return accepted(0, 0);
 }
 

@@ -1,4 +1,4 @@
-/* reference.h: the eighteen calls once more, in plain C, from the rules alone. They are what the library is compared with. */
+/* reference.h: the seventeen calls once more, in plain C, from the rules alone. They are what the library is compared with. */
 #ifndef WILLOWBLINK_REFERENCE_H
 #define WILLOWBLINK_REFERENCE_H
 
@@ -7,8 +7,7 @@
 wb_answer ref_fresh(uint32_t *mem, size_t mem_len);
 wb_answer ref_new_hull(uint32_t *mem, size_t mem_len, const uint8_t *text, size_t text_len);
 wb_answer ref_open(uint32_t *mem, size_t mem_len, uint32_t desk, uint32_t hull);
-wb_answer ref_put(uint32_t *mem, size_t mem_len, uint32_t desk, uint32_t line, uint32_t weight, uint32_t count);
-wb_answer ref_take_off(uint32_t *mem, size_t mem_len, uint32_t desk, uint32_t line);
+wb_answer ref_set_fitting(uint32_t *mem, size_t mem_len, uint32_t desk, uint32_t line, uint32_t weight, uint32_t count);
 wb_answer ref_replace(uint32_t *mem, size_t mem_len, uint32_t desk, const uint8_t *text, size_t text_len);
 wb_answer ref_trial_a(const uint32_t *mem, size_t mem_len, uint32_t desk);
 wb_answer ref_trial_c(const uint32_t *mem, size_t mem_len, uint32_t desk, const uint32_t *powers, size_t powers_len, const uint32_t *weights,

@@ -31,15 +31,16 @@ static void build(uint32_t hulls, uint32_t drafts)
     }
 }
 
-/* The calls that judge the memory: all but a fresh start and those on texts alone. */
+/* The calls that judge the memory: all but a fresh start and those on texts alone. The first sets a line, the second empties one. */
 #define JUDGING 14
 
 /* One of them, with numbers that are right where the memory allows it. */
 static struct call judging_call(uint32_t turn)
 {
-    static const enum kind judging[JUDGING] = {NEW_HULL, OPEN, PUT, TAKE_OFF, REPLACE, TRIAL_A, TRIAL_C, TRIAL_U, SAVE, DROP, PLATE_A, PLATE_C, PLATE_U,
-                                               WRITE_HULL};
-    return (struct call){.kind = judging[turn % JUDGING], .desk = turn % 3, .hull = turn % 4, .line = turn % 24 + 1, .weight = 5, .count = 12};
+    static const enum kind judging[JUDGING] = {SET_FITTING, SET_FITTING, NEW_HULL, OPEN, REPLACE, TRIAL_A, TRIAL_C, TRIAL_U, SAVE, DROP, PLATE_A, PLATE_C,
+                                               PLATE_U, WRITE_HULL};
+    wb_fitting fitting = turn % JUDGING == 1 ? (wb_fitting){0, 0} : (wb_fitting){5, 12};
+    return (struct call){judging[turn % JUDGING], turn % 3, turn % 4, turn % 24 + 1, fitting.weight, fitting.count};
 }
 
 static void lend_good_things(void)
@@ -181,7 +182,7 @@ static void try_seventeen_hulls(void)
 
 static void try_wrong_sizes(void)
 {
-    /* 1673 had a register of the version before, and its hulls were the first 1105 */
+    /* 1673 had a register of version 1, and its hulls were the first 1105 */
     static const uint32_t words[] = {0, 1, 2, 1105, DESK_AT(0) - 1, DESK_AT(0), 1673, 2248, 2250, 2251, 4096, 4498};
     begin_part("memories of the wrong size");
     build(16, 8);
@@ -227,7 +228,7 @@ static void try_last_edits(void)
     expect(attempt((struct call){.kind = SAVE, .desk = 4}), 0, 65535, 0);
     expect(attempt((struct call){.kind = SAVE, .desk = 5}), 8, 0, 0); /* and not 9 */
     expect(attempt((struct call){.kind = OPEN, .desk = 4, .hull = 1}), 0, 65535, 0);
-    expect(attempt((struct call){.kind = PUT, .desk = 4, .line = 1, .weight = 1, .count = 1}), 0, 0, 0);
+    expect(attempt((struct call){.kind = SET_FITTING, .desk = 4, .line = 1, .weight = 1, .count = 1}), 0, 0, 0);
     expect(attempt((struct call){.kind = SAVE, .desk = 4}), 9, 0, 0);
     expect(attempt((struct call){.kind = SAVE, .desk = 4}), 9, 0, 0);
     expect(attempt((struct call){.kind = DROP, .desk = 4}), 0, 0, 0);
@@ -246,7 +247,7 @@ static void try_ended_drafts(void)
     before[DESK_AT(1)] = 0;
     insist(memcmp(before, mem, sizeof before) == 0, "drop changed more than the desk's mark");
     expect(attempt((struct call){.kind = OPEN, .desk = 0, .hull = 1}), 0, 3, 0);
-    expect(attempt((struct call){.kind = PUT, .desk = 0, .line = 24, .weight = 5050, .count = 99}), 0, 0, 0);
+    expect(attempt((struct call){.kind = SET_FITTING, .desk = 0, .line = 24, .weight = 5050, .count = 99}), 0, 0, 0);
     memcpy(before, mem, sizeof before);
     expect(attempt((struct call){.kind = SAVE, .desk = 0}), 0, 4, 0);
     before[DESK_AT(0)] = 0;
@@ -269,13 +270,14 @@ static void expect_all(const struct call *calls, const uint32_t *refusals, size_
 static void try_order(void)
 {
     static const struct call calls[] = {
-        {OPEN, 8, 16, 0, 0, 0}, {OPEN, 0, 16, 0, 0, 0}, {PUT, 8, 0, 0, 0, 0}, {PUT, 7, 0, 0, 0, 0}, {PUT, 0, 0, 0, 1, 1}, {PUT, 0, 0, 25, 1, 1},
-        {PUT, 0, 0, 1, 0, 1}, {PUT, 0, 0, 24, 500001, 1}, {PUT, 0, 0, 1, 1, 0}, {PUT, 0, 0, 24, 1, 100}, {PUT, 0, 0, 1, 250001, 2},
-        {TAKE_OFF, 8, 0, 0, 0, 0}, {TAKE_OFF, 7, 0, 0, 0, 0}, {TAKE_OFF, 0, 0, 0, 0, 0}, {TAKE_OFF, 0, 0, 25, 0, 0}, {REPLACE, 8, 0, 0, 0, 0},
-        {REPLACE, 7, 0, 0, 0, 0}, {REPLACE, 0, 0, 0, 0, 0}, {TRIAL_A, 8, 0, 0, 0, 0}, {TRIAL_A, 7, 0, 0, 0, 0}, {TRIAL_C, 8, 0, 0, 0, 0},
-        {TRIAL_C, 7, 0, 0, 0, 0}, {TRIAL_C, 0, 0, 0, 0, 0}, {TRIAL_U, 8, 0, 0, 0, 0}, {TRIAL_U, 7, 0, 0, 0, 0}, {SAVE, 8, 0, 0, 0, 0},
-        {SAVE, 7, 0, 0, 0, 0}, {SAVE, 0, 0, 0, 0, 0}, {DROP, 8, 0, 0, 0, 0}, {DROP, 7, 0, 0, 0, 0}, {PLATE_A, 0, 16, 0, 0, 0},
-        {PLATE_C, 0, 16, 0, 0, 0}, {PLATE_C, 0, 15, 0, 0, 0}, {PLATE_U, 0, 16, 0, 0, 0}, {WRITE_HULL, 0, 16, 0, 0, 0}, {WRITE_HULL, 0, 15, 0, 0, 0},
+        {OPEN, 8, 16, 0, 0, 0}, {OPEN, 0, 16, 0, 0, 0}, {SET_FITTING, 8, 0, 0, 0, 1}, {SET_FITTING, 7, 0, 0, 0, 1}, {SET_FITTING, 0, 0, 0, 1, 1},
+        {SET_FITTING, 0, 0, 25, 1, 1}, {SET_FITTING, 0, 0, 1, 0, 1}, {SET_FITTING, 0, 0, 24, 500001, 1}, {SET_FITTING, 0, 0, 1, 1, 0},
+        {SET_FITTING, 0, 0, 24, 1, 100}, {SET_FITTING, 0, 0, 1, 250001, 2}, {SET_FITTING, 8, 0, 0, 0, 0}, {SET_FITTING, 7, 0, 0, 0, 0},
+        {SET_FITTING, 0, 0, 0, 0, 0}, {SET_FITTING, 0, 0, 25, 0, 0}, {REPLACE, 8, 0, 0, 0, 0}, {REPLACE, 7, 0, 0, 0, 0}, {REPLACE, 0, 0, 0, 0, 0},
+        {TRIAL_A, 8, 0, 0, 0, 0}, {TRIAL_A, 7, 0, 0, 0, 0}, {TRIAL_C, 8, 0, 0, 0, 0}, {TRIAL_C, 7, 0, 0, 0, 0}, {TRIAL_C, 0, 0, 0, 0, 0},
+        {TRIAL_U, 8, 0, 0, 0, 0}, {TRIAL_U, 7, 0, 0, 0, 0}, {SAVE, 8, 0, 0, 0, 0}, {SAVE, 7, 0, 0, 0, 0}, {SAVE, 0, 0, 0, 0, 0}, {DROP, 8, 0, 0, 0, 0},
+        {DROP, 7, 0, 0, 0, 0}, {PLATE_A, 0, 16, 0, 0, 0}, {PLATE_C, 0, 16, 0, 0, 0}, {PLATE_C, 0, 15, 0, 0, 0}, {PLATE_U, 0, 16, 0, 0, 0},
+        {WRITE_HULL, 0, 16, 0, 0, 0}, {WRITE_HULL, 0, 15, 0, 0, 0},
         {NEW_HULL, 0, 0, 0, 0, 0},
     };
     static const uint32_t refusals[] = {6, 5, 6, 7, 3, 3, 3, 3, 3, 3, 3, 6, 7, 3, 3, 6, 7, 2, 6, 7, 6, 7, 10, 6, 7, 6, 7, 8, 6, 7, 5, 5, 10, 5, 5, 16, 4};
@@ -293,26 +295,27 @@ static void try_order(void)
     expect_all(calls, bad_memory, count);
 }
 
-/* Numbers of which only the low bits are those of a desk or a hull. */
+/* Numbers of which only the low bits are those of a desk, a hull, a line, a weight or a count. A line is set, and emptied. */
 static void try_high_numbers(void)
 {
-    static const enum kind by_desk[] = {OPEN, PUT, TAKE_OFF, REPLACE, TRIAL_A, TRIAL_C, TRIAL_U, SAVE, DROP};
+    static const enum kind by_desk[] = {OPEN, SET_FITTING, REPLACE, TRIAL_A, TRIAL_C, TRIAL_U, SAVE, DROP};
     static const enum kind by_hull[] = {OPEN, PLATE_A, PLATE_C, PLATE_U, WRITE_HULL};
     begin_part("numbers of desks and hulls that are too high");
     build(16, 8);
     lend_good_things();
     for (int bit = 4; bit < 32; bit++) {
-        uint32_t high = (uint32_t)1 << bit | (uint32_t)bit % 8;
-        for (size_t i = 0; i < sizeof by_desk / sizeof *by_desk; i++) {
-            expect(attempt((struct call){by_desk[i], high, 0, 1, 1, 1}), 6, 0, 0);
-            expect(attempt((struct call){by_desk[i], 8, 0, 1, 1, 1}), 6, 0, 0);
+        uint32_t top = (uint32_t)1 << bit, high = top | (uint32_t)bit % 8;
+        for (uint32_t pieces = 0; pieces < 2; pieces++) {
+            for (size_t i = 0; i < sizeof by_desk / sizeof *by_desk; i++) {
+                expect(attempt((struct call){by_desk[i], high, 0, 1, pieces, pieces}), 6, 0, 0);
+                expect(attempt((struct call){by_desk[i], 8, 0, 1, pieces, pieces}), 6, 0, 0);
+            }
+            expect(attempt((struct call){SET_FITTING, 0, 0, top | 9, pieces, pieces}), 3, 0, 0);
         }
         for (size_t i = 0; i < sizeof by_hull / sizeof *by_hull; i++)
             expect(attempt((struct call){by_hull[i], 0, high, 1, 1, 1}), 5, 0, 0);
-        expect(attempt((struct call){PUT, 0, 0, (uint32_t)1 << bit | 9, 1, 1}), 3, 0, 0);
-        expect(attempt((struct call){PUT, 0, 0, 9, (uint32_t)1 << bit | 9, 1}), bit < 19 ? 0 : 3, 0, 0);
-        expect(attempt((struct call){PUT, 0, 0, 9, 9, (uint32_t)1 << bit | 9}), bit < 7 ? 0 : 3, 0, 0);
-        expect(attempt((struct call){TAKE_OFF, 0, 0, (uint32_t)1 << bit | 9, 0, 0}), 3, 0, 0);
+        expect(attempt((struct call){SET_FITTING, 0, 0, 9, top | 9, 1}), bit < 19 ? 0 : 3, 0, 0);
+        expect(attempt((struct call){SET_FITTING, 0, 0, 9, 9, top | 9}), bit < 7 ? 0 : 3, 0, 0);
     }
 }
 
@@ -354,52 +357,144 @@ static void insist_line(uint32_t line, uint32_t weight, uint32_t count, const ch
     insist(mem[WEIGHT_AT(3, line)] == weight && mem[COUNT_AT(3, line)] == count, what);
 }
 
-static void expect_put(uint32_t line, uint32_t weight, uint32_t count, uint32_t refusal)
+/* Sets a line; accepted, its two words and no others have changed. */
+static void expect_set(uint32_t line, uint32_t weight, uint32_t count, uint32_t refusal)
 {
-    expect(attempt((struct call){.kind = PUT, .desk = 3, .line = line, .weight = weight, .count = count}), refusal, 0, 0);
-    if (refusal == 0)
-        insist_line(line, weight, count, "the fitting is not on its line, both numbers");
+    static uint32_t after[WB_REGISTER_WORDS];
+    memcpy(after, mem, sizeof after);
+    expect(attempt((struct call){.kind = SET_FITTING, .desk = 3, .line = line, .weight = weight, .count = count}), refusal, 0, 0);
+    if (refusal == 0) {
+        after[WEIGHT_AT(3, line)] = weight;
+        after[COUNT_AT(3, line)] = count;
+    }
+    insist(memcmp(after, mem, sizeof after) == 0, "the line is not what it was set to, both numbers, or something else has changed");
 }
 
-/* Putting and taking off, line by line. */
-static void try_fittings(void)
+/* The base hull with a fitting on every line or on none, open at desk 3 and at the two beside it. */
+static void enter_lines(int full)
 {
     wb_sheet sheet = base_hull();
-    begin_part("fittings");
+    for (uint32_t line = 0; full && line < WB_FITTINGS; line++)
+        sheet.fitting[line] = (wb_fitting){120, 12};
     enter_alone(&sheet);
-    for (uint32_t line = 1; line <= WB_FITTINGS; line++) {
-        expect(attempt((struct call){.kind = TAKE_OFF, .desk = 3, .line = line}), 17, 0, 0);
-        expect_put(line, line, 100 - line, 0);
-        expect_put(line, 500000, 1, 0);
-        expect_put(line, 120, 12, 0);
-        expect(attempt((struct call){.kind = TAKE_OFF, .desk = 3, .line = line}), 0, 0, 0);
-        insist_line(line, 0, 0, "something of the fitting is still on its line");
-        expect(attempt((struct call){.kind = TAKE_OFF, .desk = 3, .line = line}), 17, 0, 0);
-        expect_put(line, 1, 1, 0);
+    for (uint32_t desk = 2; desk <= 4; desk++)
+        expect(attempt((struct call){.kind = OPEN, .desk = desk}), 0, 0, 0);
+}
+
+/* Line by line: empty, set, set to other numbers and to the same ones, emptied. Hull, drafts beside and lines to come are empty, or are all full. */
+static void try_fittings(void)
+{
+    begin_part("fittings");
+    for (int full = 0; full < 2; full++) {
+        enter_lines(full);
+        for (uint32_t line = 1; line <= WB_FITTINGS; line++) {
+            expect_set(line, 0, 0, full ? 0 : 17);
+            expect_set(line, 0, 0, 17);
+            expect_set(line, line, 100 - line, 0);
+            expect_set(line, 500000, 1, 0);
+            expect_set(line, 120, 12, 0);
+            expect_set(line, 120, 12, 0);
+            expect_set(line, 0, 0, 0);
+            expect_set(line, 0, 0, 17);
+            if (!full)
+                expect_set(line, 1, 1, 0);
+        }
     }
 }
 
-/* Weights and counts at their limits and beside, and products that 32 bits would take for less; each on a line that is empty and on one that is not. */
+/* Weights and counts at their limits and beside, one of them 0, and products that 32 bits would take for less. */
+static const struct {
+    uint32_t weight, count, refusal;
+} settings[] = {
+    {1, 1, 0}, {500000, 1, 0}, {250000, 2, 0}, {166666, 3, 0}, {5050, 99, 0}, {1, 99, 0}, {5102, 98, 0}, {0, 1, 3}, {0, 99, 3}, {0, 100, 3}, {0, 500, 3},
+    {0, 0xFFFFFFFF, 3}, {1, 0, 3}, {500000, 0, 3}, {500001, 0, 3}, {0xFFFFFFFF, 0, 3}, {1, 100, 3}, {5, 100, 3}, {500001, 1, 3}, {500000, 2, 3},
+    {250001, 2, 3}, {166667, 3, 3}, {5051, 99, 3}, {5103, 98, 3}, {500000, 99, 3}, {99, 5050, 3}, {2, 250000, 3}, {65536, 65536, 3}, {0x80000000, 2, 3},
+    {0x80000001, 2, 3}, {2, 0x80000001, 3}, {0x80000000, 0x80000000, 3}, {43383509, 99, 3}, {500000, 8590, 3}, {0xFFFFFFFF, 1, 3}, {1, 0xFFFFFFFF, 3},
+    {0xFFFFFFFF, 0xFFFFFFFF, 3},
+};
+
+#define SETTINGS (sizeof settings / sizeof *settings)
+
+/* Each of them on a line that is empty and on one that is full, and accepted once more. */
 static void try_pieces(void)
 {
-    static const struct {
-        uint32_t weight, count, refusal;
-    } puts[] = {
-        {1, 1, 0}, {500000, 1, 0}, {250000, 2, 0}, {166666, 3, 0}, {5050, 99, 0}, {1, 99, 0}, {5102, 98, 0}, {0, 0, 3}, {0, 1, 3}, {0, 99, 3},
-        {1, 0, 3}, {500000, 0, 3}, {1, 100, 3}, {5, 100, 3}, {500001, 1, 3}, {500000, 2, 3}, {250001, 2, 3}, {166667, 3, 3}, {5051, 99, 3},
-        {5103, 98, 3}, {500000, 99, 3}, {99, 5050, 3}, {2, 250000, 3}, {65536, 65536, 3}, {0x80000000, 2, 3}, {0x80000001, 2, 3}, {2, 0x80000001, 3},
-        {43383509, 99, 3}, {500000, 8590, 3}, {0xFFFFFFFF, 1, 3}, {1, 0xFFFFFFFF, 3}, {0xFFFFFFFF, 0xFFFFFFFF, 3},
-    };
-    for (size_t i = 0; i < sizeof puts / sizeof *puts; i++) {
-        wb_sheet sheet = base_hull();
-        enter_alone(&sheet);
-        expect_put(24, puts[i].weight, puts[i].count, puts[i].refusal);
-        expect_put(1, 120, 12, 0);
-        expect_put(1, puts[i].weight, puts[i].count, puts[i].refusal);
-    }
+    begin_part("weights and counts of fittings");
+    for (size_t i = 0; i < SETTINGS; i++)
+        for (int full = 0; full < 2; full++) {
+            enter_lines(full);
+            for (int again = 0; again < 2; again++) {
+                expect_set(1, settings[i].weight, settings[i].count, settings[i].refusal);
+                expect_set(24, settings[i].weight, settings[i].count, settings[i].refusal);
+            }
+            expect_set(1, 0, 0, full || settings[i].refusal == 0 ? 0 : 17);
+        }
     for (uint32_t count = 1; count <= 99; count++) {
-        expect_put(7, heaviest(count), count, 0);
-        expect_put(7, heaviest(count) + 1, count, 3);
+        expect_set(7, heaviest(count), count, 0);
+        expect_set(7, heaviest(count) + 1, count, 3);
+    }
+}
+
+/* One number alone is 0, whatever the other is. */
+static void try_lone_zero(uint32_t other)
+{
+    expect_set(1, 0, other, 3);
+    expect_set(1, other, 0, 3);
+}
+
+static void try_lone_zeros(void)
+{
+    begin_part("a weight of 0 or a count of 0 alone");
+    for (int full = 0; full < 2; full++) {
+        enter_lines(full);
+        for (uint32_t other = 1; other <= 101; other++)
+            try_lone_zero(other);
+        for (int bit = 0; bit < 32; bit++) {
+            try_lone_zero((uint32_t)1 << bit);
+            try_lone_zero(0xFFFFFFFF << bit);
+        }
+    }
+}
+
+/* A line that there is not is refused with 3, whatever it is to be set to; to be emptied too, before anybody asks what is there. */
+static void try_other_lines(void)
+{
+    static const uint32_t lines[] = {0, 25, 26, 32, 256, 257, 65537, 0x7FFFFFFF, 0x80000000, 0x80000001, 0xFFFFFFFF};
+    begin_part("fittings on lines that there are not");
+    for (int full = 0; full < 2; full++) {
+        enter_lines(full);
+        for (size_t j = 0; j < sizeof lines / sizeof *lines; j++) {
+            expect_set(lines[j], 0, 0, 3);
+            for (size_t i = 0; i < SETTINGS; i++)
+                expect_set(lines[j], settings[i].weight, settings[i].count, 3);
+        }
+    }
+}
+
+/* Whatever line is set to whatever at a desk, the answer is one refusal. */
+static void expect_no_setting(uint32_t desk, uint32_t refusal)
+{
+    static const uint32_t lines[] = {0, 1, 24, 25, 0xFFFFFFFF};
+    for (size_t j = 0; j < sizeof lines / sizeof *lines; j++) {
+        expect(attempt((struct call){SET_FITTING, desk, 0, lines[j], 0, 0}), refusal, 0, 0);
+        for (size_t i = 0; i < SETTINGS; i++)
+            expect(attempt((struct call){SET_FITTING, desk, 0, lines[j], settings[i].weight, settings[i].count}), refusal, 0, 0);
+    }
+}
+
+/* The memory, the desk and its draft are judged before the line and what it is set to. Desk 6 has only words of 0, desk 4 those of a draft that ended. */
+static void try_desks_first(void)
+{
+    begin_part("fittings at desks without a draft");
+    for (int full = 0; full < 2; full++) {
+        enter_lines(full);
+        expect(attempt((struct call){.kind = DROP, .desk = 4}), 0, 0, 0);
+        expect_no_setting(4, 7);
+        expect_no_setting(6, 7);
+        expect_no_setting(8, 6);
+        expect_no_setting(0xFFFFFFFF, 6);
+        mem[0] = WB_HULLS + 1;
+        for (uint32_t desk = 3; desk < 9; desk++)
+            expect_no_setting(desk, 1);
     }
 }
 
@@ -411,7 +506,7 @@ static void try_emptied_lines(void)
     enter_alone(&sheet);
     for (int opened = 0; opened < 2; opened++) {
         for (uint32_t line = 1; line <= WB_FITTINGS; line++)
-            expect_put(line, 120, 12, 0);
+            expect_set(line, 120, 12, 0);
         expect(attempt((struct call){.kind = opened ? OPEN : REPLACE, .desk = 3}), 0, 0, 0);
         for (uint32_t line = 1; line <= WB_FITTINGS; line++)
             insist_line(line, 0, 0, "something of a fitting is still in the draft");
@@ -443,32 +538,37 @@ static void expect_save(uint32_t edit)
     expect(attempt((struct call){.kind = OPEN, .desk = 3}), 0, edit, 0);
 }
 
-/* A line that is filled before and after: put, save, open and replace write both its numbers, also where the weight or the product stays the same. */
+/* A line that is filled before and after: set, save, open and replace write both its numbers, also where the weight or the product stays the same. */
 static void try_changed_counts(uint32_t line)
 {
     wb_sheet sheet = base_hull();
     sheet.fitting[line - 1] = (wb_fitting){120, 12};
     enter_alone(&sheet);
     insist_hull_line(0, line, 120, 12);
-    expect_put(line, 120, 3, 0);
+    expect_set(line, 120, 3, 0);
     expect_save(1);
     insist_hull_line(0, line, 120, 3);
-    expect_put(line, 120, 7, 0);
+    expect_set(line, 120, 7, 0);
     expect(attempt((struct call){.kind = OPEN, .desk = 3}), 0, 1, 0);
     insist_line(line, 120, 3, "a draft that was opened over another has something of it");
-    expect_put(line, 120, 7, 0);
+    expect_set(line, 120, 7, 0);
     lend_line(line, 120, 1);
     expect(attempt((struct call){.kind = REPLACE, .desk = 3}), 0, 0, 0);
     insist_line(line, 120, 1, "a line without a count is not one piece");
     lend_line(line, 120, 5);
     expect(attempt((struct call){.kind = REPLACE, .desk = 3}), 0, 0, 0);
     insist_line(line, 120, 5, "a line with a count does not have it");
-    expect_put(line, 120, 12, 0);
+    expect_set(line, 120, 12, 0);
     expect_save(2);
     insist_hull_line(0, line, 120, 12);
-    expect_put(line, 60, 24, 0);
+    expect_set(line, 60, 24, 0);
     expect_save(3);
     insist_hull_line(0, line, 60, 24);
+    expect_set(line, 0, 0, 0);
+    insist_hull_line(0, line, 60, 24);
+    expect_save(4);
+    insist_hull_line(0, line, 0, 0);
+    expect_set(line, 0, 0, 17);
 }
 
 /* New hulls, where every free word that is to be the count of a line is 7. */
@@ -515,6 +615,9 @@ void try_register_edges(void)
     try_texts();
     try_fittings();
     try_pieces();
+    try_lone_zeros();
+    try_other_lines();
+    try_desks_first();
     try_emptied_lines();
     try_filled_lines();
 }
