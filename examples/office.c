@@ -541,32 +541,24 @@ static void tell_open(const struct work *w, wb_answer a)
            w->held ? "; the draft that it held was discarded" : "");
 }
 
-static wb_answer ask_put(struct work *w)
+static wb_answer ask_set(struct work *w)
 {
-    w->limits = "line 1 to 24, weight of one piece 1 to 500000 g, 1 to 99 pieces, which together weigh at most 500000 g";
-    return wb_put(w->words, w->count, w->number[0], w->number[1], w->number[2], w->number[3]);
+    w->limits = "line 1 to 24, weight of one piece 1 to 500000 g, 1 to 99 pieces, which together weigh at most 500000 g; "
+                "weight 0 and count 0 together empty the line";
+    return wb_set_fitting(w->words, w->count, w->number[0], w->number[1], w->number[2], w->number[3]);
 }
 
-static void tell_put(const struct work *w, wb_answer a)
+static void tell_set(const struct work *w, wb_answer a)
 {
-    unsigned weight = (unsigned)w->number[2], count = (unsigned)w->number[3];
+    unsigned desk = (unsigned)w->number[0], line = (unsigned)w->number[1], weight = (unsigned)w->number[2], count = (unsigned)w->number[3];
     (void)a;
-    printf("desk %u put %u piece%s of %u g on line %u", (unsigned)w->number[0], count, count == 1 ? "" : "s", weight, (unsigned)w->number[1]);
+    if (count == 0)
+        printf("desk %u emptied line %u", desk, line);
+    else
+        printf("desk %u set line %u: %u piece%s of %u g", desk, line, count, count == 1 ? "" : "s", weight);
     if (count > 1)
         printf(", %u g in all", weight * count); /* at most 500000, or it had been refused */
     printf("\n");
-}
-
-static wb_answer ask_take_off(struct work *w)
-{
-    w->limits = "line 1 to 24";
-    return wb_take_off(w->words, w->count, w->number[0], w->number[1]);
-}
-
-static void tell_take_off(const struct work *w, wb_answer a)
-{
-    (void)a;
-    printf("desk %u took off line %u\n", (unsigned)w->number[0], (unsigned)w->number[1]);
 }
 
 static wb_answer ask_replace(struct work *w)
@@ -693,8 +685,7 @@ static const struct command commands[] = {
     {"fresh", "", "", BEGINS, ask_fresh, tell_fresh},
     {"new", " SHEETFILE", "t", CHANGES, ask_new, tell_new},
     {"open", " DESK HULL", "nn", CHANGES, ask_open, tell_open},
-    {"put", " DESK LINE WEIGHT [COUNT]", "nnno", CHANGES, ask_put, tell_put},
-    {"take-off", " DESK LINE", "nn", CHANGES, ask_take_off, tell_take_off},
+    {"set", " DESK LINE WEIGHT [COUNT]", "nnno", CHANGES, ask_set, tell_set},
     {"replace", " DESK SHEETFILE", "nt", CHANGES, ask_replace, tell_replace},
     {"trial-a", " DESK", "n", READS, ask_trial_a, tell_trial_a},
     {"trial-c", " DESK ENGINEFILE", "ne", READS, ask_trial_c, tell_trial_c},
