@@ -37,8 +37,8 @@ static void build(uint32_t hulls, uint32_t drafts)
 /* One of them, with numbers that are right where the memory allows it. */
 static struct call judging_call(uint32_t turn)
 {
-    static const enum kind judging[JUDGING] = {SET_FITTING, SET_FITTING, NEW_HULL, OPEN, REPLACE, TRIAL_A, TRIAL_C, TRIAL_U, SAVE, DROP, PLATE_A, PLATE_C,
-                                               PLATE_U, WRITE_HULL};
+    static const enum kind judging[JUDGING] = {SET_FITTING, SET_FITTING, NEW_HULL, OPEN, REPLACE, TRIAL_A, TRIAL_C, TRIAL_U, SAVE, DROP, PLATE_A,
+                                               PLATE_C, PLATE_U, WRITE_HULL};
     wb_fitting fitting = turn % JUDGING == 1 ? (wb_fitting){0, 0} : (wb_fitting){5, 12};
     return (struct call){judging[turn % JUDGING], turn % 3, turn % 4, turn % 24 + 1, fitting.weight, fitting.count};
 }
@@ -406,11 +406,11 @@ static void try_fittings(void)
 static const struct {
     uint32_t weight, count, refusal;
 } settings[] = {
-    {1, 1, 0}, {500000, 1, 0}, {250000, 2, 0}, {166666, 3, 0}, {5050, 99, 0}, {1, 99, 0}, {5102, 98, 0}, {0, 1, 3}, {0, 99, 3}, {0, 100, 3}, {0, 500, 3},
-    {0, 0xFFFFFFFF, 3}, {1, 0, 3}, {500000, 0, 3}, {500001, 0, 3}, {0xFFFFFFFF, 0, 3}, {1, 100, 3}, {5, 100, 3}, {500001, 1, 3}, {500000, 2, 3},
-    {250001, 2, 3}, {166667, 3, 3}, {5051, 99, 3}, {5103, 98, 3}, {500000, 99, 3}, {99, 5050, 3}, {2, 250000, 3}, {65536, 65536, 3}, {0x80000000, 2, 3},
-    {0x80000001, 2, 3}, {2, 0x80000001, 3}, {0x80000000, 0x80000000, 3}, {43383509, 99, 3}, {500000, 8590, 3}, {0xFFFFFFFF, 1, 3}, {1, 0xFFFFFFFF, 3},
-    {0xFFFFFFFF, 0xFFFFFFFF, 3},
+    {1, 1, 0}, {500000, 1, 0}, {250000, 2, 0}, {166666, 3, 0}, {5050, 99, 0}, {1, 99, 0}, {5102, 98, 0},
+    {0, 1, 3}, {0, 99, 3}, {0, 100, 3}, {0, 500, 3}, {0, 0xFFFFFFFF, 3}, {1, 0, 3}, {500000, 0, 3}, {500001, 0, 3}, {0xFFFFFFFF, 0, 3},
+    {1, 100, 3}, {5, 100, 3}, {500001, 1, 3}, {500000, 2, 3}, {250001, 2, 3}, {166667, 3, 3}, {5051, 99, 3}, {5103, 98, 3}, {500000, 99, 3},
+    {99, 5050, 3}, {2, 250000, 3}, {65536, 65536, 3}, {0x80000000, 2, 3}, {0x80000001, 2, 3}, {2, 0x80000001, 3}, {0x80000000, 0x80000000, 3},
+    {43383509, 99, 3}, {500000, 8590, 3}, {0xFFFFFFFF, 1, 3}, {1, 0xFFFFFFFF, 3}, {0xFFFFFFFF, 0xFFFFFFFF, 3},
 };
 
 #define SETTINGS (sizeof settings / sizeof *settings)
@@ -481,7 +481,7 @@ static void expect_no_setting(uint32_t desk, uint32_t refusal)
     }
 }
 
-/* The memory, the desk and its draft are judged before the line and what it is set to. Desk 6 has only words of 0, desk 4 those of a draft that ended. */
+/* The memory, the desk and its draft are judged before the line and what it is set to. Desk 6 has words of 0, desk 4 those of a draft that ended. */
 static void try_desks_first(void)
 {
     begin_part("fittings at desks without a draft");
