@@ -350,56 +350,74 @@ static void try_texts(void)
     }
 }
 
-/* ---- fittings, at desk 3 ---- */
+/* ---- fittings, at desk 3 where no desk is named ---- */
 
 static void insist_line(uint32_t line, uint32_t weight, uint32_t count, const char *what)
 {
     insist(mem[WEIGHT_AT(3, line)] == weight && mem[COUNT_AT(3, line)] == count, what);
 }
 
-/* Sets a line; accepted, its two words and no others have changed. */
-static void expect_set(uint32_t line, uint32_t weight, uint32_t count, uint32_t refusal)
+/* Sets a line of a desk's draft; accepted, its two words and no others have changed. */
+static void expect_set_at(uint32_t desk, uint32_t line, uint32_t weight, uint32_t count, uint32_t refusal)
 {
     static uint32_t after[WB_REGISTER_WORDS];
     memcpy(after, mem, sizeof after);
-    expect(attempt((struct call){.kind = SET_FITTING, .desk = 3, .line = line, .weight = weight, .count = count}), refusal, 0, 0);
+    expect(attempt((struct call){SET_FITTING, desk, 0, line, weight, count}), refusal, 0, 0);
     if (refusal == 0) {
-        after[WEIGHT_AT(3, line)] = weight;
-        after[COUNT_AT(3, line)] = count;
+        after[WEIGHT_AT(desk, line)] = weight;
+        after[COUNT_AT(desk, line)] = count;
     }
     insist(memcmp(after, mem, sizeof after) == 0, "the line is not what it was set to, both numbers, or something else has changed");
 }
 
-/* The base hull with a fitting on every line or on none, open at desk 3 and at the two beside it. */
-static void enter_lines(int full)
+static void expect_set(uint32_t line, uint32_t weight, uint32_t count, uint32_t refusal)
+{
+    expect_set_at(3, line, weight, count, refusal);
+}
+
+/* The base hull with a fitting on every line or on none, alone in a register and open at desk 3. */
+static void enter_hull(int full)
 {
     wb_sheet sheet = base_hull();
     for (uint32_t line = 0; full && line < WB_FITTINGS; line++)
         sheet.fitting[line] = (wb_fitting){120, 12};
     enter_alone(&sheet);
-    for (uint32_t desk = 2; desk <= 4; desk++)
-        expect(attempt((struct call){.kind = OPEN, .desk = desk}), 0, 0, 0);
 }
 
-/* Line by line: empty, set, set to other numbers and to the same ones, emptied. Hull, drafts beside and lines to come are empty, or are all full. */
+/* The same open at every desk, and saved since. */
+static void enter_lines(int full)
+{
+    enter_hull(full);
+    for (uint32_t desk = 0; desk < WB_DESKS; desk++)
+        expect(attempt((struct call){.kind = OPEN, .desk = desk}), 0, 0, 0);
+    mem[HULL_AT(0)] = 1;
+}
+
+/* Line by line: empty, set, set to other numbers and to the same ones, emptied. The hull, the other drafts and the lines to come are empty or full. */
+static void try_fittings_at(uint32_t desk, int full)
+{
+    for (uint32_t line = 1; line <= WB_FITTINGS; line++) {
+        expect_set_at(desk, line, 0, 0, full ? 0 : 17);
+        expect_set_at(desk, line, 0, 0, 17);
+        expect_set_at(desk, line, line, 100 - line, 0);
+        expect_set_at(desk, line, 500000, 1, 0);
+        expect_set_at(desk, line, 120, 12, 0);
+        expect_set_at(desk, line, 120, 12, 0);
+        expect_set_at(desk, line, 0, 0, 0);
+        expect_set_at(desk, line, 0, 0, 17);
+        if (!full)
+            expect_set_at(desk, line, 1, 1, 0);
+    }
+}
+
 static void try_fittings(void)
 {
     begin_part("fittings");
-    for (int full = 0; full < 2; full++) {
-        enter_lines(full);
-        for (uint32_t line = 1; line <= WB_FITTINGS; line++) {
-            expect_set(line, 0, 0, full ? 0 : 17);
-            expect_set(line, 0, 0, 17);
-            expect_set(line, line, 100 - line, 0);
-            expect_set(line, 500000, 1, 0);
-            expect_set(line, 120, 12, 0);
-            expect_set(line, 120, 12, 0);
-            expect_set(line, 0, 0, 0);
-            expect_set(line, 0, 0, 17);
-            if (!full)
-                expect_set(line, 1, 1, 0);
+    for (uint32_t desk = 0; desk < WB_DESKS; desk++)
+        for (int full = 0; full < 2; full++) {
+            enter_lines(full);
+            try_fittings_at(desk, full);
         }
-    }
 }
 
 /* Weights and counts at their limits and beside, one of them 0, and products that 32 bits would take for less. */
@@ -415,7 +433,7 @@ static const struct {
 
 #define SETTINGS (sizeof settings / sizeof *settings)
 
-/* Each of them on a line that is empty and on one that is full, and accepted once more. */
+/* Each of them twice, on lines that are empty and on lines that are full; then line 1 is emptied. */
 static void try_pieces(void)
 {
     begin_part("weights and counts of fittings");
@@ -431,6 +449,21 @@ static void try_pieces(void)
     for (uint32_t count = 1; count <= 99; count++) {
         expect_set(7, heaviest(count), count, 0);
         expect_set(7, heaviest(count) + 1, count, 3);
+    }
+}
+
+/* A line is full whatever its numbers are: every count, and every bit of a weight alone. */
+static void try_emptied_fittings(void)
+{
+    begin_part("fittings that are emptied");
+    enter_lines(0);
+    for (uint32_t count = 1; count <= 99; count++) {
+        expect_set(7, heaviest(count), count, 0);
+        expect_set(7, 0, 0, 0);
+    }
+    for (uint32_t weight = 1; weight <= 500000; weight *= 2) {
+        expect_set(7, weight, 1, 0);
+        expect_set(7, 0, 0, 0);
     }
 }
 
@@ -455,7 +488,7 @@ static void try_lone_zeros(void)
     }
 }
 
-/* A line that there is not is refused with 3, whatever it is to be set to; to be emptied too, before anybody asks what is there. */
+/* A line that there is not is refused with 3, whatever it is to be set to, and with 0 and 0 too: what is there is asked after that. */
 static void try_other_lines(void)
 {
     static const uint32_t lines[] = {0, 25, 26, 32, 256, 257, 65537, 0x7FFFFFFF, 0x80000000, 0x80000001, 0xFFFFFFFF};
@@ -470,7 +503,7 @@ static void try_other_lines(void)
     }
 }
 
-/* Whatever line is set to whatever at a desk, the answer is one refusal. */
+/* At such a desk every line, whatever it is set to, is refused in one way. */
 static void expect_no_setting(uint32_t desk, uint32_t refusal)
 {
     static const uint32_t lines[] = {0, 1, 24, 25, 0xFFFFFFFF};
@@ -486,14 +519,15 @@ static void try_desks_first(void)
 {
     begin_part("fittings at desks without a draft");
     for (int full = 0; full < 2; full++) {
-        enter_lines(full);
+        enter_hull(full);
+        expect(attempt((struct call){.kind = OPEN, .desk = 4}), 0, 0, 0);
         expect(attempt((struct call){.kind = DROP, .desk = 4}), 0, 0, 0);
         expect_no_setting(4, 7);
         expect_no_setting(6, 7);
         expect_no_setting(8, 6);
         expect_no_setting(0xFFFFFFFF, 6);
         mem[0] = WB_HULLS + 1;
-        for (uint32_t desk = 3; desk < 9; desk++)
+        for (uint32_t desk = 3; desk <= WB_DESKS; desk++)
             expect_no_setting(desk, 1);
     }
 }
@@ -615,6 +649,7 @@ void try_register_edges(void)
     try_texts();
     try_fittings();
     try_pieces();
+    try_emptied_fittings();
     try_lone_zeros();
     try_other_lines();
     try_desks_first();
