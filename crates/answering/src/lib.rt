@@ -211,8 +211,8 @@ pub fn open_hull(mem: &mut [u32], desk: u32, hull: u32) -> Answer
     Answer::Count(keeping::open_draft(mem, desk as usize, hull))
 }
 
-// What refuses a fitting line that is to be set, of a draft that is there: a line, a weight or a count outside the limits,
-// 0 and 0 being within them, and then an empty line that is to be emptied.
+// What refuses a fitting line that is to be set, of a draft that is there: a line, a weight or a count outside the
+// limits, 0 and 0 being within them, and then an empty line that is to be emptied.
 fn set_own(mem: &[u32], desk: u32, line: u32, weight: u32, count: u32) -> u32
     requires { ⌜ AtDesk (now mem) desk ⌝ }
     ensures { λ r. ⌜ r ≡ setOwn (draftSheet (now (mem .entry)) desk) line weight count ⌝ }

@@ -88,7 +88,8 @@ serial-day =
     ∷ (save 1 ⇒ says (Count 1))
     ∷ (ask 0 (plate kindA) ⇒ says (Plate 326 20000)) ∷ (ask 0 (plate kindU) ⇒ says (Count 718)) ∷ writing
     -- desk 0's second draft; its first is left out
-    ∷ (openHull 0 0 ⇒ says (Count 1)) ∷ (work 0 (setFitting 1 0 0) ⇒ says (Refused 17)) ∷ (work 0 (setFitting 25 0 0) ⇒ says (Refused 3)) ∷ trialC
+    ∷ (openHull 0 0 ⇒ says (Count 1)) ∷ (work 0 (setFitting 1 0 0) ⇒ says (Refused 17))
+    ∷ (work 0 (setFitting 25 0 0) ⇒ says (Refused 3)) ∷ trialC
     ∷ (work 0 (setFitting 2 0 0) ⇒ says Done) ∷ (save 0 ⇒ says (Count 2))
     ∷ faulty ∷ (ask 1 (plate kindA) ⇒ says (Refused 5)) ∷ (ask 0 (plate kindA) ⇒ says (Plate 327 20000))
     ∷ []

@@ -1,5 +1,5 @@
--- A fitting line that is set to a weight and a count within their limits: the words of the sheet stay within theirs. And
--- of all words of the memory two are set.
+-- A fitting line that is set to a weight and a count within their limits: the words of the sheet stay within theirs.
+-- And of all words of the memory two are set.
 use mathlib.Core.Path.{_≡_, sym, _∙_}
 use mathlib.Core.Bool.{true}
 use mathlib.Core.List.{List, [], _∷_}

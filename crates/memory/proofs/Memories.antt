@@ -3,7 +3,7 @@
 use mathlib.Core.Path.{_≡_, refl}
 use mathlib.Core.Bool.{Bool, true, false}
 use mathlib.Core.List.{List, [], _∷_, _++_, map}
-use Prim.Native.Nat.{ℕ, zero, suc, _+_}
+use Prim.Native.Nat.{ℕ, zero, suc}
 use lib.ListN.{set, take, drop, replicate}
 use Rattle.text.specs.Limit.{allHold}
 use Rattle.text.proofs.Examples.{upFrom}
@@ -121,8 +121,11 @@ unfolding upFrom
 places-right = (refl, refl, refl, refl, refl, refl, refl, refl)
 
 -- the words about fitting lines 1 and 2 of desk 7's draft: line 2 set to three pieces, line 1 emptied
+-- while line 2 is empty and while it is not
 fitted-right :
-    map (λ (o : List ℕ). take 6 (drop 2200 o)) (full ∷ fitted full 7 2 1111 3 ∷ fitted full 7 1 0 0 ∷ [])
-    ≡ (3 ∷ 3334 ∷ 1 ∷ 0 ∷ 0 ∷ 0 ∷ []) ∷ (3 ∷ 3334 ∷ 1 ∷ 1111 ∷ 3 ∷ 0 ∷ []) ∷ (3 ∷ 0 ∷ 0 ∷ 0 ∷ 0 ∷ 0 ∷ []) ∷ []
+    map (λ (o : List ℕ). take 6 (drop 2200 o))
+    (full ∷ fitted full 7 2 1111 3 ∷ fitted full 7 1 0 0 ∷ fitted (fitted full 7 2 1111 3) 7 1 0 0 ∷ [])
+    ≡ (3 ∷ 3334 ∷ 1 ∷ 0 ∷ 0 ∷ 0 ∷ []) ∷ (3 ∷ 3334 ∷ 1 ∷ 1111 ∷ 3 ∷ 0 ∷ []) ∷ (3 ∷ 0 ∷ 0 ∷ 0 ∷ 0 ∷ 0 ∷ [])
+    ∷ (3 ∷ 0 ∷ 0 ∷ 1111 ∷ 3 ∷ 0 ∷ []) ∷ []
 unfolding full sheet hulls draft idle fitted
 fitted-right = refl

@@ -100,7 +100,8 @@ on-small =
 calls-right :
     (answered full on-full ≡ map wanted on-full) × (answered fifteen on-fifteen ≡ map wanted on-fifteen)
     × (answered edited on-edited ≡ map wanted on-edited) × (answered small on-small ≡ map wanted on-small)
-unfolding alike agree answered on-full on-fifteen on-edited on-small text outside ended small fifteen edited full sheet hulls
+unfolding alike agree
+    answered on-full on-fifteen on-edited on-small text outside ended small fifteen edited full sheet hulls
     draft idle formed each hullOk draftOk hullRefusal deskRefusal roomRefusal openRefusal readSheet sheetForm
     numbersOn numbersOf fitsOf emptyLines fitsFrom readForm readParts readRows kindOf readLine agreed readNumbers
     readEntry fieldOf numberOf restOf feeds sinceFeed allHold okOn fitsOk sheetText rowsOn fitRows partsText rowsText

@@ -122,7 +122,8 @@ day =
     ∷ []
 
 a-day : given freshWords day ≡ map wanted day
-unfolding alike agree given day text numbered-text eleven-digits too-long rows grams freshWords entered opened fitted replaced
+unfolding alike agree
+    given day text numbered-text eleven-digits too-long rows grams freshWords entered opened fitted replaced
     dropped saved each hullOk draftOk formed hullRefusal deskRefusal roomRefusal openRefusal readSheet sheetForm
     numbersOn numbersOf fitsOf emptyLines fitsFrom readForm readParts readRows kindOf readLine agreed readNumbers
     readEntry fieldOf numberOf restOf feeds sinceFeed allHold okOn fitsOk sheetText rowsOn fitRows partsText rowsText

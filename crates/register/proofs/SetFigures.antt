@@ -16,34 +16,36 @@ use Rattle.register.proofs.Wanted.{alike, agree, as-wanted}
 use Rattle.register.proofs.Day.{Must, _must_, wanted, answered, given}
 use Rattle.register.proofs.Unformed.{small}
 
-abbrev sets : ℕ → ℕ → ℕ → Call
-sets line weight count = work 7 (setFitting line weight count)
+abbrev setting : ℕ → ℕ → ℕ → Call
+setting line weight count = work 7 (setFitting line weight count)
 
 -- what is refused with 3, whether its line is full or empty
 outside : List Must
 outside =
-    (sets 25 0 0 must Refused 3) ∷ (sets 0 0 0 must Refused 3) ∷ (sets 25 1 1 must Refused 3)
-    ∷ (sets 0 1 1 must Refused 3) ∷ (sets 4294967295 0 0 must Refused 3)
+    (setting 25 0 0 must Refused 3) ∷ (setting 0 0 0 must Refused 3) ∷ (setting 25 1 1 must Refused 3)
+    ∷ (setting 0 1 1 must Refused 3) ∷ (setting 4294967295 0 0 must Refused 3)
     -- just one of the two is 0
-    ∷ (sets 1 0 1 must Refused 3) ∷ (sets 1 1 0 must Refused 3) ∷ (sets 1 500001 0 must Refused 3)
-    ∷ (sets 1 0 500 must Refused 3) ∷ (sets 24 0 1 must Refused 3) ∷ (sets 24 1 0 must Refused 3)
-    ∷ (sets 1 500000 0 must Refused 3) ∷ (sets 1 0 99 must Refused 3)
+    ∷ (setting 1 0 1 must Refused 3) ∷ (setting 1 1 0 must Refused 3) ∷ (setting 1 500001 0 must Refused 3)
+    ∷ (setting 1 0 500 must Refused 3) ∷ (setting 24 0 1 must Refused 3) ∷ (setting 24 1 0 must Refused 3)
+    ∷ (setting 1 500000 0 must Refused 3) ∷ (setting 1 0 99 must Refused 3)
     -- a weight, a count, a product, which never wraps
-    ∷ (sets 1 500001 1 must Refused 3) ∷ (sets 1 1 100 must Refused 3) ∷ (sets 1 5051 99 must Refused 3)
-    ∷ (sets 2 250001 2 must Refused 3) ∷ (sets 1 65536 65536 must Refused 3) ∷ (sets 1 2147483648 2 must Refused 3)
-    ∷ (sets 1 4294967295 4294967295 must Refused 3) ∷ (sets 1 4294967295 1 must Refused 3)
-    ∷ (sets 1 1 4294967295 must Refused 3)
+    ∷ (setting 1 500001 1 must Refused 3) ∷ (setting 1 1 100 must Refused 3) ∷ (setting 1 5051 99 must Refused 3)
+    ∷ (setting 2 250001 2 must Refused 3) ∷ (setting 1 65536 65536 must Refused 3)
+    ∷ (setting 1 2147483648 2 must Refused 3)
+    ∷ (setting 1 4294967295 4294967295 must Refused 3) ∷ (setting 1 4294967295 1 must Refused 3)
+    ∷ (setting 1 1 4294967295 must Refused 3)
     ∷ []
 
 -- on the draft as it is
 figures : List Must
 figures =
     -- a full line is emptied, an empty one is not; and each is set
-    (sets 1 0 0 must Done) ∷ (sets 2 0 0 must Refused 17) ∷ (sets 24 0 0 must Refused 17)
-    ∷ (sets 1 1 1 must Done) ∷ (sets 2 1 1 must Done) ∷ (sets 24 500000 1 must Done) ∷ (sets 1 500000 1 must Done)
-    ∷ (sets 1 1 99 must Done) ∷ (sets 1 5050 99 must Done) ∷ (sets 2 250000 2 must Done)
+    (setting 1 0 0 must Done) ∷ (setting 2 0 0 must Refused 17) ∷ (setting 24 0 0 must Refused 17)
+    ∷ (setting 1 1 1 must Done) ∷ (setting 2 1 1 must Done) ∷ (setting 24 500000 1 must Done)
+    ∷ (setting 1 500000 1 must Done)
+    ∷ (setting 1 1 99 must Done) ∷ (setting 1 5050 99 must Done) ∷ (setting 2 250000 2 must Done)
     -- the values that are there
-    ∷ (sets 1 3334 1 must Done)
+    ∷ (setting 1 3334 1 must Done)
     -- the desk and its draft before the line
     ∷ (work 6 (setFitting 25 0 0) must Refused 7) ∷ (work 6 (setFitting 1 1 0) must Refused 7)
     ∷ (work 6 (setFitting 24 0 0) must Refused 7) ∷ (work 8 (setFitting 25 0 0) must Refused 6)
@@ -53,8 +55,9 @@ figures =
 -- one after the other: line 1 emptied, and so empty; set, set to the same, to one piece less; and emptied again
 in-turn : List Must
 in-turn =
-    (sets 1 0 0 must Done) ∷ (sets 1 0 0 must Refused 17) ∷ (sets 1 5050 99 must Done) ∷ (sets 1 5050 99 must Done)
-    ∷ (sets 1 5050 98 must Done) ∷ (sets 1 0 0 must Done) ∷ (sets 1 0 0 must Refused 17)
+    (setting 1 0 0 must Done) ∷ (setting 1 0 0 must Refused 17) ∷ (setting 1 5050 99 must Done)
+    ∷ (setting 1 5050 99 must Done)
+    ∷ (setting 1 5050 98 must Done) ∷ (setting 1 0 0 must Done) ∷ (setting 1 0 0 must Refused 17)
     ∷ []
 
 -- line 1 without its fitting
@@ -76,13 +79,23 @@ sets-right = (
 -- the words of lines 1 and 2; refused, all are as they were
 lines-left :
     map (λ (c : Call). take 4 (drop 2201 (step small c .memory)))
-    (sets 1 0 0 ∷ sets 1 120 12 ∷ sets 2 120 12 ∷ sets 1 0 12 ∷ sets 1 120 0 ∷ sets 2 0 0 ∷ sets 25 0 0 ∷ [])
+    (setting 1 0 0 ∷ setting 1 120 12 ∷ setting 2 120 12 ∷ setting 1 0 12 ∷ setting 1 120 0
+    ∷ setting 2 0 0 ∷ setting 25 0 0 ∷ [])
     ≡ (0 ∷ 0 ∷ 0 ∷ 0 ∷ []) ∷ (120 ∷ 12 ∷ 0 ∷ 0 ∷ []) ∷ (3334 ∷ 1 ∷ 120 ∷ 12 ∷ []) ∷ (3334 ∷ 1 ∷ 0 ∷ 0 ∷ [])
     ∷ (3334 ∷ 1 ∷ 0 ∷ 0 ∷ []) ∷ (3334 ∷ 1 ∷ 0 ∷ 0 ∷ []) ∷ (3334 ∷ 1 ∷ 0 ∷ 0 ∷ []) ∷ []
 unfolding small sheet hulls draft idle formed each hullOk draftOk deskRefusal allHold okOn fitsOk fitted
 lines-left = refl
 
+-- and where the lines beside are full too
+beside-left :
+    map (λ (c : Call). take 6 (drop 2201 (step (fitted (fitted small 7 2 120 12) 7 3 40 1) c .memory)))
+    (setting 1 0 0 ∷ setting 2 0 0 ∷ setting 2 7 3 ∷ setting 3 0 0 ∷ [])
+    ≡ (0 ∷ 0 ∷ 120 ∷ 12 ∷ 40 ∷ 1 ∷ []) ∷ (3334 ∷ 1 ∷ 0 ∷ 0 ∷ 40 ∷ 1 ∷ []) ∷ (3334 ∷ 1 ∷ 7 ∷ 3 ∷ 40 ∷ 1 ∷ [])
+    ∷ (3334 ∷ 1 ∷ 120 ∷ 12 ∷ 0 ∷ 0 ∷ []) ∷ []
+unfolding small sheet hulls draft idle formed each hullOk draftOk deskRefusal allHold okOn fitsOk fitted
+beside-left = refl
+
 -- and all words of the memory: of the line that is emptied its two are 0
-emptied-whole : step small (sets 1 0 0) .memory ≡ emptied
+emptied-whole : step small (setting 1 0 0) .memory ≡ emptied
 unfolding emptied small sheet hulls draft idle formed each hullOk draftOk deskRefusal allHold okOn fitsOk fitted
 emptied-whole = refl

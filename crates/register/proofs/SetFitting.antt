@@ -1,15 +1,15 @@
--- 02 (ix), what setting a fitting line does at a desk that holds a draft, by its numbers; the cases are all that there
--- are. What no line may be set to is refused with 3, whatever the draft has; then emptying a line that is empty, with
--- 17; all else is done, on a full line as on an empty one.
-use mathlib.Core.Path.{_≡_, refl, sym}
-use mathlib.Core.Bool.{Bool, true, _&&_}
+-- 02 (ix), what setting a fitting line does at a desk that holds a draft, by its numbers. What no line may be set to is
+-- refused with 3, whatever the draft has; then emptying a line that is empty, with 17; all else is done, on a full line
+-- as on an empty one.
+use mathlib.Core.Path.{_≡_, refl, sym, _∙_}
+use mathlib.Core.Bool.{Bool, true, _&&_, true≢false}
 use mathlib.Core.Logic.{_⊎_, inl, inr}
 use mathlib.Core.List.{List, []}
 use Prim.Native.Nat.{ℕ, _≤_}
 use native.Mathlib.Omega.{arith}
-use borrow.Author.Tests.{leb-true, eqb-true}
+use borrow.Author.Tests.{leb-true, le-leb, eqb-true}
 use lib.Dec.{eqb, leb}
-use Rattle.ground.proofs.Booleans.{both-hold, by-test}
+use Rattle.ground.proofs.Booleans.{both-true, both-hold, by-test}
 use Rattle.answers.specs.Refusals.{outsideLimits, emptyLine}
 use Rattle.answers.specs.declared.Answer.the-variants.{Refused, Done}
 use Rattle.sheet.specs.Lines.{fittings}
@@ -27,6 +27,10 @@ pub record Settable (line weight count : ℕ) : Type 0 where
   pub low : 1 ≤ line
   pub high : line ≤ fittings
   pub has : ((weight ≡ 0) × (count ≡ 0)) ⊎ Pieces weight count
+
+has-fits : (weight count : ℕ) → ((weight ≡ 0) × (count ≡ 0)) ⊎ Pieces weight count → fitOk weight count ≡ true
+has-fits weight count (inl z) = rw (z .0, z .1) refl
+has-fits weight count (inr p) = pieces-fit weight count p
 
 fits-has : (weight count : ℕ) → fitOk weight count ≡ true → ((weight ≡ 0) × (count ≡ 0)) ⊎ Pieces weight count
 fits-has weight count h =
@@ -47,6 +51,16 @@ module _ (line weight count : ℕ) where
         high = leb-true line fittings (b .0);
         has = fits-has weight count (b .1);
       }
+
+  settable-within : Settable line weight count → within ≡ true
+  settable-within s =
+      both-true (le-leb 1 line (s .low)) (both-true (le-leb line fittings (s .high)) (has-fits weight count (s .has)))
+
+  -- so the cases below are all that there are
+  pub settable-or-not : Settable line weight count ⊎ (Settable line weight count → ⊥)
+  settable-or-not =
+      by-test within (λ h. inl (within-settable h))
+      (λ h. inr (λ s. absurd (true≢false (sym (settable-within s) ∙ h))))
 
 -- ---- the step
 
@@ -90,15 +104,18 @@ module _ (m : List ℕ) (d : ℕ) (z : deskRefusal m d ≡ 0) (line : ℕ) where
     any-set weight count p =
         let some = p .some in
         settled weight count 0
-        (set-filled (draftSheet m d) line weight count low high (sym (pieces-fit weight count p)) refl (λ e. omega arith))
+        (set-filled (draftSheet m d) line weight count low high (sym (pieces-fit weight count p)) refl
+        (λ e. omega arith))
 
   -- just one of the two is 0, on any line
   pub weight-alone : (weight : ℕ)
       → (weight ≡ 0 → ⊥)
       → step m (work d (setFitting line weight 0)) ≡ refusing outsideLimits m
-  weight-alone weight n = outside-first weight 0 (λ s. elim (s .has) [ inl q ↦ n (q .0) | inr p ↦ omega (arith, p .counted .least) ])
+  weight-alone weight n =
+      outside-first weight 0 (λ s. elim (s .has) [ inl q ↦ n (q .0) | inr p ↦ omega (arith, p .counted .least) ])
 
   pub count-alone : (count : ℕ)
       → (count ≡ 0 → ⊥)
       → step m (work d (setFitting line 0 count)) ≡ refusing outsideLimits m
-  count-alone count n = outside-first 0 count (λ s. elim (s .has) [ inl q ↦ n (q .1) | inr p ↦ omega (arith, p .some) ])
+  count-alone count n =
+      outside-first 0 count (λ s. elim (s .has) [ inl q ↦ n (q .1) | inr p ↦ omega (arith, p .some) ])

@@ -17,8 +17,8 @@ use Rattle.register.specs.Calls.{Call, newHull, openHull, work, save, dr
 -- no such desk or hull, a text that is none, rows that are wrong, no room
 abbrev pub wrongs : List Call
 wrongs =
-    newHull [] ∷ openHull 8 16 ∷ work 8 (setFitting 0 1 0) ∷ work 8 (setFitting 1 0 0) ∷ work 8 (replace []) ∷ work 8 (tryPlate kindA)
-    ∷ work 8 (tryPlate (kindC [] [])) ∷ work 8 (tryPlate kindU) ∷ save 8 ∷ dropDraft 8
+    newHull [] ∷ openHull 8 16 ∷ work 8 (setFitting 0 1 0) ∷ work 8 (setFitting 1 0 0) ∷ work 8 (replace [])
+    ∷ work 8 (tryPlate kindA) ∷ work 8 (tryPlate (kindC [] [])) ∷ work 8 (tryPlate kindU) ∷ save 8 ∷ dropDraft 8
     ∷ ask 16 (plate kindA) ∷ ask 16 (plate (kindC [] [])) ∷ ask 16 (plate kindU) ∷ ask 16 (write [])
     ∷ []
 

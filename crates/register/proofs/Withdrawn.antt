@@ -1,5 +1,6 @@
--- 02 (ix): put and take off, the calls that were withdrawn, as they were. What each did, setting the line does, in every
--- memory, refusals and all: put of anything but weight 0 with count 0, which it refused, and take off of every line.
+-- 02 (ix): put and take off, the calls that were withdrawn, as they were. What each did, setting the line does, in
+-- every memory, refusals and all: put of anything but weight 0 with count 0, which it refused, and take off of every
+-- line.
 use mathlib.Core.Path.{_≡_, refl}
 use mathlib.Core.Bool.{false, _&&_, cond}
 use mathlib.Core.List.{List, [], _∷_}
@@ -69,7 +70,8 @@ module _ (s : List ℕ) (line : ℕ) where
 some-fitting : (weight count : ℕ) → (weight ≡ 0 → count ≡ 0 → ⊥) → noFitting weight count ≡ false
 some-fitting weight count n =
     by-test (eqb weight 0)
-    (λ e. by-test (eqb count 0) (λ f. absurd (n (eqb-true weight 0 e) (eqb-true count 0 f))) (second-fails (eqb weight 0)))
+    (λ e.
+    by-test (eqb count 0) (λ f. absurd (n (eqb-true weight 0 e) (eqb-true count 0 f))) (second-fails (eqb weight 0)))
     (first-fails (eqb count 0))
 
 module _ (m : List ℕ) (d line : ℕ) where

@@ -13,8 +13,7 @@ use Rattle.capacity.specs.Kinds.{PlateKind, plateOf}
 use Rattle.memory.specs.Layout.{hullCount, edit, hullSheet, draftHull, draftSheet}
 use Rattle.memory.specs.Updates.{freshWords, entered, opened, fitted, replaced, dropped, saved}
 use Rattle.register.specs.Refusals.{freshRefusal, roomRefusal, hullRefusal, openRefusal, deskRefusal, setOwn}
-use Rattle.register.specs.Refusals.{saveOwn}
-use Rattle.register.specs.Refusals.{orRefused, leaves, sheetOf, onText}
+use Rattle.register.specs.Refusals.{saveOwn, orRefused, leaves, sheetOf, onText}
 
 -- what a desk does on its draft: sets a fitting line to a weight and a count; replaces it by a text; tries a plate
 pub data Work : Type 0 where

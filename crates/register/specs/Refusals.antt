@@ -42,8 +42,8 @@ deskRefusal m d = cond (formed m) (cond (ltb d desks) (cond (eqb (held m d) 0) n
 
 -- ---- what only this call asks
 
--- set a fitting line, 02 (ix): that there is such a line and that it may have this weight and count, which both are 0 to
--- empty it; and then, of a line that is to be emptied, that it is not empty on the sheet s
+-- set a fitting line, 02 (ix): that there is such a line and that it may have this weight and count, both 0 to empty
+-- it; and then, of a line that is to be emptied, that it is not empty on the sheet s, which its weight tells
 abbrev pub setOwn : List ℕ → ℕ → ℕ → ℕ → ℕ
 setOwn s line weight count =
     cond (leb 1 line && (leb line fittings && fitOk weight count))

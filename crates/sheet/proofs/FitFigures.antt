@@ -81,11 +81,11 @@ unfolding refused ended readSheet sheetForm feeds sinceFeed
     readForm readParts readRows kindOf readLine agreed readNumbers readEntry fieldOf numberOf restOf
 refused-right = refl
 
--- its lines from the 11th on, which is where its bytes part from those of the sheet without a count
+-- 01's sheet with its count, from its FIT line on; the sheet without one is the same before
 fit-and-end : List ℕ
 fit-and-end = bytes "FIT\t1\t3334\t1\nEND\n"
 
--- 01's sheet with its count stopped before a byte of these, or spoilt there, is wrong at that byte
+-- stopped before a byte of these, or spoilt there, it is wrong at that byte
 new-bytes-right :
     (each (λ k. ended (readSheet (take k newSample))) 222 fit-and-end ≡ places 11 1 fit-and-end)
     × (each (λ k. ended (readSheet (set newSample k 13))) 222 fit-and-end ≡ places 11 1 fit-and-end)

@@ -131,10 +131,6 @@ fitted-numbers from letter (n ∷ w ∷ c ∷ d ∷ ns) e h =
 row-three : (n w c : ℕ) → fitRow n w c .numbers ≡ n ∷ w ∷ c ∷ []
 row-three n w c = refl
 
--- a line's number, weight and count, all of them there
-pub line-fitted : (n w c : ℕ) → allHold (fitLine .limits) 0 (n ∷ w ∷ c ∷ []) ≡ true → Fitted 1 (fitRow n w c)
-line-fitted n w c h = fitted-numbers 1 (letterOf fitLine) (n ∷ w ∷ c ∷ []) refl h
-
 pub fitted : (next from : ℕ) (r : Row) → max 1 next ≡ from → rowOk fitPart next r ≡ true → Fitted from r
 fitted next from r m h =
     let o = only-held fitPart fitLine next r refl h in
