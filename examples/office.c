@@ -544,7 +544,7 @@ static void tell_open(const struct work *w, wb_answer a)
 static wb_answer ask_set(struct work *w)
 {
     w->limits = "line 1 to 24, weight of one piece 1 to 500000 g, 1 to 99 pieces, which together weigh at most 500000 g; "
-                "weight 0 and count 0 together empty the line";
+                "a count left out is 1, and weight 0 and count 0 together empty the line";
     return wb_set_fitting(w->words, w->count, w->number[0], w->number[1], w->number[2], w->number[3]);
 }
 

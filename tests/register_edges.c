@@ -1,4 +1,4 @@
-/* register_edges.c: memories with one word changed, wrong sizes, the last edit numbers, and the order of the register's refusals. */
+/* register_edges.c: memories with one word changed, wrong sizes, the last edit numbers, the order of the register's refusals, and fitting lines. */
 #include "layout.h"
 #include "material.h"
 #include "parts.h"
@@ -96,6 +96,13 @@ static int alone(uint32_t word)
     return word != 0 && at != LENGTH_NUMBER && at != REFERENCE_NUMBER && !of_fitting && !(word < DESK_AT(0) && at == 0);
 }
 
+/* A word so changed that every call refuses the memory. */
+static void spoil_word(uint32_t word, uint32_t to)
+{
+    for (uint32_t turn = 0; turn < JUDGING; turn++)
+        change_word(word, to, 0, turn);
+}
+
 static void change_every_word(uint32_t hulls, uint32_t drafts)
 {
     static uint32_t turn;
@@ -105,11 +112,11 @@ static void change_every_word(uint32_t hulls, uint32_t drafts)
         uint32_t low, high;
         limits_of(word, hulls, drafts, &low, &high);
         if (high < 0xFFFFFFFF) {
-            change_word(word, high + 1, 0, turn++);
+            spoil_word(word, high + 1);
             change_word(word, 0xFFFFFFFF, 0, turn++);
         }
         if (low > 0)
-            change_word(word, low - 1, 0, turn++);
+            spoil_word(word, low - 1);
         /* a desk's mark set to 1 makes a draft of what was free there */
         if ((high < 0xFFFFFFFF && !alone(word)) || (word >= DESK_AT(drafts) && (word - DESK_AT(0)) % DESK_WORDS == 0))
             continue;
@@ -127,9 +134,9 @@ static void change_bound_words(void)
     for (uint32_t slot = 0; slot < WB_HULLS + WB_DESKS; slot++) {
         uint32_t length = slot < WB_HULLS ? HULL_AT(slot) + 1 : DESK_AT(slot - WB_HULLS) + 3, is = mem[length], reference = mem[length + 1];
         change_word(length + 1, is, 1, slot);
-        change_word(length + 1, is + 1, 0, slot + 1);
+        spoil_word(length + 1, is + 1);
         change_word(length, reference, 1, slot + 2);
-        change_word(length, reference - 1, 0, slot + 3);
+        spoil_word(length, reference - 1);
         if (slot >= WB_HULLS)
             continue;
         change_word(HULL_AT(slot), 2, 1, slot + 4);
@@ -406,7 +413,7 @@ static void try_fittings_at(uint32_t desk, int full)
         expect_set_at(desk, line, 0, 0, 0);
         expect_set_at(desk, line, 0, 0, 17);
         if (!full)
-            expect_set_at(desk, line, 1, 1, 0);
+            expect_set_at(desk, line, 500000, 1, 0); /* in the end as heavy as a draft can be */
     }
 }
 
@@ -424,7 +431,7 @@ static void try_fittings(void)
 static const struct {
     uint32_t weight, count, refusal;
 } settings[] = {
-    {1, 1, 0}, {500000, 1, 0}, {250000, 2, 0}, {166666, 3, 0}, {5050, 99, 0}, {1, 99, 0}, {5102, 98, 0},
+    {1, 1, 0}, {12, 12, 0}, {50, 90, 0}, {500000, 1, 0}, {250000, 2, 0}, {166666, 3, 0}, {5050, 99, 0}, {1, 99, 0}, {5102, 98, 0},
     {0, 1, 3}, {0, 99, 3}, {0, 100, 3}, {0, 500, 3}, {0, 0xFFFFFFFF, 3}, {1, 0, 3}, {500000, 0, 3}, {500001, 0, 3}, {0xFFFFFFFF, 0, 3},
     {1, 100, 3}, {5, 100, 3}, {500001, 1, 3}, {500000, 2, 3}, {250001, 2, 3}, {166667, 3, 3}, {5051, 99, 3}, {5103, 98, 3}, {500000, 99, 3},
     {99, 5050, 3}, {2, 250000, 3}, {65536, 65536, 3}, {0x80000000, 2, 3}, {0x80000001, 2, 3}, {2, 0x80000001, 3}, {0x80000000, 0x80000000, 3},
@@ -459,6 +466,8 @@ static void try_emptied_fittings(void)
     enter_lines(0);
     for (uint32_t count = 1; count <= 99; count++) {
         expect_set(7, heaviest(count), count, 0);
+        expect_set(7, heaviest(count), 0, 3);
+        expect_set(7, 0, count, 3);
         expect_set(7, 0, 0, 0);
     }
     for (uint32_t weight = 1; weight <= 500000; weight *= 2) {
@@ -491,7 +500,7 @@ static void try_lone_zeros(void)
 /* A line that there is not is refused with 3, whatever it is to be set to, and with 0 and 0 too: what is there is asked after that. */
 static void try_other_lines(void)
 {
-    static const uint32_t lines[] = {0, 25, 26, 32, 256, 257, 65537, 0x7FFFFFFF, 0x80000000, 0x80000001, 0xFFFFFFFF};
+    static const uint32_t lines[] = {0, 25, 26, 27, 28, 29, 30, 31, 32, 256, 257, 65537, 0x7FFFFFFF, 0x80000000, 0x80000001, 0xFFFFFFFF};
     begin_part("fittings on lines that there are not");
     for (int full = 0; full < 2; full++) {
         enter_lines(full);
