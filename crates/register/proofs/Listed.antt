@@ -13,8 +13,7 @@ use Rattle.answers.specs.Refusals.{badMemory, emptyLine}
 use Rattle.answers.specs.declared.Answer.{Answer}
 use Rattle.answers.specs.declared.Answer.the-variants.{Refused, Done, Count}
 use Rattle.answers.proofs.Outcomes.{OfList, text-listed}
-use Rattle.sheet.specs.Lines.{fittings}
-use Rattle.sheet.specs.Sheet.{noFitting, fitOk}
+use Rattle.sheet.specs.Sheet.{noFitting}
 use Rattle.sheet.specs.Places.{fittingWord}
 use Rattle.sheet.specs.SheetText.{readSheet}
 use Rattle.sheet.proofs.SheetText.{sheet-fault}
@@ -29,6 +28,7 @@ use Rattle.register.specs.Refusals.{orRefused, onText}
 use Rattle.register.specs.Calls.{Work, setFitting, replace, tryPlate, Ask, plate, write}
 use Rattle.register.specs.Calls.{Call, newHull, openHull, work, save, dropDraft, ask, workAnswer, askAnswer}
 use Rattle.register.specs.Calls.{shared, own, freshStep, step}
+use Rattle.register.proofs.Own.{within}
 
 -- a refusal's number: of the list, or 0 for none
 abbrev OrNone : ℕ → Type 0
@@ -69,7 +69,7 @@ shared-listed m (ask h q) = either OrNone (formed m) (either OrNone (ltb h (hull
 
 set-listed : (s : List ℕ) (line w c : ℕ) → OrNone (setOwn s line w c)
 set-listed s line w c =
-    either OrNone (leb 1 line && (leb line fittings && fitOk w c))
+    either OrNone (within line w c)
     (either OrNone (noFitting w c && eqb (getD s (fittingWord line) 0) 0) refl refl) refl
 
 save-listed : (m : List ℕ) (d : ℕ) → OrNone (saveOwn m d)

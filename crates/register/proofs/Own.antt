@@ -27,6 +27,22 @@ pub line-word : (m : List ℕ) (d line : ℕ)
     → getD (draftSheet m d) (fittingWord line) 0 ≡ getD m (fittingAt d line) 0
 line-word m d line j = part-word m (draftSheetAt d) sheetWords (fittingWord line) (omega (arith, j))
 
+-- that a line may be set so, as the check asks it and by its parts
+module _ (line weight count : ℕ) where
+  abbrev pub within : Bool
+  within = leb 1 line && (leb line fittings && fitOk weight count)
+
+  pub record SetFits : Type 0 where
+    pub low : 1 ≤ line
+    pub high : line ≤ fittings
+    pub fits : fitOk weight count ≡ true
+
+  pub within-fits : within ≡ true → SetFits
+  within-fits h =
+      let a = both-hold (leb 1 line) (leb line fittings && fitOk weight count) h in
+      let b = both-hold (leb line fittings) (fitOk weight count) (a .1) in
+      record { low = leb-true 1 line (a .0); high = leb-true line fittings (b .0); fits = b .1 }
+
 module _ (s : List ℕ) (line weight count : ℕ) where
   pub set-line-low : line < 1 → outsideLimits ≡ setOwn s line weight count
   set-line-low l = rw (lt-leb 1 line l) refl
@@ -52,17 +68,8 @@ module _ (s : List ℕ) (line weight count : ℕ) where
       pub set-emptied : (w ≡ 0 → ⊥) → 0 ≡ setOwn s line weight count
       set-emptied n = rw (le-leb 1 line k, le-leb line fittings j, z, no-count, ← f, ne-eqb w 0 n) refl
 
-  pub record SetFits : Type 0 where
-    pub low : 1 ≤ line
-    pub high : line ≤ fittings
-    pub fits : fitOk weight count ≡ true
-
-  pub set-fits : setOwn s line weight count ≡ 0 → SetFits
-  set-fits z =
-      let within = leb line fittings && fitOk weight count in
-      let a = both-hold (leb 1 line) within (passes (leb 1 line && within) _ outsideLimits refl z .0) in
-      let b = both-hold (leb line fittings) (fitOk weight count) (a .1) in
-      record { low = leb-true 1 line (a .0); high = leb-true line fittings (b .0); fits = b .1 }
+  pub set-fits : setOwn s line weight count ≡ 0 → SetFits line weight count
+  set-fits z = within-fits line weight count (passes (within line weight count) _ outsideLimits refl z .0)
 
 -- ---- save
 

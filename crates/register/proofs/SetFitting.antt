@@ -2,14 +2,14 @@
 -- refused with 3, whatever the draft has; then emptying a line that is empty, with 17; all else is done, on a full line
 -- as on an empty one.
 use mathlib.Core.Path.{_≡_, refl, sym, _∙_}
-use mathlib.Core.Bool.{Bool, true, _&&_, true≢false}
+use mathlib.Core.Bool.{true, true≢false}
 use mathlib.Core.Logic.{_⊎_, inl, inr}
 use mathlib.Core.List.{List, []}
 use Prim.Native.Nat.{ℕ, _≤_}
 use native.Mathlib.Omega.{arith}
-use borrow.Author.Tests.{leb-true, le-leb, eqb-true}
-use lib.Dec.{eqb, leb}
-use Rattle.ground.proofs.Booleans.{both-true, both-hold, by-test}
+use borrow.Author.Tests.{le-leb, eqb-true}
+use lib.Dec.{eqb}
+use Rattle.ground.proofs.Booleans.{both-true, by-test}
 use Rattle.answers.specs.Refusals.{outsideLimits, emptyLine}
 use Rattle.answers.specs.declared.Answer.the-variants.{Refused, Done}
 use Rattle.sheet.specs.Lines.{fittings}
@@ -19,7 +19,7 @@ use Rattle.memory.specs.Layout.{draftSheet, fitting}
 use Rattle.memory.specs.Updates.{fitted}
 use Rattle.register.specs.Refusals.{deskRefusal, setOwn, orRefused, leaves}
 use Rattle.register.specs.Calls.{setFitting, work, Step, step}
-use Rattle.register.proofs.Own.{line-word, set-filled, set-empty, set-emptied}
+use Rattle.register.proofs.Own.{line-word, within, within-fits, set-filled, set-empty, set-emptied}
 
 -- ---- what a line may be set to: nothing, or pieces within the limits of a FIT line
 
@@ -39,27 +39,19 @@ fits-has weight count h =
     (λ e. inr (fit-pieces weight count e h))
 
 module _ (line weight count : ℕ) where
-  abbrev within : Bool
-  within = leb 1 line && (leb line fittings && fitOk weight count)
-
-  within-settable : within ≡ true → Settable line weight count
+  within-settable : within line weight count ≡ true → Settable line weight count
   within-settable h =
-      let a = both-hold (leb 1 line) (leb line fittings && fitOk weight count) h in
-      let b = both-hold (leb line fittings) (fitOk weight count) (a .1) in
-      record {
-        low = leb-true 1 line (a .0);
-        high = leb-true line fittings (b .0);
-        has = fits-has weight count (b .1);
-      }
+      let p = within-fits line weight count h in
+      record { low = p .low; high = p .high; has = fits-has weight count (p .fits) }
 
-  settable-within : Settable line weight count → within ≡ true
+  settable-within : Settable line weight count → within line weight count ≡ true
   settable-within s =
       both-true (le-leb 1 line (s .low)) (both-true (le-leb line fittings (s .high)) (has-fits weight count (s .has)))
 
   -- so the cases below are all that there are
   pub settable-or-not : Settable line weight count ⊎ (Settable line weight count → ⊥)
   settable-or-not =
-      by-test within (λ h. inl (within-settable h))
+      by-test (within line weight count) (λ h. inl (within-settable h))
       (λ h. inr (λ s. absurd (true≢false (sym (settable-within s) ∙ h))))
 
 -- ---- the step
