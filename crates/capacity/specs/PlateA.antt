@@ -1,4 +1,5 @@
 -- 01, Plate A (003, A2, A3, 2.6.1), as 02 (ii) amends it. Load first, then power, then the two refusals, 12 before 13.
+-- 02 (vii): M is handed in, so that the load is by a weight m and a sheet s.
 use Prim.Native.Nat.{ℕ, suc, _+_, _-_, _*_}
 use mathlib.Core.Bool.{Bool, _&&_, cond}
 use mathlib.Core.List.{List, [], _∷_}
@@ -12,24 +13,23 @@ use Rattle.capacity.specs.Whole.{floorDiv, ceilDiv, isBelow, orZero}
 use Rattle.capacity.specs.Words.{hullLength, transomWidth, transomHeight, flatBottom, remote, fuel, machinery}
 use Rattle.capacity.specs.Words.{outboard}
 use Rattle.capacity.specs.Volume.{gram, netZ}
-use Rattle.capacity.specs.Weights.{boatM}
 use Rattle.capacity.specs.PlateC.{exactX, markedKilo, rowFor}
 
 -- ---- load
 
 -- an inboard's tanks and machinery count five times
-unfoldable pub inboardX : List ℕ → ℤ
-inboardX s = netZ s -ℤ pos gram *ℤ pos (boatM s) -ℤ pos (5 * gram) *ℤ pos (fuel s + machinery s)
+unfoldable pub inboardX : ℕ → List ℕ → ℤ
+inboardX m s = netZ s -ℤ pos gram *ℤ pos m -ℤ pos (5 * gram) *ℤ pos (fuel s + machinery s)
 
-unfoldable pub loadX : List ℕ → ℤ
-loadX s = cond (eqb (outboard s) 1) (exactX s) (inboardX s)
+unfoldable pub loadX : ℕ → List ℕ → ℤ
+loadX m s = cond (eqb (outboard s) 1) (exactX m s) (inboardX m s)
 
 -- half a marked kilogram, so that the largest whole number not above is the nearest
 abbrev pub halfMarked : ℕ
 halfMarked = 2500 * gram
 
-unfoldable pub markedA : List ℕ → ℤ
-markedA s = floorDiv (loadX s +ℤ pos halfMarked) markedKilo
+unfoldable pub markedA : ℕ → List ℕ → ℤ
+markedA m s = floorDiv (loadX m s +ℤ pos halfMarked) markedKilo
 
 -- ---- power
 
@@ -82,7 +82,7 @@ lacksPower s = eqb (outboard s) 1 && (eqb (flatBottom s) 1 && eqb (rowOf (factor
 
 -- ---- the plate
 
-unfoldable pub plateA : List ℕ → Answer
-plateA s =
-    cond (isBelow (markedA s) 1) (Refused noLoad)
-    (cond (lacksPower s) (Refused noPower) (Plate (orZero (markedA s)) (powerA s)))
+unfoldable pub plateA : ℕ → List ℕ → Answer
+plateA m s =
+    cond (isBelow (markedA m s) 1) (Refused noLoad)
+    (cond (lacksPower s) (Refused noPower) (Plate (orZero (markedA m s)) (powerA s)))

@@ -1,5 +1,5 @@
 -- 01, Plate C (002, 4.3.1 and 4.3.2). Every figure is defined for every sheet; what is refused is judged after, in
--- 01's order: 10, 12, 11, 14, 15.
+-- 01's order: 10, 12, 11, 14, 15. 02 (vii): M is handed in, so that every figure is by a weight m and a sheet s.
 -- Engine rows come as two lists of numbers, powers and weights.
 use Prim.Native.Nat.{ℕ, suc, _+_, _*_}
 use mathlib.Core.Bool.{Bool, true, false, not, _&&_, cond}
@@ -14,24 +14,24 @@ use Rattle.sheet.specs.Lines.{mostRows, enginePowerHigh, engineWeightHigh}
 use Rattle.capacity.specs.Whole.{floorDiv, isBelow, least, orZero}
 use Rattle.capacity.specs.Words.{fuel, machinery, outboard, declared, positions, tested}
 use Rattle.capacity.specs.Volume.{gram, netZ}
-use Rattle.capacity.specs.Weights.{boatM}
 
 -- what X has for each kilogram of a load that is a fifth of it: 5 × 1000 grams, as Z counts them
 abbrev pub markedKilo : ℕ
 markedKilo = 5 * 1000 * gram
 
 -- X: the water's weight less the vessel's, tanks and machinery included
-unfoldable pub exactX : List ℕ → ℤ
-exactX s = netZ s -ℤ pos gram *ℤ pos (boatM s + fuel s + machinery s)
+unfoldable pub exactX : ℕ → List ℕ → ℤ
+exactX m s = netZ s -ℤ pos gram *ℤ pos (m + fuel s + machinery s)
 
 -- gross load: a fifth of X above 1500 W, three tenths at 1500 W or below; marked is the largest whole number of
 -- kilograms not above it
 abbrev pub lowPower : ℕ
 lowPower = 1500
 
-unfoldable pub markedC : List ℕ → ℤ
-markedC s =
-    cond (ltb lowPower (declared s)) (floorDiv (exactX s) markedKilo) (floorDiv (pos 3 *ℤ exactX s) (2 * markedKilo))
+unfoldable pub markedC : ℕ → List ℕ → ℤ
+markedC m s =
+    cond (ltb lowPower (declared s)) (floorDiv (exactX m s) markedKilo)
+    (floorDiv (pos 3 *ℤ exactX m s) (2 * markedKilo))
 
 -- ---- the engine's weight
 
@@ -72,8 +72,8 @@ engineWeight s ps ws = cond (wantsRow s) (getD ws (rowFor (declared s) ps) 0) 0
 -- ---- persons
 
 -- grams; below zero where the engine outweighs the marked load
-unfoldable pub liveLoad : List ℕ → List ℕ → List ℕ → ℤ
-liveLoad s ps ws = pos 1000 *ℤ markedC s -ℤ pos (engineWeight s ps ws)
+unfoldable pub liveLoad : ℕ → List ℕ → List ℕ → List ℕ → ℤ
+liveLoad m s ps ws = pos 1000 *ℤ markedC m s -ℤ pos (engineWeight s ps ws)
 
 abbrev pub personGrams : ℕ
 personGrams = 75000
@@ -93,11 +93,11 @@ lacksTests s live = isBelow live testedGrams && eqb (tested s) 0
 
 -- ---- the plate
 
-unfoldable pub plateC : List ℕ → List ℕ → List ℕ → Answer
-plateC s ps ws =
-    let live = liveLoad s ps ws in
+unfoldable pub plateC : ℕ → List ℕ → List ℕ → List ℕ → Answer
+plateC m s ps ws =
+    let live = liveLoad m s ps ws in
     cond (not (rowsRight ps ws)) (Refused badRows)
-    (cond (isBelow (markedC s) 1) (Refused noLoad)
+    (cond (isBelow (markedC m s) 1) (Refused noLoad)
     (cond (lacksRow s ps) (Refused noRow)
     (cond (lacksTests s live) (Refused untested)
-    (cond (isBelow (persons s live) 1) (Refused noPersons) (Plate (orZero (markedC s)) (orZero (persons s live)))))))
+    (cond (isBelow (persons s live) 1) (Refused noPersons) (Plate (orZero (markedC m s)) (orZero (persons s live)))))))

@@ -1,6 +1,6 @@
 -- 02 (i), Plate U (001, 33 CFR 183.33, 183.35 and 183.37): the pounds that a hull may carry, rounded down. The
 -- displacement is Z, the net volume as water. Every figure
--- is over whole numbers and may be below zero.
+-- is over whole numbers and may be below zero. 02 (vii): M is handed in, so that all is by a weight m and a sheet s.
 use Prim.Native.Nat.{ℕ, _+_, _*_}
 use mathlib.Core.Bool.{cond}
 use mathlib.Core.List.{List}
@@ -12,7 +12,6 @@ use Rattle.answers.specs.Refusals.{noLoad}
 use Rattle.capacity.specs.Whole.{floorDiv, isBelow, greatest, orZero}
 use Rattle.capacity.specs.Words.{fuel, machinery, outboard, declared}
 use Rattle.capacity.specs.Volume.{gram, netZ}
-use Rattle.capacity.specs.Weights.{boatM}
 
 -- ---- the figures
 
@@ -26,24 +25,24 @@ abbrev pub figure : ℕ → ℕ → ℕ → Figure
 figure w a b = record { lessGrams = w; times = a; outOf = b }
 
 -- boat weight: bare boat, fittings and permanent tanks with fuel
-abbrev pub boatB : List ℕ → ℕ
-boatB s = boatM s + fuel s
+abbrev pub boatB : ℕ → List ℕ → ℕ
+boatB m s = m + fuel s
 
 -- 183.35, outboards: (displacement − boat weight) / 5
-abbrev pub outboardFifth : List ℕ → Figure
-outboardFifth s = figure (boatB s) 1 5
+abbrev pub outboardFifth : ℕ → List ℕ → Figure
+outboardFifth m s = figure (boatB m s) 1 5
 
 -- 183.37, outboards of two horsepower or less: 3 × (displacement − boat weight) / 10, and the tanks are no part of
 -- the boat weight
-abbrev pub outboardTenths : List ℕ → Figure
-outboardTenths s = figure (boatM s) 3 10
+abbrev pub outboardTenths : ℕ → Figure
+outboardTenths m = figure m 3 10
 
 -- 183.33, inboards: (displacement − boat weight − 4 × machinery weight) / 5, and (displacement − boat weight) / 7
-abbrev pub inboardFifth : List ℕ → Figure
-inboardFifth s = figure (boatB s + 4 * machinery s) 1 5
+abbrev pub inboardFifth : ℕ → List ℕ → Figure
+inboardFifth m s = figure (boatB m s + 4 * machinery s) 1 5
 
-abbrev pub inboardSeventh : List ℕ → Figure
-inboardSeventh s = figure (boatB s) 1 7
+abbrev pub inboardSeventh : ℕ → List ℕ → Figure
+inboardSeventh m s = figure (boatB m s) 1 7
 
 -- ---- which of them apply
 
@@ -56,11 +55,11 @@ pub data Rule : Type 0 where
 abbrev pub twoHorses : ℕ
 twoHorses = 1491
 
-unfoldable pub ruleU : List ℕ → Rule
-ruleU s =
+unfoldable pub ruleU : ℕ → List ℕ → Rule
+ruleU m s =
     cond (eqb (outboard s) 1)
-    (cond (ltb twoHorses (declared s)) (onlyOne (outboardFifth s)) (onlyOne (outboardTenths s)))
-    (greaterOf (inboardFifth s) (inboardSeventh s))
+    (cond (ltb twoHorses (declared s)) (onlyOne (outboardFifth m s)) (onlyOne (outboardTenths m)))
+    (greaterOf (inboardFifth m s) (inboardSeventh m s))
 
 -- ---- in pounds
 
@@ -86,10 +85,10 @@ abbrev pub poundsBy : List ℕ → Rule → ℤ
 poundsBy s (onlyOne f) = pounds s f
 poundsBy s (greaterOf f g) = greatest (pounds s f) (pounds s g)
 
-unfoldable pub markedU : List ℕ → ℤ
-markedU s = poundsBy s (ruleU s)
+unfoldable pub markedU : ℕ → List ℕ → ℤ
+markedU m s = poundsBy s (ruleU m s)
 
 -- ---- the plate
 
-unfoldable pub plateU : List ℕ → Answer
-plateU s = cond (isBelow (markedU s) 1) (Refused noLoad) (Count (orZero (markedU s)))
+unfoldable pub plateU : ℕ → List ℕ → Answer
+plateU m s = cond (isBelow (markedU m s) 1) (Refused noLoad) (Count (orZero (markedU m s)))

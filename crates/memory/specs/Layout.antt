@@ -18,24 +18,28 @@ desks = 8
 abbrev pub countAt : ℕ
 countAt = 0
 
--- a hull's slot: its edit number, its sheet
+-- a hull's slot: its edit number, the boat's weight (02 (vii)), its sheet
 abbrev firstEdit : ℕ
 firstEdit = 1 + countAt
 
+abbrev firstHullWeight : ℕ
+firstHullWeight = 1 + firstEdit
+
 abbrev firstHullSheet : ℕ
-firstHullSheet = 1 + firstEdit
+firstHullSheet = 1 + firstHullWeight
 
 abbrev pub hullWords : ℕ
 hullWords = firstHullSheet + sheetWords - firstEdit
 
 -- its words before the sheet, and all of them
-abbrev pub hullFront : ℕ → List ℕ
-hullFront number = number ∷ []
+abbrev pub hullFront : ℕ → ℕ → List ℕ
+hullFront number weight = number ∷ weight ∷ []
 
-abbrev pub hullSlot : ℕ → List ℕ → List ℕ
-hullSlot number sheet = hullFront number ++ sheet
+abbrev pub hullSlot : ℕ → ℕ → List ℕ → List ℕ
+hullSlot number weight sheet = hullFront number weight ++ sheet
 
--- a desk's slot: 1 if it holds a draft and 0 if not, the draft's hull, its opening number, its sheet
+-- a desk's slot: 1 if it holds a draft and 0 if not, the draft's hull, its opening number, the boat's weight by the
+-- draft, its sheet
 abbrev firstHeld : ℕ
 firstHeld = firstEdit + hullWords * mostHulls
 
@@ -45,22 +49,28 @@ firstDraftHull = 1 + firstHeld
 abbrev firstOpening : ℕ
 firstOpening = 1 + firstDraftHull
 
+abbrev firstDraftWeight : ℕ
+firstDraftWeight = 1 + firstOpening
+
 abbrev firstDraftSheet : ℕ
-firstDraftSheet = 1 + firstOpening
+firstDraftSheet = 1 + firstDraftWeight
 
 abbrev pub draftWords : ℕ
 draftWords = firstDraftSheet + sheetWords - firstHeld
 
-abbrev pub draftFront : ℕ → ℕ → List ℕ
-draftFront hull number = 1 ∷ hull ∷ number ∷ []
+abbrev pub draftFront : ℕ → ℕ → ℕ → List ℕ
+draftFront hull number weight = 1 ∷ hull ∷ number ∷ weight ∷ []
 
-abbrev pub draftSlot : ℕ → ℕ → List ℕ → List ℕ
-draftSlot hull number sheet = draftFront hull number ++ sheet
+abbrev pub draftSlot : ℕ → ℕ → ℕ → List ℕ → List ℕ
+draftSlot hull number weight sheet = draftFront hull number weight ++ sheet
 
 -- ---- and of every slot, which starts with its first word
 
 abbrev pub editAt : ℕ → ℕ
 editAt i = firstEdit + hullWords * i
+
+abbrev pub hullWeightAt : ℕ → ℕ
+hullWeightAt i = firstHullWeight + hullWords * i
 
 abbrev pub hullSheetAt : ℕ → ℕ
 hullSheetAt i = firstHullSheet + hullWords * i
@@ -77,6 +87,9 @@ draftHullAt d = firstDraftHull + draftWords * d
 abbrev pub openingAt : ℕ → ℕ
 openingAt d = firstOpening + draftWords * d
 
+abbrev pub draftWeightAt : ℕ → ℕ
+draftWeightAt d = firstDraftWeight + draftWords * d
+
 abbrev pub draftSheetAt : ℕ → ℕ
 draftSheetAt d = firstDraftSheet + draftWords * d
 
@@ -86,6 +99,10 @@ draftAt d = heldAt d
 -- weight and count on a fitting line of a desk's draft: the weight stands there, its count after it
 abbrev pub fittingAt : ℕ → ℕ → ℕ
 fittingAt d line = draftSheetAt d + fittingWord line
+
+-- a sheet with the boat's weight before it, so many words on end in either kind of slot
+abbrev pub weighedWords : ℕ
+weighedWords = 1 + sheetWords
 
 abbrev pub registerWords : ℕ
 registerWords = draftAt desks
@@ -105,6 +122,9 @@ hullCount m = getD m countAt 0
 abbrev pub edit : List ℕ → ℕ → ℕ
 edit m i = getD m (editAt i) 0
 
+abbrev pub hullWeight : List ℕ → ℕ → ℕ
+hullWeight m i = getD m (hullWeightAt i) 0
+
 abbrev pub hullSheet : List ℕ → ℕ → List ℕ
 hullSheet m i = part m (hullSheetAt i) sheetWords
 
@@ -116,6 +136,9 @@ draftHull m d = getD m (draftHullAt d) 0
 
 abbrev pub opening : List ℕ → ℕ → ℕ
 opening m d = getD m (openingAt d) 0
+
+abbrev pub draftWeight : List ℕ → ℕ → ℕ
+draftWeight m d = getD m (draftWeightAt d) 0
 
 abbrev pub draftSheet : List ℕ → ℕ → List ℕ
 draftSheet m d = part m (draftSheetAt d) sheetWords

@@ -16,8 +16,7 @@ use Rattle.form.specs.Outcome.{right, wrong}
 use Rattle.sheet.specs.SheetText.{readSheet}
 use Rattle.sheet.specs.EngineText.{readEngines, powersOf, weightsOf}
 use Rattle.ground.specs.Lists.{putFirst}
-use Rattle.capacity.specs.PlateA.{plateA}
-use Rattle.capacity.specs.PlateC.{plateC}
+use Rattle.capacity.specs.Kinds.{kindA, kindC, plateOf}
 use Rattle.printout.specs.Input.{mostInput, sheetPart, enginePart}
 
 -- a line of so many figures after its tag; a figure is any number of 32 bits
@@ -37,8 +36,8 @@ plateText marked refused (Count n) = []
 
 unfoldable pub platesText : List ℕ → List ℕ → List ℕ → List ℕ
 platesText s ps ws =
-    plateText (bytes "PLATE\tA\t") (bytes "REFUSED\tA\t") (plateA s)
-    ++ plateText (bytes "PLATE\tC\t") (bytes "REFUSED\tC\t") (plateC s ps ws)
+    plateText (bytes "PLATE\tA\t") (bytes "REFUSED\tA\t") (plateOf kindA s)
+    ++ plateText (bytes "PLATE\tC\t") (bytes "REFUSED\tC\t") (plateOf (kindC ps ws) s)
 
 -- of a sheet's words and the bytes after it
 unfoldable pub rowsPrinted : List ℕ → List ℕ → List ℕ

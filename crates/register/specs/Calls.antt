@@ -9,8 +9,8 @@ use Rattle.answers.specs.declared.WbAnswer.{WbAnswer}
 use Rattle.answers.specs.Settled.{Settled}
 use Rattle.answers.specs.Values.{faced}
 use Rattle.sheet.specs.TextCalls.{writeAnswer, writeInto}
-use Rattle.capacity.specs.Kinds.{PlateKind, plateOf}
-use Rattle.memory.specs.Layout.{hullCount, edit, hullSheet, draftHull, draftSheet}
+use Rattle.capacity.specs.Kinds.{PlateKind, plateBy}
+use Rattle.memory.specs.Layout.{hullCount, edit, hullWeight, hullSheet, draftHull, draftWeight, draftSheet}
 use Rattle.memory.specs.Updates.{freshWords, entered, opened, fitted, replaced, dropped, saved}
 use Rattle.register.specs.Refusals.{freshRefusal, roomRefusal, hullRefusal, openRefusal, deskRefusal, setOwn}
 use Rattle.register.specs.Refusals.{saveOwn, orRefused, leaves, sheetOf, onText}
@@ -21,9 +21,11 @@ pub data Work : Type 0 where
   replace : List ℕ → Work
   tryPlate : PlateKind → Work
 
--- what is asked of a hull: a plate, and its text into a lent output, which is given as it stood
+-- what is asked of a hull: a plate; the boat's weight, 02 (vii); and its text into a lent output, which is given as it
+-- stood
 pub data Ask : Type 0 where
   plate : PlateKind → Ask
+  weigh : Ask
   write : List ℕ → Ask
 
 pub data Call : Type 0 where
@@ -38,6 +40,7 @@ pub data Call : Type 0 where
 
 abbrev pub askLent : Ask → List ℕ
 askLent (plate k) = []
+askLent weigh = []
 askLent (write out) = out
 
 abbrev pub lent : Call → List ℕ
@@ -60,25 +63,26 @@ shared m (ask h q) = hullRefusal m h
 
 -- ---- what it then answers
 
--- work on a draft whose sheet is s
-abbrev pub workAnswer : Work → List ℕ → Answer
-workAnswer (setFitting line weight count) s = orRefused (setOwn s line weight count) Done
-workAnswer (replace t) s = onText t Done
-workAnswer (tryPlate k) s = plateOf k s
+-- work on a draft whose sheet is s and whose boat weighs w; the weight is the one that is held, and so below
+abbrev pub workAnswer : Work → ℕ → List ℕ → Answer
+workAnswer (setFitting line weight count) w s = orRefused (setOwn s line weight count) Done
+workAnswer (replace t) w s = onText t Done
+workAnswer (tryPlate k) w s = plateBy k w s
 
--- what is asked of hull h, whose sheet is s; it is written under the register's number
-abbrev pub askAnswer : ℕ → Ask → List ℕ → Answer
-askAnswer h (plate k) s = plateOf k s
-askAnswer h (write out) s = writeAnswer (h ∷ s) (length out)
+-- what is asked of hull h, whose sheet is s and whose boat weighs w; it is written under the register's number
+abbrev pub askAnswer : ℕ → Ask → ℕ → List ℕ → Answer
+askAnswer h (plate k) w s = plateBy k w s
+askAnswer h weigh w s = Count w
+askAnswer h (write out) w s = writeAnswer (h ∷ s) (length out)
 
 -- a new hull answers its number; open and save answer the edit number
 abbrev pub own : List ℕ → Call → Answer
 own m (newHull t) = onText t (Count (hullCount m))
 own m (openHull d h) = Count (edit m h)
-own m (work d w) = workAnswer w (draftSheet m d)
+own m (work d w) = workAnswer w (draftWeight m d) (draftSheet m d)
 own m (save d) = orRefused (saveOwn m d) (Count (edit m (draftHull m d) + 1))
 own m (dropDraft d) = Done
-own m (ask h q) = askAnswer h q (hullSheet m h)
+own m (ask h q) = askAnswer h q (hullWeight m h) (hullSheet m h)
 
 -- ---- what it makes, where nothing refuses it: of the memory, and of the lent output
 
@@ -98,6 +102,7 @@ makes m (ask h q) = m
 
 abbrev pub askFills : ℕ → Ask → List ℕ → List ℕ
 askFills h (plate k) s = []
+askFills h weigh s = []
 askFills h (write out) s = writeInto (h ∷ s) out
 
 abbrev pub fills : List ℕ → Call → List ℕ
