@@ -3,6 +3,7 @@ pub mod Whole  -- whole numbers as differences of two sums
 pub mod Order  -- their order, the lesser and the greater
 pub mod Volume  -- a station's product, and N by a running total
 pub mod Weights  -- F, line by line
+pub mod LineSet  -- M when a line is set
 pub mod Loads  -- the loads as what adds and what takes away
 pub mod Most  -- the most that the sums come to
 pub mod Power  -- plate A's power, by the case that the code finds

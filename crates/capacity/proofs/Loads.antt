@@ -8,9 +8,8 @@ use lib.Dec.{eqb}
 use borrow.Author.Tests.{lt-ltb, le-ltb}
 use lib.IntN.{pos, subℕ, _+ℤ_, _-ℤ_, _*ℤ_}
 use Rattle.capacity.specs.Whole.{floorDiv, orZero}
-use Rattle.capacity.specs.Words.{aft, well, flooding, bare, fuel, machinery, outboard, declared, fittingsOf}
+use Rattle.capacity.specs.Words.{aft, well, flooding, fuel, machinery, outboard, declared}
 use Rattle.capacity.specs.Volume.{volumeN, gram, netZ}
-use Rattle.capacity.specs.Weights.{addedUp, boatM}
 use Rattle.capacity.specs.PlateC.{exactX, markedC, lowPower, markedKilo}
 use Rattle.capacity.specs.PlateA.{halfMarked, inboardX, loadX, markedA}
 use Rattle.capacity.proofs.Whole.{Differ, of-pos, of-sub, sum-of, less-of, times-of, is-sub}
@@ -22,12 +21,12 @@ gain s = volumeN s + gram * aft s
 abbrev pub loss : ℕ → List ℕ → ℕ
 loss w s = gram * (well s + flooding s + w)
 
--- what a boat weighs with tanks and machinery, counted once, and five times as plate A has it for an inboard
-abbrev pub vessel : List ℕ → ℕ
-vessel s = boatM s + (fuel s + machinery s)
+-- what a boat of m grams weighs with tanks and machinery, counted once, and five times as plate A has it for an inboard
+abbrev pub vessel : ℕ → List ℕ → ℕ
+vessel m s = m + (fuel s + machinery s)
 
-abbrev pub inboardVessel : List ℕ → ℕ
-inboardVessel s = boatM s + 5 * (fuel s + machinery s)
+abbrev pub inboardVessel : ℕ → List ℕ → ℕ
+inboardVessel m s = m + 5 * (fuel s + machinery s)
 
 -- the largest whole number not above (a − b) / d, or 0 where that is below zero
 abbrev pub wholePart : ℕ → ℕ → ℕ → ℕ
@@ -50,42 +49,37 @@ module _ (s : List ℕ) where
   pub net-less : (w : ℕ) → netZ s -ℤ pos gram *ℤ pos w ≡ subℕ (gain s) (loss w s)
   net-less w = is-sub (gain s) (loss w s) (less-of net (times-of gram (of-pos w))) (omega arith)
 
-  exact-is : exactX s ≡ subℕ (gain s) (loss (vessel s) s)
+module _ (m : ℕ) (s : List ℕ) where
+  exact-is : exactX m s ≡ subℕ (gain s) (loss (vessel m s) s)
   unfolding exactX
   exact-is =
-      is-sub (gain s) (loss (vessel s) s) (less-of net (times-of gram (of-pos (boatM s + fuel s + machinery s))))
+      is-sub (gain s) (loss (vessel m s) s) (less-of (net s) (times-of gram (of-pos (m + fuel s + machinery s))))
       (omega arith)
 
-  inboard-is : inboardX s ≡ subℕ (gain s) (loss (inboardVessel s) s)
+  inboard-is : inboardX m s ≡ subℕ (gain s) (loss (inboardVessel m s) s)
   unfolding inboardX
   inboard-is =
       let carried = times-of (5 * gram) (of-pos (fuel s + machinery s)) in
-      is-sub (gain s) (loss (inboardVessel s) s) (less-of (less-of net (times-of gram (of-pos (boatM s)))) carried)
+      is-sub (gain s) (loss (inboardVessel m s) s) (less-of (less-of (net s) (times-of gram (of-pos m))) carried)
       (omega arith)
 
   -- ---- the marked loads, by the case that the code finds
 
-  pub marked-high : lowPower < declared s → wholePart (gain s) (loss (vessel s) s) markedKilo ≡ orZero (markedC s)
+  pub marked-high : lowPower < declared s → wholePart (gain s) (loss (vessel m s) s) markedKilo ≡ orZero (markedC m s)
   unfolding markedC
   marked-high h = rw (lt-ltb lowPower (declared s) h, exact-is) refl
 
   pub marked-low : declared s ≤ lowPower
-      → wholePart (3 * gain s) (3 * loss (vessel s) s) (2 * markedKilo) ≡ orZero (markedC s)
+      → wholePart (3 * gain s) (3 * loss (vessel m s) s) (2 * markedKilo) ≡ orZero (markedC m s)
   unfolding markedC
-  marked-low h = rw (le-ltb lowPower (declared s) h, exact-is, times-sub 3 (gain s) (loss (vessel s) s)) refl
+  marked-low h = rw (le-ltb lowPower (declared s) h, exact-is, times-sub 3 (gain s) (loss (vessel m s) s)) refl
 
   pub marked-outboard : eqb (outboard s) 1 ≡ true
-      → wholePart (gain s + halfMarked) (loss (vessel s) s) markedKilo ≡ orZero (markedA s)
+      → wholePart (gain s + halfMarked) (loss (vessel m s) s) markedKilo ≡ orZero (markedA m s)
   unfolding markedA loadX
-  marked-outboard e = rw (e, exact-is, added (gain s) (loss (vessel s) s) halfMarked) refl
+  marked-outboard e = rw (e, exact-is, added (gain s) (loss (vessel m s) s) halfMarked) refl
 
   pub marked-inboard : eqb (outboard s) 1 ≡ false
-      → wholePart (gain s + halfMarked) (loss (inboardVessel s) s) markedKilo ≡ orZero (markedA s)
+      → wholePart (gain s + halfMarked) (loss (inboardVessel m s) s) markedKilo ≡ orZero (markedA m s)
   unfolding markedA loadX
-  marked-inboard e = rw (e, inboard-is, added (gain s) (loss (inboardVessel s) s) halfMarked) refl
-
-  -- ---- the boat as the code adds it up
-
-  pub boat-is : boatM s ≡ bare s + addedUp (fittingsOf s)
-  unfolding boatM
-  boat-is = refl
+  marked-inboard e = rw (e, inboard-is, added (gain s) (loss (inboardVessel m s) s) halfMarked) refl

@@ -17,10 +17,10 @@ use Rattle.capacity.specs.Volume.{stationsN, volumeN, gram}
 use Rattle.capacity.specs.Weights.{boatM}
 use Rattle.capacity.specs.PlateC.{markedC, lowPower, markedKilo}
 use Rattle.capacity.specs.PlateA.{halfMarked, markedA}
-use Rattle.capacity.specs.Highs.{highAt, Stations, heaviest}
+use Rattle.capacity.specs.Highs.{highAt, wordMost, Stations, boatMost, heaviest}
 use Rattle.capacity.proofs.Volume.{productMost, product-most}
 use Rattle.capacity.proofs.Within.{aft-most, well-most, flooding-most, bare-most, fuel-most, machinery-most}
-use Rattle.capacity.proofs.Within.{fittings-within, stations-within}
+use Rattle.capacity.proofs.Within.{bare-least, fittings-within, stations-within}
 use Rattle.capacity.proofs.Weights.{sum-most}
 use Rattle.capacity.proofs.Loads.{gain, loss, vessel, inboardVessel, wholePart}
 use Rattle.capacity.proofs.Loads.{marked-high, marked-low, marked-outboard, marked-inboard}
@@ -64,36 +64,44 @@ module _ (s : List ℕ) (ok : wordsOk s ≡ true) where
   pub gain-most : gain s ≤ gainMost
   gain-most = omega (arith, volume-most, aft-most s ok)
 
-  pub weight-most : inboardVessel s ≤ heaviest
+  -- M, which is never 0
+  pub boat-most : boatM s ≤ boatMost
   unfolding boatM
-  weight-most =
-      omega (arith, sum-most s (fittings-within s ok), bare-most s ok, fuel-most s ok, machinery-most s ok)
+  boat-most = omega (arith, sum-most s (fittings-within s ok), bare-most s ok)
+
+  pub boat-some : 1 ≤ boatM s
+  unfolding boatM
+  boat-some = omega (arith, bare-least s ok)
+
+  -- by any weight that is handed in for it
+  pub weight-most : {m : ℕ} → m ≤ wordMost → inboardVessel m s ≤ heaviest
+  weight-most h = omega (arith, fuel-most s ok, machinery-most s ok)
 
   pub loss-most : {w : ℕ} → w ≤ heaviest → loss w s ≤ lossMost
   loss-most h = omega (arith, well-most s ok, flooding-most s ok)
 
-  pub lost-most : loss (inboardVessel s) s ≤ lossMost
-  lost-most = loss-most weight-most
+  pub lost-most : {m : ℕ} → m ≤ wordMost → loss (inboardVessel m s) s ≤ lossMost
+  lost-most h = loss-most (weight-most h)
 
   -- ---- a marked load fits 32 bits
 
-  pub marked-most : orZero (markedA s) ≤ 20000
-  marked-most = go (eqb (outboard s) 1) refl
+  pub marked-most : (m : ℕ) → orZero (markedA m s) ≤ 20000
+  marked-most m = go (eqb (outboard s) 1) refl
     where
       below : (w : ℕ) → markedKilo * wholePart (gain s + halfMarked) (loss w s) markedKilo ≤ gain s + halfMarked
       below w = floor-most (gain s + halfMarked) (loss w s) markedKilo
 
-      go : (t : Bool) → eqb (outboard s) 1 ≡ t → orZero (markedA s) ≤ 20000
-      go true e = omega (arith, marked-outboard s e, below (vessel s), gain-most)
-      go false e = omega (arith, marked-inboard s e, below (inboardVessel s), gain-most)
+      go : (t : Bool) → eqb (outboard s) 1 ≡ t → orZero (markedA m s) ≤ 20000
+      go true e = omega (arith, marked-outboard m s e, below (vessel m s), gain-most)
+      go false e = omega (arith, marked-inboard m s e, below (inboardVessel m s), gain-most)
 
-  pub c-most : orZero (markedC s) ≤ 20000
-  c-most = go (ltb lowPower (declared s)) refl
+  pub c-most : (m : ℕ) → orZero (markedC m s) ≤ 20000
+  c-most m = go (ltb lowPower (declared s)) refl
     where
-      go : (t : Bool) → ltb lowPower (declared s) ≡ t → orZero (markedC s) ≤ 20000
+      go : (t : Bool) → ltb lowPower (declared s) ≡ t → orZero (markedC m s) ≤ 20000
       go true e =
-          let below = floor-most (gain s) (loss (vessel s) s) markedKilo in
-          omega (arith, marked-high s (ltb-true lowPower (declared s) e), gain-most)
+          let below = floor-most (gain s) (loss (vessel m s) s) markedKilo in
+          omega (arith, marked-high m s (ltb-true lowPower (declared s) e), gain-most)
       go false e =
-          let below = floor-most (3 * gain s) (3 * loss (vessel s) s) (2 * markedKilo) in
-          omega (arith, marked-low s (ltb-false lowPower (declared s) e), gain-most)
+          let below = floor-most (3 * gain s) (3 * loss (vessel m s) s) (2 * markedKilo) in
+          omega (arith, marked-low m s (ltb-false lowPower (declared s) e), gain-most)

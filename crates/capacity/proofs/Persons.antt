@@ -20,17 +20,17 @@ use Rattle.capacity.proofs.Order.{NotAbove, not-above-trans, least-left
 
 -- ---- in naturals
 
-pub live-is : (s ps ws : List ℕ) {load engine : ℕ}
+pub live-is : (m : ℕ) (s ps ws : List ℕ) {load engine : ℕ}
     → (load ≡ 0 → ⊥)
-    → load ≡ orZero (markedC s)
+    → load ≡ orZero (markedC m s)
     → engine ≡ engineWeight s ps ws
-    → subℕ (1000 * load) engine ≡ liveLoad s ps ws
+    → subℕ (1000 * load) engine ≡ liveLoad m s ps ws
 unfolding liveLoad
-live-is s ps ws h e f =
-    let m = orZero (markedC s) in
+live-is m s ps ws h e f =
+    let n = orZero (markedC m s) in
     let w = engineWeight s ps ws in
-    let whole = ap (λ (z : ℤ). pos 1000 *ℤ z -ℤ pos w) (whole-pos (markedC s) (omega (arith, h, e))) in
-    rw (e, f) (sym (whole ∙ is-sub (1000 * m) w (less-of (of-pos (1000 * m)) (of-pos w)) (omega arith)))
+    let whole = ap (λ (z : ℤ). pos 1000 *ℤ z -ℤ pos w) (whole-pos (markedC m s) (omega (arith, h, e))) in
+    rw (e, f) (sym (whole ∙ is-sub (1000 * n) w (less-of (of-pos (1000 * n)) (of-pos w)) (omega arith)))
 
 module _ (s : List ℕ) (gross engine : ℕ) where
   pub tested-wanted : {t : Bool}

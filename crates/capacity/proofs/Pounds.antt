@@ -22,31 +22,31 @@ use Rattle.capacity.proofs.Rounding.{Largest, floor-largest}
 
 -- ---- which figures apply
 
-pub u-high : (s : List ℕ) → eqb (outboard s) 1 ≡ true → twoHorses < declared s → ruleU s ≡ onlyOne (outboardFifth s)
+pub u-high : (m : ℕ) (s : List ℕ) → eqb (outboard s) 1 ≡ true → twoHorses < declared s → ruleU m s ≡ onlyOne (outboardFifth m s)
 unfolding ruleU
-u-high s e h = rw (e, lt-ltb twoHorses (declared s) h) refl
+u-high m s e h = rw (e, lt-ltb twoHorses (declared s) h) refl
 
-pub u-low : (s : List ℕ) → eqb (outboard s) 1 ≡ true → declared s ≤ twoHorses → ruleU s ≡ onlyOne (outboardTenths s)
+pub u-low : (m : ℕ) (s : List ℕ) → eqb (outboard s) 1 ≡ true → declared s ≤ twoHorses → ruleU m s ≡ onlyOne (outboardTenths m)
 unfolding ruleU
-u-low s e h = rw (e, le-ltb twoHorses (declared s) h) refl
+u-low m s e h = rw (e, le-ltb twoHorses (declared s) h) refl
 
 -- an inboard's two, whatever its power
-pub u-inboard : (s : List ℕ) → eqb (outboard s) 1 ≡ false → ruleU s ≡ greaterOf (inboardFifth s) (inboardSeventh s)
+pub u-inboard : (m : ℕ) (s : List ℕ) → eqb (outboard s) 1 ≡ false → ruleU m s ≡ greaterOf (inboardFifth m s) (inboardSeventh m s)
 unfolding ruleU
-u-inboard s e = rw e refl
+u-inboard m s e = rw e refl
 
 -- what holds of the rule that each hull has holds of every hull's
-pub by-hull : (P : Rule → Type 0) (s : List ℕ)
-    → P (onlyOne (outboardFifth s))
-    → P (onlyOne (outboardTenths s))
-    → P (greaterOf (inboardFifth s) (inboardSeventh s))
-    → P (ruleU s)
+pub by-hull : (P : Rule → Type 0) (m : ℕ) (s : List ℕ)
+    → P (onlyOne (outboardFifth m s))
+    → P (onlyOne (outboardTenths m))
+    → P (greaterOf (inboardFifth m s) (inboardSeventh m s))
+    → P (ruleU m s)
 unfolding ruleU
-by-hull P s a b c = go (eqb (outboard s) 1) (ltb twoHorses (declared s))
+by-hull P m s a b c = go (eqb (outboard s) 1) (ltb twoHorses (declared s))
   where
     go : (t u : Bool)
-        → P (cond t (cond u (onlyOne (outboardFifth s)) (onlyOne (outboardTenths s)))
-        (greaterOf (inboardFifth s) (inboardSeventh s)))
+        → P (cond t (cond u (onlyOne (outboardFifth m s)) (onlyOne (outboardTenths m)))
+        (greaterOf (inboardFifth m s) (inboardSeventh m s)))
     go true true = a
     go true false = b
     go false u = c
@@ -119,20 +119,20 @@ greater-largest s f g p r =
     one (inl e) = inl (rw e (floored s f p .fits))
     one (inr e) = inr (rw e (floored s g r .fits))
 
-pub u-largest : (s : List ℕ) → LargestBy s (ruleU s) (markedU s)
+pub u-largest : (m : ℕ) (s : List ℕ) → LargestBy s (ruleU m s) (markedU m s)
 unfolding markedU
-u-largest s =
-    by-hull (λ (r : Rule). LargestBy s r (poundsBy s r)) s (one-largest s (outboardFifth s) (lit< tt))
-    (one-largest s (outboardTenths s) (lit< tt))
-    (greater-largest s (inboardFifth s) (inboardSeventh s) (lit< tt) (lit< tt))
+u-largest m s =
+    by-hull (λ (r : Rule). LargestBy s r (poundsBy s r)) m s (one-largest s (outboardFifth m s) (lit< tt))
+    (one-largest s (outboardTenths m) (lit< tt))
+    (greater-largest s (inboardFifth m s) (inboardSeventh m s) (lit< tt) (lit< tt))
 
 -- an inboard is marked below neither of its figures
-pub u-neither : (s : List ℕ)
+pub u-neither : (m : ℕ) (s : List ℕ)
     → eqb (outboard s) 1 ≡ false
-    → NotAbove (pounds s (inboardFifth s)) (markedU s) × NotAbove (pounds s (inboardSeventh s)) (markedU s)
+    → NotAbove (pounds s (inboardFifth m s)) (markedU m s) × NotAbove (pounds s (inboardSeventh m s)) (markedU m s)
 unfolding markedU
-u-neither s e =
-    rw (u-inboard s e) (
-      greatest-left (pounds s (inboardFifth s)) (pounds s (inboardSeventh s)),
-      greatest-right (pounds s (inboardFifth s)) (pounds s (inboardSeventh s)),
+u-neither m s e =
+    rw (u-inboard m s e) (
+      greatest-left (pounds s (inboardFifth m s)) (pounds s (inboardSeventh m s)),
+      greatest-right (pounds s (inboardFifth m s)) (pounds s (inboardSeventh m s)),
     )

@@ -39,13 +39,13 @@ floor-largest (negsuc n) d p =
 
 -- ---- the marked loads
 
-pub c-largest-high : (s : List ℕ) → lowPower < declared s → Largest (exactX s) markedKilo (markedC s)
+pub c-largest-high : (m : ℕ) (s : List ℕ) → lowPower < declared s → Largest (exactX m s) markedKilo (markedC m s)
 unfolding markedC
-c-largest-high s h = rw (lt-ltb lowPower (declared s) h) (floor-largest (exactX s) markedKilo (lit< tt))
+c-largest-high m s h = rw (lt-ltb lowPower (declared s) h) (floor-largest (exactX m s) markedKilo (lit< tt))
 
-pub c-largest-low : (s : List ℕ) → declared s ≤ lowPower → Largest (pos 3 *ℤ exactX s) (2 * markedKilo) (markedC s)
+pub c-largest-low : (m : ℕ) (s : List ℕ) → declared s ≤ lowPower → Largest (pos 3 *ℤ exactX m s) (2 * markedKilo) (markedC m s)
 unfolding markedC
-c-largest-low s h = rw (le-ltb lowPower (declared s) h) (floor-largest (pos 3 *ℤ exactX s) (2 * markedKilo) (lit< tt))
+c-largest-low m s h = rw (le-ltb lowPower (declared s) h) (floor-largest (pos 3 *ℤ exactX m s) (2 * markedKilo) (lit< tt))
 
 -- z is at least q × d less a half of d, and below q × d and a half of d
 pub record Nearest (z : ℤ) (half : ℕ) (q : ℤ) : Type 0 where
@@ -64,9 +64,9 @@ nearest-of z q l =
           (sum-of (times-of (2 * halfMarked) dq) (of-pos halfMarked)) (omega arith);
     }
 
-pub a-nearest : (s : List ℕ) → Nearest (loadX s) halfMarked (markedA s)
+pub a-nearest : (m : ℕ) (s : List ℕ) → Nearest (loadX m s) halfMarked (markedA m s)
 unfolding markedA
-a-nearest s = nearest-of (loadX s) (markedA s) (floor-largest (loadX s +ℤ pos halfMarked) markedKilo (lit< tt))
+a-nearest m s = nearest-of (loadX m s) (markedA m s) (floor-largest (loadX m s +ℤ pos halfMarked) markedKilo (lit< tt))
 
 -- ---- the raise
 

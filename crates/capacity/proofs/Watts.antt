@@ -75,45 +75,45 @@ wattsOf (Count n) = 0
 wattsOf (Plate load watts) = watts
 
 -- where plate A marks a load it tells this power, 13 counted as 0
-pub told-power : (s : List ℕ) → isBelow (markedA s) 1 ≡ false → wattsOf (plateA s) ≡ powerA s
+pub told-power : (m : ℕ) (s : List ℕ) → isBelow (markedA m s) 1 ≡ false → wattsOf (plateA m s) ≡ powerA s
 unfolding plateA wattsOf
-told-power s e = rw e (go (lacksPower s) refl)
+told-power m s e = rw e (go (lacksPower s) refl)
   where
     go : (u : Bool)
         → lacksPower s ≡ u
-        → wattsOf (cond u (Refused noPower) (Plate (orZero (markedA s)) (powerA s))) ≡ powerA s
+        → wattsOf (cond u (Refused noPower) (Plate (orZero (markedA m s)) (powerA s))) ≡ powerA s
     go true n = sym (unpowered s n)
     go false n = refl
 
 -- and no more than it where it does not
-told-most : (s : List ℕ) → wattsOf (plateA s) ≤ powerA s
+told-most : (m : ℕ) (s : List ℕ) → wattsOf (plateA m s) ≤ powerA s
 unfolding plateA wattsOf
-told-most s =
-    either (λ (a : Answer). wattsOf a ≤ powerA s) (isBelow (markedA s) 1) (omega arith)
+told-most m s =
+    either (λ (a : Answer). wattsOf a ≤ powerA s) (isBelow (markedA m s) 1) (omega arith)
     (either (λ (a : Answer). wattsOf a ≤ powerA s) (lacksPower s) (omega arith) (omega arith))
 
-told-order : (s t : List ℕ)
+told-order : (m n : ℕ) (s t : List ℕ)
     → OneRig s t
     → Flatter s t
     → factorP s ≤ factorP t
-    → isBelow (markedA t) 1 ≡ false
-    → wattsOf (plateA s) ≤ wattsOf (plateA t)
-told-order s t r f h e = omega (arith, told-most s, power-order s t r f h, told-power t e)
+    → isBelow (markedA n t) 1 ≡ false
+    → wattsOf (plateA m s) ≤ wattsOf (plateA n t)
+told-order m n s t r f h e = omega (arith, told-most m s, power-order s t r f h, told-power n t e)
 
--- of hulls of one kind the power never falls as P grows
-pub never-falls : (s t : List ℕ)
+-- of hulls of one kind, whatever they weigh, the power never falls as P grows
+pub never-falls : (m n : ℕ) (s t : List ℕ)
     → OneRig s t
     → flatBottom s ≡ flatBottom t
     → factorP s ≤ factorP t
-    → isBelow (markedA t) 1 ≡ false
-    → wattsOf (plateA s) ≤ wattsOf (plateA t)
-never-falls s t r f h e = told-order s t r (λ x. rw f x) h e
+    → isBelow (markedA n t) 1 ≡ false
+    → wattsOf (plateA m s) ≤ wattsOf (plateA n t)
+never-falls m n s t r f h e = told-order m n s t r (λ x. rw f x) h e
 
 -- a flat bottom never gets more than another of the same P and rig
-pub flat-no-more : (s t : List ℕ)
+pub flat-no-more : (m n : ℕ) (s t : List ℕ)
     → OneRig s t
     → flatBottom s ≡ 1
     → factorP s ≡ factorP t
-    → isBelow (markedA t) 1 ≡ false
-    → wattsOf (plateA s) ≤ wattsOf (plateA t)
-flat-no-more s t r f h e = told-order s t r (λ x. eq-eqb _ _ f) (omega (arith, h)) e
+    → isBelow (markedA n t) 1 ≡ false
+    → wattsOf (plateA m s) ≤ wattsOf (plateA n t)
+flat-no-more m n s t r f h e = told-order m n s t r (λ x. eq-eqb _ _ f) (omega (arith, h)) e

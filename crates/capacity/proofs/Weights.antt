@@ -17,7 +17,7 @@ use Rattle.sheet.specs.Places.{fittingsAt, fittingWord, sheetWords}
 use Rattle.sheet.proofs.FitRow.{fit-pieces}
 use Rattle.sheet.proofs.Fits.{fits-length}
 use Rattle.capacity.specs.Words.{fittingsOf}
-use Rattle.capacity.specs.Weights.{addedUp}
+use Rattle.capacity.specs.Weights.{lineWeight, addedUp}
 use Rattle.capacity.specs.Samples.{onePiece}
 use Rattle.capacity.specs.Highs.{Fittings}
 
@@ -40,16 +40,12 @@ sum-end s k h = rw (drop-of-length-le s {i = 2 * k} h)
 
 -- ---- by the lines of a sheet
 
--- what the pieces on a line weigh
-abbrev pub lineWeight : List ℕ → ℕ → ℕ
-lineWeight s line = getD s (fittingWord line) 0 * getD s (fittingWord line + 1) 0
-
--- and those on the lines up to it
+-- what the pieces on the lines up to one weigh
 unfoldable pub upToLine : List ℕ → ℕ → ℕ
 upToLine s zero = 0
 upToLine s (suc k) = upToLine s k + lineWeight s (suc k)
 
-line-pieces : (s : List ℕ) (k : ℕ) → pieces (fittingsOf s) k ≡ lineWeight s (suc k)
+pub line-pieces : (s : List ℕ) (k : ℕ) → pieces (fittingsOf s) k ≡ lineWeight s (suc k)
 line-pieces s k =
     let e : fittingWord (suc k) ≡ fittingsAt + 2 * k = omega arith in
     let f : fittingsAt + (2 * k + 1) ≡ fittingsAt + 2 * k + 1 = omega arith in

@@ -64,9 +64,14 @@ pub record Fittings (s : List ℕ) : Type 0 where
 
 -- ---- sums and products
 
--- grams that no plate takes a boat to weigh more than: an inboard of plate A, with every mass and fitting at its most
+-- the greatest M, with the bare boat and every fitting line at its most
+abbrev pub boatMost : ℕ
+boatMost = highAt bareAt + fittings * fittingHigh
+
+-- grams that no plate takes a boat to weigh more than: an inboard of plate A, with tanks and machinery at their most,
+-- whatever weight of 32 bits is handed in for M
 abbrev pub heaviest : ℕ
-heaviest = highAt bareAt + fittings * fittingHigh + 5 * (highAt fuelAt + highAt machineryAt)
+heaviest = wordMost + 5 * (highAt fuelAt + highAt machineryAt)
 
 -- a power factor above the table of plate A
 pub record AboveTable (s : List ℕ) (p : ℕ) : Type 0 where

@@ -10,8 +10,10 @@ use Rattle.answers.specs.declared.Answer.{Answer}
 use Rattle.answers.specs.declared.Answer.the-variants.{Refused, RefusedAt, Done, Count, Plate}
 use Rattle.answers.specs.Refusals.{noPower}
 use Rattle.sheet.specs.Sheet.{wordsOk}
-use Rattle.capacity.specs.PlateC.{markedC, plateC}
-use Rattle.capacity.specs.PlateA.{markedA, plateA}
+use Rattle.capacity.specs.Weights.{boatM}
+use Rattle.capacity.specs.PlateC.{markedC}
+use Rattle.capacity.specs.PlateA.{markedA}
+use Rattle.capacity.specs.Kinds.{kindA, kindC, plateOf}
 
 -- ---- the base hull, and what a case changes of it
 
@@ -83,14 +85,14 @@ second-is (Plate a b) n = eqb b n
 
 -- with rows that reach every declared power
 unfoldable pub answer-c : List ℕ → Answer
-answer-c s = plateC s (200000 ∷ []) (60000 ∷ [])
+answer-c s = plateOf (kindC (200000 ∷ []) (60000 ∷ [])) s
 
 unfoldable pub holds-of : List ℕ → Said → Bool
-holds-of s (loadC n) = marks (markedC s) n && agrees (answer-c s) n
-holds-of s (loadA n) = marks (markedA s) n && agrees (plateA s) n
-holds-of s (powerA-is n) = second-is (plateA s) n
+holds-of s (loadC n) = marks (markedC (boatM s) s) n && agrees (answer-c s) n
+holds-of s (loadA n) = marks (markedA (boatM s) s) n && agrees (plateOf kindA s) n
+holds-of s (powerA-is n) = second-is (plateOf kindA s) n
 holds-of s (refusedC n) = refuses (answer-c s) n
-holds-of s (refusedA n) = refuses (plateA s) n
+holds-of s (refusedA n) = refuses (plateOf kindA s) n
 
 -- a case stands: its sheet is within the limits, and what it says holds
 unfoldable pub stands : Case → Bool
