@@ -87,7 +87,7 @@ single-pieces (w ∷ ws) =
 
 -- ---- at most
 
-fit-most : (w c : ℕ) → fitOk w c ≡ true → w * c ≤ fittingHigh
+pub fit-most : (w c : ℕ) → fitOk w c ≡ true → w * c ≤ fittingHigh
 fit-most w c h =
     by-test (eqb w 0) (λ e. rw (eqb-true w 0 e) (omega arith)) (λ e. fit-pieces w c e h .counted .product)
 

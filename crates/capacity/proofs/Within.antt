@@ -59,6 +59,13 @@ at-least (l ∷ ls) last (n ∷ ns) e zero h = holds-low l last n (both-hold (ho
 at-least (l ∷ ls) last (n ∷ ns) e (suc k) h =
     at-least ls n ns (both-hold (holds l last n) (allHold ls n ns) e .1) k (omega arith)
 
+-- of the words before the fittings, by themselves
+pub run-most : (s : List ℕ) → allHold (limitsOn (drop 1 lines)) 0 (take fittingsAt s) ≡ true
+    → (place : ℕ) → place < fittingsAt → getD s place 0 ≤ highAt place
+unfolding limitsOn
+run-most s e place l =
+    rw (getD-take fittingsAt s place 0 l) at (at-most (limitsOn (drop 1 lines)) 0 (take fittingsAt s) e place)
+
 module _ (s : List ℕ) (ok : wordsOk s ≡ true) where
   run : (allHold (limitsOn (drop 1 lines)) 0 (take fittingsAt s) ≡ true) × (fitsOk fittings (fittingsOf s) ≡ true)
   run =
@@ -66,9 +73,7 @@ module _ (s : List ℕ) (ok : wordsOk s ≡ true) where
       (sym (words-run s (words-length s ok)) ∙ ok)
 
   pub word-most : (place : ℕ) → place < fittingsAt → getD s place 0 ≤ highAt place
-  unfolding limitsOn
-  word-most place l =
-      rw (getD-take fittingsAt s place 0 l) at (at-most (limitsOn (drop 1 lines)) 0 (take fittingsAt s) (run .0) place)
+  word-most = run-most s (run .0)
 
   -- a boat weighs something
   pub bare-least : 1 ≤ bare s

@@ -1,18 +1,22 @@
 -- Words in two parts, the second of which does not look back at the first, are within limits where both parts are; and
 -- so are all words where those before the fittings and the fittings are.
 use mathlib.Core.Path.{_≡_, refl, sym, ap, _∙_}
-use mathlib.Core.Bool.{Bool, true, false, _&&_}
+use mathlib.Core.Bool.{Bool, true, false, _&&_, cond}
 use mathlib.Core.List.{List, _++_, map-append}
 use Prim.Native.Nat.{ℕ, _+_, _-_, _≤_}
 use native.Mathlib.Omega.{arith}
-use lib.ListN.{length, take, drop, length-drop, length-map}
+use lib.Dec.{lit<}
+use lib.ListN.{length, getD, take, drop, length-drop, length-map}
 use lib.Seq.{take-add, drop-drop, length-take-le}
 use Rattle.ground.proofs.Stores.{rest-part}
 use Rattle.text.specs.Limit.{allHold, limitOf, limitsOf}
 use Rattle.sheet.specs.Lines.{lines, fittings}
 use Rattle.sheet.specs.Sheet.{limitsOn, limitRows, fitsOk, wordsOk}
-use Rattle.sheet.specs.Places.{fittingsAt, sheetWords}
+use Rattle.sheet.specs.Places.{bareAt, fittingsAt, sheetWords}
 use Rattle.sheet.proofs.Held.{opens, linesOpen, hold-parts, ok-run}
+use Rattle.capacity.specs.Weights.{addedUp, boatM}
+use Rattle.capacity.specs.Highs.{highAt}
+use Rattle.capacity.proofs.Within.{run-most}
 use Rattle.measuring.specs.Part.{wordRows, partOk, WordPart}
 
 -- ---- the parts as the code lends them
@@ -108,8 +112,17 @@ module _ (ws : List ℕ) (n : length ws ≡ sheetWords) where
     whole : (first && fitsOk fittings (fitWords ws)) ≡ wordsOk ws
     whole = rw told (sym words-parted)
 
-    pub fits-tell : {second : Bool} → first ≡ true → second ≡ fitsOk fittings (fitWords ws) → second ≡ wordsOk ws
-    fits-tell p q = q ∙ rw p at whole
+    -- the bare boat among them
+    pub bare-few : first ≡ true → getD ws bareAt 0 ≤ highAt bareAt
+    unfolding partOk
+    bare-few p = run-most ws (rw rows-lines at (sym told ∙ p)) bareAt (lit< tt)
 
-    pub words-fail : first ≡ false → false ≡ wordsOk ws
-    words-fail p = rw p at whole
+    pub fits-tell : {weight : ℕ}
+        → first ≡ true
+        → weight ≡ cond (fitsOk fittings (fitWords ws)) (getD ws bareAt 0 + addedUp (fitWords ws)) 0
+        → weight ≡ cond (wordsOk ws) (boatM ws) 0
+    unfolding boatM
+    fits-tell p q = q ∙ rw (← rw p at whole, rest-part ws fittingsAt)
+
+    pub words-fail : first ≡ false → 0 ≡ cond (wordsOk ws) (boatM ws) 0
+    words-fail p = rw (← rw p at whole)

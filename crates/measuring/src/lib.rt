@@ -1,11 +1,15 @@
-// Whether the numbers of a sheet are within their limits: the quick check that the register and the writer make. Words
-// of alike limits are judged together, by the greatest of them, and fittings line by line.
+// Whether the numbers of a sheet are within their limits, and what its boat weighs: the quick check that the register
+// and the writer make. Words of alike limits are judged together, by the greatest of them, and fittings line by line,
+// each weighed as it is judged.
 ghost use mathlib.Core.Path.{_≡_};
-ghost use Prim.Native.Nat.{_+_, _*_, _<_};
+ghost use mathlib.Core.Bool.{cond};
+ghost use Prim.Native.Nat.{_+_, _*_, _≤_, _<_};
 ghost use lib.ListN.{length};
 ghost use Rattle.sheet.specs.Lines.{fittings};
 ghost use Rattle.sheet.specs.Sheet.{fitOk, fitsOk, wordsOk, sheetOk};
-ghost use Rattle.sheet.specs.Places.{readings, stations, stationAt, aftAt, fittingsAt, sheetWords, textWords};
+ghost use Rattle.sheet.specs.Places.{readings, stations, stationAt, aftAt, bareAt, fittingsAt, sheetWords, textWords};
+ghost use Rattle.capacity.specs.Weights.{addedUp, boatM};
+ghost use Rattle.capacity.specs.Highs.{highAt};
 ghost use Rattle.measuring.specs.Part.{partOk, Lent, WordPart, AlikePart};
 use sheet::AFT;
 use sheet::BARE;
@@ -96,20 +100,41 @@ pub fn fit_ok(weight: u32, count: u32) -> bool
     weight as u64 * count as u64 <= FITTING_HIGH as u64
 }
 
-// The same of all fitting lines.
-fn fits_ok(fits: &[u32]) -> bool
-    requires { ⌜ length (now fits) ≡ 2 * fittings ⌝ }
-    ensures { λ r. ⌜ r ≡ fitsOk fittings (now (fits .entry)) ⌝ }
+// What a bare boat weighs with its fittings, which are judged on the way: 0 where a line is outside the limits.
+fn with_fittings(bare: u32, fits: &[u32]) -> u32
+    requires { ⌜ (bare ≤ highAt bareAt) × (length (now fits) ≡ 2 * fittings) ⌝ }
+    ensures { λ r. ⌜ r ≡ cond (fitsOk fittings (now (fits .entry))) (bare + addedUp (now (fits .entry))) 0 ⌝ }
 {
+    let mut total = bare as u64;
     let mut line = 0;
     while line < FITTINGS {
-        if fit_ok(fits[2 * line], fits[2 * line + 1]) {
+        let weight = fits[2 * line];
+        let count = fits[2 * line + 1];
+        if fit_ok(weight, count) {
+            total += weight as u64 * count as u64;
             line += 1;
         } else {
-            return false;
+            return 0;
         }
     }
-    true
+    total as u32
+}
+
+// M, what the boat weighs by the words of a sheet, without its HULL number, that are within their limits. It is 0 of
+// others alone, since no boat weighs nothing.
+pub fn weigh(words: &[u32]) -> u32
+    requires { ⌜ length (now words) ≡ sheetWords ⌝ }
+    ensures { λ r. ⌜ r ≡ cond (wordsOk (now (words .entry))) (boatM (now (words .entry))) 0 ⌝ }
+{
+    // Lent on as a part of itself, it goes in registers and takes no stack (DECISIONS).
+    let words = &words[..];
+    let limits = LIMITS;
+    if part_ok(&limits[1..], words, LENGTH, STATION_Q) {
+        if from_stations(&limits[1..], words) {
+            return with_fittings(words[BARE], &words[FITTED..]);
+        }
+    }
+    0
 }
 
 // Whether the words of a sheet, without its HULL number, are within their limits.
@@ -117,15 +142,7 @@ pub fn words_ok(words: &[u32]) -> bool
     requires { ⌜ length (now words) ≡ sheetWords ⌝ }
     ensures { λ r. ⌜ r ≡ wordsOk (now (words .entry)) ⌝ }
 {
-    // Lent on as a part of itself, it goes in registers and takes no stack (DECISIONS).
-    let words = &words[..];
-    let limits = LIMITS;
-    if part_ok(&limits[1..], words, LENGTH, STATION_Q) {
-        if from_stations(&limits[1..], words) {
-            return fits_ok(&words[FITTED..]);
-        }
-    }
-    false
+    weigh(words) != 0
 }
 
 // Whether a sheet's numbers, its HULL number first, are within their limits.
