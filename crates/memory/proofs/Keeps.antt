@@ -1,5 +1,5 @@
 -- Every change keeps the memory well formed.
-use mathlib.Core.Path.{_≡_}
+use mathlib.Core.Path.{_≡_, refl}
 use mathlib.Core.Bool.{true}
 use mathlib.Core.Logic.{inl, inr}
 use mathlib.Core.List.{List}
@@ -8,16 +8,21 @@ use native.Mathlib.Omega.{arith}
 use Rattle.sheet.specs.Lines.{fittings}
 use Rattle.sheet.specs.Sheet.{fitOk, wordsOk}
 use Rattle.sheet.proofs.Words.{words-length}
+use Rattle.capacity.specs.Weights.{boatM}
+use Rattle.capacity.proofs.Scale.{Weighed}
 use Rattle.memory.specs.Layout.{mostHulls, desks, heldAt, hullCount, edit, draftHull, draftSheet, Drafting}
 use Rattle.memory.specs.Formed.{mostEdits, formed}
 use Rattle.memory.specs.Updates.{freshWords, entered, opened, fitted, replaced, dropped, saved}
 use Rattle.memory.proofs.Sound.{Draft, sound, sound-formed, held-draft}
 use Rattle.memory.proofs.Same.{same-or-not, same-hull, same-draft, desk-formed, sheet-formed}
-use Rattle.memory.proofs.Fittings.{fitted-words}
-use Rattle.memory.proofs.Changes.{fresh-changes, entered-changes, opened-changes}
-use Rattle.memory.proofs.Changes.{fitted-changes, replaced-changes, dropped-changes, saved-changes}
+use Rattle.memory.proofs.Fittings.{fitted-words, weight-follows}
+use Rattle.memory.proofs.DeskChanges.{opened-changes, fitted-changes, replaced-changes, dropped-changes}
+use Rattle.memory.proofs.Changes.{fresh-changes, entered-changes, saved-changes}
 
 -- ---- fresh start, and a hull entered
+
+own : (s : List ℕ) → wordsOk s ≡ true → Weighed (boatM s) s
+own s w = record { within = w; weight-is = refl }
 
 pub fresh-formed : formed freshWords ≡ true
 fresh-formed =
@@ -44,7 +49,7 @@ entered-formed m s f l w =
       size = c .size;
       few = omega (arith, c .counts);
       hulls = λ (i : ℕ) (k : i < hullCount (entered m s)). elim (same-or-not i (hullCount m)) [
-        | inl q ↦ rw q (record { number = omega (arith, c .number); sheet = rw (c .sheet) w })
+        | inl q ↦ rw q (record { number = omega (arith, c .number); sheet = rw (c .weight, c .sheet) (own s w) })
         | inr n ↦
             let j : i < hullCount m = omega (arith, c .counts) in
             same-hull (c .others i (omega arith) n) (a .hulls i j)
@@ -69,7 +74,7 @@ module _ (m : List ℕ) (d : ℕ) where
         holds = c .holds;
         entered = omega (arith, c .hull, c .rest .counts);
         opened = omega (arith, c .number, number);
-        sheet = rw (c .sheet) (a .hulls h k .sheet);
+        sheet = rw (c .weight, c .sheet) (a .hulls h k .sheet);
       }))
 
   pub fitted-formed :
@@ -82,8 +87,12 @@ module _ (m : List ℕ) (d : ℕ) where
       → fitOk w c ≡ true
       → formed (fitted m d line w c) ≡ true
   fitted-formed line w c f l n a b h =
+      let k = held-draft m d f l n .sheet in
       sheet-formed m (fitted m d line w c) d f l n (fitted-changes m d line w c (sound m f .size) l a b)
-      (fitted-words w c h (draftSheet m d) line (held-draft m d f l n .sheet) a b)
+      (record {
+        within = fitted-words w c h (draftSheet m d) line (k .within) a b;
+        weight-is = weight-follows m d line w c k a b;
+      })
 
   pub replaced-formed :
       (s : List ℕ)
@@ -93,7 +102,8 @@ module _ (m : List ℕ) (d : ℕ) where
       → wordsOk s ≡ true
       → formed (replaced m d s) ≡ true
   replaced-formed s f l n w =
-      sheet-formed m (replaced m d s) d f l n (replaced-changes m d s (sound m f .size) l (words-length s w)) w
+      sheet-formed m (replaced m d s) d f l n (replaced-changes m d s (sound m f .size) l (words-length s w))
+      (own s w)
 
   pub dropped-formed : formed m ≡ true → d < desks → formed (dropped m d) ≡ true
   dropped-formed f l =
@@ -122,7 +132,7 @@ module _ (m : List ℕ) (d : ℕ) where
         size = c .size;
         few = omega (arith, c .counts, a .few);
         hulls = λ (i : ℕ) (k : i < hullCount (saved m d)). elim (same-or-not i g) [
-          | inl q ↦ rw q (record { number = omega (arith, c .number); sheet = rw (c .sheet) (h .sheet) })
+          | inl q ↦ rw q (record { number = omega (arith, c .number); sheet = rw (c .weight, c .sheet) (h .sheet) })
           | inr o ↦
               let j : i < hullCount m = omega (arith, c .counts) in
               same-hull (c .others i (omega (arith, a .few)) o) (a .hulls i j)

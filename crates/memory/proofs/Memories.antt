@@ -3,13 +3,14 @@
 use mathlib.Core.Path.{_≡_, refl}
 use mathlib.Core.Bool.{Bool, true, false}
 use mathlib.Core.List.{List, [], _∷_, _++_, map}
-use Prim.Native.Nat.{ℕ, zero, suc}
-use lib.ListN.{set, take, drop, replicate}
+use Prim.Native.Nat.{ℕ, zero, suc, _+_, _*_}
+use lib.ListN.{getD, set, take, drop, replicate}
 use Rattle.text.specs.Limit.{allHold}
 use Rattle.text.proofs.Examples.{upFrom}
 use Rattle.sheet.specs.Sheet.{fitsOk, okOn}
-use Rattle.memory.specs.Layout.{registerWords, fitting, fittingAt}
-use Rattle.memory.specs.Layout.{hullCount, edit, hullSheet, held, draftHull, opening, draftSheet}
+use Rattle.capacity.specs.Weights.{addedUp, boatM}
+use Rattle.memory.specs.Layout.{registerWords, fitting, fittingAt, hullCount, edit, hullWeight, hullSheet}
+use Rattle.memory.specs.Layout.{held, draftHull, opening, draftWeight, draftSheet}
 use Rattle.memory.specs.Formed.{each, hullOk, draftOk, formed}
 use Rattle.memory.specs.Updates.{fitted}
 
@@ -25,18 +26,22 @@ sheet =
     ∷ (station ++ (station ++ (station ++ (station
     ++ (0 ∷ 0 ∷ 0 ∷ 200000 ∷ 0 ∷ 0 ∷ 1 ∷ 20000 ∷ 5 ∷ 3 ∷ 3334 ∷ 1 ∷ replicate 46 0)))))
 
+-- what its boat weighs
+abbrev weight : ℕ
+weight = 203334
+
 -- so many hulls at an edit number
 unfoldable pub hulls : ℕ → ℕ → List ℕ
 hulls zero number = []
-hulls (suc n) number = number ∷ (sheet ++ hulls n number)
+hulls (suc n) number = number ∷ weight ∷ (sheet ++ hulls n number)
 
 unfoldable pub draft : ℕ → ℕ → List ℕ
-draft hull number = 1 ∷ hull ∷ number ∷ sheet
+draft hull number = 1 ∷ hull ∷ number ∷ weight ∷ sheet
 
 -- so many desks that hold no draft; what stands in their slots is free
 unfoldable pub idle : ℕ → List ℕ
 idle zero = []
-idle (suc n) = 0 ∷ (replicate 94 99 ++ idle n)
+idle (suc n) = 0 ∷ (replicate 95 99 ++ idle n)
 
 -- sixteen hulls, of which the last is at edit number 65535; desk 7 holds a draft of it as it stands
 unfoldable pub full : List ℕ
@@ -47,34 +52,43 @@ full = 16 ∷ (hulls 15 0 ++ (hulls 1 65535 ++ (idle 7 ++ draft 15 65535)))
 formed-right :
     map formed
     -- the size: none, one word less, one more
-    (full ∷ [] ∷ take 2248 full ∷ (full ++ (0 ∷ []))
+    (full ∷ [] ∷ take 2272 full ∷ (full ++ (0 ∷ []))
     -- the count: too high; so low that a draft is of a hull that is not entered
     ∷ set full 0 17 ∷ set full 0 15
     -- hull 15's edit number, desk 7's mark
-    ∷ set full 1396 65536 ∷ set full 2154 2
+    ∷ set full 1411 65536 ∷ set full 2177 2
     -- the slots of hulls not entered are free
-    ∷ (0 ∷ (replicate 1488 99 ++ idle 8))
+    ∷ (0 ∷ (replicate 1504 99 ++ idle 8))
     ∷ [])
     ≡ true ∷ false ∷ false ∷ false ∷ false ∷ false ∷ false ∷ false ∷ true ∷ []
-unfolding full sheet hulls draft idle formed each hullOk draftOk allHold okOn fitsOk
+unfolding full sheet hulls draft idle formed each hullOk draftOk allHold okOn fitsOk boatM addedUp
 formed-right = refl
 
 -- a hull: its edit number, the first word of its sheet
 hulls-right :
     map (λ (m : List ℕ). hullOk m 15)
-    (full ∷ set full 1396 65534 ∷ set full 1396 65536 ∷ set full 1397 1999 ∷ [])
+    (full ∷ set full 1411 65534 ∷ set full 1411 65536 ∷ set full 1413 1999 ∷ [])
     ≡ true ∷ true ∷ false ∷ false ∷ []
-unfolding full sheet hulls draft idle hullOk allHold okOn fitsOk
+unfolding full sheet hulls draft idle hullOk allHold okOn fitsOk boatM addedUp
 hulls-right = refl
 
 -- a desk: its mark, and of its draft the hull, the opening number, the first word of its sheet
 drafts-right :
     map (λ (m : List ℕ). draftOk m 7)
-    (full ∷ set full 2154 0 ∷ set full 2154 2 ∷ set full 2155 14 ∷ set full 2155 16
-    ∷ set full 2156 65534 ∷ set full 2156 65536 ∷ set full 2157 1999 ∷ [])
+    (full ∷ set full 2177 0 ∷ set full 2177 2 ∷ set full 2178 14 ∷ set full 2178 16
+    ∷ set full 2179 65534 ∷ set full 2179 65536 ∷ set full 2181 1999 ∷ [])
     ≡ true ∷ true ∷ false ∷ false ∷ false ∷ true ∷ false ∷ false ∷ []
-unfolding full sheet hulls draft idle draftOk allHold okOn fitsOk
+unfolding full sheet hulls draft idle draftOk allHold okOn fitsOk boatM addedUp
 drafts-right = refl
+
+-- 02 (vii): the weight beside hull 15's sheet, and beside desk 7's draft: right, one beside, none, the bare boat's
+weights-right :
+    (map (λ (w : ℕ). hullOk (set full 1412 w) 15) (203334 ∷ 203333 ∷ 203335 ∷ 0 ∷ 200000 ∷ [])
+    ≡ true ∷ false ∷ false ∷ false ∷ false ∷ [])
+    × (map (λ (w : ℕ). draftOk (set full 2180 w) 7) (203334 ∷ 203333 ∷ 203335 ∷ 0 ∷ 200000 ∷ [])
+    ≡ true ∷ false ∷ false ∷ false ∷ false ∷ [])
+unfolding full sheet hulls draft idle hullOk draftOk allHold okOn fitsOk boatM addedUp
+weights-right = (refl, refl)
 
 -- 02 (vi): two words that stand on a fitting line
 fits : List (ℕ × ℕ)
@@ -89,43 +103,45 @@ fits =
 fits-right : List Bool
 fits-right = true ∷ false ∷ false ∷ true ∷ false ∷ true ∷ false ∷ true ∷ false ∷ []
 
--- the full register with two words changed
-with : ℕ → ℕ × ℕ → List ℕ
-with at x = set (set full at (x .0)) (suc at) (x .1)
+-- the full register with two words changed, and the weight beside them, which is so much without them
+with : ℕ → ℕ → ℕ → ℕ × ℕ → List ℕ
+with beside without at x = set (set (set full at (x .0)) (suc at) (x .1)) beside (without + x .0 * x .1)
 
 -- on the first line and the last of hull 15, and of desk 7's draft
 lines-right :
-    (map (λ (x : ℕ × ℕ). hullOk (with 1441 x) 15) fits ≡ fits-right)
-    × (map (λ (x : ℕ × ℕ). hullOk (with 1487 x) 15) fits ≡ fits-right)
-    × (map (λ (x : ℕ × ℕ). draftOk (with 2201 x) 7) fits ≡ fits-right)
-    × (map (λ (x : ℕ × ℕ). draftOk (with 2247 x) 7) fits ≡ fits-right)
-unfolding fits fits-right with full sheet hulls draft idle hullOk draftOk allHold okOn fitsOk
+    (map (λ (x : ℕ × ℕ). hullOk (with 1412 200000 1457 x) 15) fits ≡ fits-right)
+    × (map (λ (x : ℕ × ℕ). hullOk (with 1412 weight 1503 x) 15) fits ≡ fits-right)
+    × (map (λ (x : ℕ × ℕ). draftOk (with 2180 200000 2225 x) 7) fits ≡ fits-right)
+    × (map (λ (x : ℕ × ℕ). draftOk (with 2180 weight 2271 x) 7) fits ≡ fits-right)
+unfolding fits fits-right with full sheet hulls draft idle hullOk draftOk allHold okOn fitsOk boatM addedUp
 lines-right = (refl, refl, refl, refl)
 
 -- ---- where things stand
 
 abbrev m : List ℕ
-m = upFrom 2249 0
+m = upFrom 2273 0
 
 -- the words that each getter finds in a memory of 0, 1, 2, .., and in one of none
 places-right :
-    (registerWords ∷ hullCount m ∷ edit m 0 ∷ edit m 15 ∷ [] ≡ 2249 ∷ 0 ∷ 1 ∷ 1396 ∷ [])
-    × (held m 0 ∷ draftHull m 0 ∷ opening m 0 ∷ [] ≡ upFrom 3 1489)
-    × (held m 7 ∷ draftHull m 7 ∷ opening m 7 ∷ [] ≡ upFrom 3 2154)
-    × (hullSheet m 0 ∷ hullSheet m 15 ∷ [] ≡ upFrom 92 2 ∷ upFrom 92 1397 ∷ [])
-    × (draftSheet m 0 ∷ draftSheet m 7 ∷ [] ≡ upFrom 92 1492 ∷ upFrom 92 2157 ∷ [])
-    × (hullCount [] ∷ edit [] 0 ∷ held [] 0 ∷ draftHull [] 0 ∷ opening [] 0 ∷ [] ≡ replicate 5 0)
-    × (fittingAt 0 1 ∷ fittingAt 0 24 ∷ fittingAt 7 1 ∷ fittingAt 7 24 ∷ [] ≡ 1536 ∷ 1582 ∷ 2201 ∷ 2247 ∷ [])
-    × (fitting m 0 1 ∷ fitting m 7 24 ∷ fitting [] 0 1 ∷ [] ≡ 1536 ∷ 2247 ∷ 0 ∷ [])
+    (registerWords ∷ hullCount m ∷ edit m 0 ∷ hullWeight m 0 ∷ edit m 15 ∷ hullWeight m 15 ∷ []
+    ≡ 2273 ∷ 0 ∷ 1 ∷ 2 ∷ 1411 ∷ 1412 ∷ [])
+    × (held m 0 ∷ draftHull m 0 ∷ opening m 0 ∷ draftWeight m 0 ∷ [] ≡ upFrom 4 1505)
+    × (held m 7 ∷ draftHull m 7 ∷ opening m 7 ∷ draftWeight m 7 ∷ [] ≡ upFrom 4 2177)
+    × (hullSheet m 0 ∷ hullSheet m 15 ∷ [] ≡ upFrom 92 3 ∷ upFrom 92 1413 ∷ [])
+    × (draftSheet m 0 ∷ draftSheet m 7 ∷ [] ≡ upFrom 92 1509 ∷ upFrom 92 2181 ∷ [])
+    × (hullCount [] ∷ edit [] 0 ∷ hullWeight [] 0 ∷ held [] 0 ∷ draftHull [] 0 ∷ opening [] 0 ∷ draftWeight [] 0 ∷ []
+    ≡ replicate 7 0)
+    × (fittingAt 0 1 ∷ fittingAt 0 24 ∷ fittingAt 7 1 ∷ fittingAt 7 24 ∷ [] ≡ 1553 ∷ 1599 ∷ 2225 ∷ 2271 ∷ [])
+    × (fitting m 0 1 ∷ fitting m 7 24 ∷ fitting [] 0 1 ∷ [] ≡ 1553 ∷ 2271 ∷ 0 ∷ [])
 unfolding upFrom
 places-right = (refl, refl, refl, refl, refl, refl, refl, refl)
 
--- the words about fitting lines 1 and 2 of desk 7's draft: line 2 set to three pieces, line 1 emptied
+-- the weight and the words about fitting lines 1 and 2 of desk 7's draft: line 2 set to three pieces, line 1 emptied
 -- while line 2 is empty and while it is not
 fitted-right :
-    map (λ (o : List ℕ). take 6 (drop 2200 o))
+    map (λ (o : List ℕ). getD o 2180 0 ∷ take 6 (drop 2224 o))
     (full ∷ fitted full 7 2 1111 3 ∷ fitted full 7 1 0 0 ∷ fitted (fitted full 7 2 1111 3) 7 1 0 0 ∷ [])
-    ≡ (3 ∷ 3334 ∷ 1 ∷ 0 ∷ 0 ∷ 0 ∷ []) ∷ (3 ∷ 3334 ∷ 1 ∷ 1111 ∷ 3 ∷ 0 ∷ []) ∷ (3 ∷ 0 ∷ 0 ∷ 0 ∷ 0 ∷ 0 ∷ [])
-    ∷ (3 ∷ 0 ∷ 0 ∷ 1111 ∷ 3 ∷ 0 ∷ []) ∷ []
+    ≡ (203334 ∷ 3 ∷ 3334 ∷ 1 ∷ 0 ∷ 0 ∷ 0 ∷ []) ∷ (206667 ∷ 3 ∷ 3334 ∷ 1 ∷ 1111 ∷ 3 ∷ 0 ∷ [])
+    ∷ (200000 ∷ 3 ∷ 0 ∷ 0 ∷ 0 ∷ 0 ∷ 0 ∷ []) ∷ (203333 ∷ 3 ∷ 0 ∷ 0 ∷ 1111 ∷ 3 ∷ 0 ∷ []) ∷ []
 unfolding full sheet hulls draft idle fitted
 fitted-right = refl

@@ -9,7 +9,7 @@ use native.Mathlib.Nat.{le-trans}
 use native.Mathlib.Omega.{arith}
 use borrow.Author.Tests.{eqb-true, eqb-false}
 use lib.Dec.{eqb}
-use Rattle.sheet.specs.Sheet.{wordsOk}
+use Rattle.capacity.proofs.Scale.{Weighed}
 use Rattle.memory.specs.Layout.{desks, hullCount, edit, held, draftHull, Drafting}
 use Rattle.memory.specs.Formed.{formed}
 use Rattle.memory.proofs.Slots.{SameHull, SameDraft}
@@ -24,7 +24,7 @@ same-or-not a b = go (eqb a b) refl
     go false e = inr (eqb-false a b e)
 
 pub same-hull : {o m : List ℕ} {i : ℕ} → SameHull o m i → Hull m i → Hull o i
-same-hull s h = record { number = rw (s .number) (h .number); sheet = rw (s .sheet) (h .sheet) }
+same-hull s h = record { number = rw (s .number) (h .number); sheet = rw (s .weight, s .sheet) (h .sheet) }
 
 pub same-draft :
     {o m : List ℕ} {d : ℕ}
@@ -39,7 +39,7 @@ same-draft s c n (inr h) =
       holds = s .holds ∙ h .holds;
       entered = rw (s .hull) (le-trans (h .entered) c);
       opened = rw (s .opened, s .hull) (le-trans (h .opened) (n h));
-      sheet = rw (s .sheet) (h .sheet);
+      sheet = rw (s .weight, s .sheet) (h .sheet);
     })
 
 -- ---- a memory that is another in all but one desk
@@ -67,14 +67,14 @@ desk-formed m o d f c own =
       ];
     })
 
--- a draft's sheet changed for another within limits
+-- a draft's sheet changed for another within limits, and its weight with it
 pub sheet-formed :
-    (m o : List ℕ) (d : ℕ) {s : List ℕ}
+    (m o : List ℕ) (d : ℕ) {v : ℕ} {s : List ℕ}
     → formed m ≡ true
     → d < desks
     → Drafting m d
-    → SheetChanges o m d s
-    → wordsOk s ≡ true
+    → SheetChanges o m d v s
+    → Weighed v s
     → formed o ≡ true
 sheet-formed m o d f l n c w =
     let a = sound m f in
@@ -86,5 +86,5 @@ sheet-formed m o d f l n c w =
       holds = c .holds ∙ h .holds;
       entered = omega (arith, c .hull, c .rest .counts, h .entered);
       opened = omega (arith, c .number, number, h .opened);
-      sheet = rw (c .sheet) w;
+      sheet = rw (c .weight, c .sheet) w;
     }))

@@ -7,8 +7,9 @@ use lib.ListN.{length, getD}
 use lib.Seq.{sets, length-sets}
 use Rattle.sheet.specs.Places.{sheetWords}
 use Rattle.memory.specs.Layout.{mostHulls, desks, hullWords, draftWords, registerWords, Sized, hullAt}
-use Rattle.memory.specs.Layout.{editAt, hullSheetAt, draftAt, heldAt, draftHullAt, openingAt, draftSheetAt}
-use Rattle.memory.specs.Layout.{part, edit, hullSheet, held, draftHull, opening, draftSheet}
+use Rattle.memory.specs.Layout.{editAt, hullWeightAt, hullSheetAt, draftAt, heldAt, draftHullAt, openingAt}
+use Rattle.memory.specs.Layout.{draftWeightAt, draftSheetAt, part, edit, hullWeight, hullSheet}
+use Rattle.memory.specs.Layout.{held, draftHull, opening, draftWeight, draftSheet}
 use Rattle.memory.proofs.Parts.{Outside, word-outside, part-length, part-same}
 
 -- a sheet in the memory has all of its words
@@ -21,12 +22,14 @@ draft-long m d k l = part-length m (draftSheetAt d) sheetWords (omega arith)
 -- hull i, and desk d, are in o as they were in m
 pub record SameHull (o m : List ℕ) (i : ℕ) : Type 0 where
   pub number : edit o i ≡ edit m i
+  pub weight : hullWeight o i ≡ hullWeight m i
   pub sheet : hullSheet o i ≡ hullSheet m i
 
 pub record SameDraft (o m : List ℕ) (d : ℕ) : Type 0 where
   pub holds : held o d ≡ held m d
   pub hull : draftHull o d ≡ draftHull m d
   pub opened : opening o d ≡ opening m d
+  pub weight : draftWeight o d ≡ draftWeight m d
   pub sheet : draftSheet o d ≡ draftSheet m d
 
 -- ---- a write leaves the places of P, and two writes those that both leave
@@ -49,7 +52,7 @@ module _ {o m : List ℕ} {P : ℕ → Type 0} (w : Leaves o m P) where
   abbrev pub LeavesFrom : ℕ → ℕ → Type 0
   LeavesFrom a n = (k : ℕ) → a ≤ k → k < a + n → P k
 
-  kept-part :
+  pub kept-part :
       (a : ℕ)
       → a + sheetWords ≤ registerWords
       → LeavesFrom a sheetWords
@@ -62,6 +65,7 @@ module _ {o m : List ℕ} {P : ℕ → Type 0} (w : Leaves o m P) where
   kept-hull i l b =
       record {
         number = w .word (editAt i) (b (editAt i) (omega arith) (omega arith));
+        weight = w .word (hullWeightAt i) (b (hullWeightAt i) (omega arith) (omega arith));
         sheet = kept-part (hullSheetAt i) (omega arith) (λ k x y. b k (omega arith) (omega arith));
       }
 
@@ -71,5 +75,6 @@ module _ {o m : List ℕ} {P : ℕ → Type 0} (w : Leaves o m P) where
         holds = w .word (heldAt d) (b (heldAt d) (omega arith) (omega arith));
         hull = w .word (draftHullAt d) (b (draftHullAt d) (omega arith) (omega arith));
         opened = w .word (openingAt d) (b (openingAt d) (omega arith) (omega arith));
+        weight = w .word (draftWeightAt d) (b (draftWeightAt d) (omega arith) (omega arith));
         sheet = kept-part (draftSheetAt d) (omega arith) (λ k x y. b k (omega arith) (omega arith));
       }

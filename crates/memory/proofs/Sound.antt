@@ -8,23 +8,25 @@ use borrow.Author.Tests.{ltb-true, leb-true, eqb-true, lt-ltb, le-leb, eq-eqb}
 use lib.Dec.{eqb, leb, ltb}
 use lib.ListN.{length}
 use Rattle.ground.proofs.Booleans.{both-hold}
-use Rattle.sheet.specs.Sheet.{wordsOk}
+use Rattle.capacity.specs.Weights.{weighedOk}
+use Rattle.capacity.proofs.Scale.{Weighed, weighed, weighed-back}
 use Rattle.memory.specs.Layout.{mostHulls, desks, registerWords, Sized, Drafting}
-use Rattle.memory.specs.Layout.{hullCount, edit, hullSheet, held, draftHull, opening, draftSheet}
+use Rattle.memory.specs.Layout.{hullCount, edit, hullWeight, hullSheet, held, draftHull, opening}
+use Rattle.memory.specs.Layout.{draftWeight, draftSheet}
 use Rattle.memory.specs.Formed.{mostEdits, each, hullOk, draftOk, formed}
 use Rattle.memory.proofs.Each.{each-at, each-every}
 
 -- hull i is as an entered hull should be
 pub record Hull (m : List ℕ) (i : ℕ) : Type 0 where
   pub number : edit m i ≤ mostEdits
-  pub sheet : wordsOk (hullSheet m i) ≡ true
+  pub sheet : Weighed (hullWeight m i) (hullSheet m i)
 
 -- desk d holds a draft that is as it should be
 pub record Draft (m : List ℕ) (d : ℕ) : Type 0 where
   pub holds : held m d ≡ 1
   pub entered : draftHull m d < hullCount m
   pub opened : opening m d ≤ edit m (draftHull m d)
-  pub sheet : wordsOk (draftSheet m d) ≡ true
+  pub sheet : Weighed (draftWeight m d) (draftSheet m d)
 
 pub record Sound (m : List ℕ) : Type 0 where
   pub size : Sized m
@@ -44,8 +46,8 @@ four-hold a b c d e =
 hull-sound : (m : List ℕ) (i : ℕ) → hullOk m i ≡ true → Hull m i
 unfolding hullOk
 hull-sound m i e =
-    let p = both-hold (leb (edit m i) mostEdits) (wordsOk (hullSheet m i)) e in
-    record { number = leb-true (edit m i) mostEdits (p .0); sheet = p .1 }
+    let p = both-hold (leb (edit m i) mostEdits) (weighedOk (hullWeight m i) (hullSheet m i)) e in
+    record { number = leb-true (edit m i) mostEdits (p .0); sheet = weighed (hullWeight m i) (hullSheet m i) (p .1) }
 
 draft-sound : (m : List ℕ) (d : ℕ) → draftOk m d ≡ true → (held m d ≡ 0) ⊎ Draft m d
 unfolding draftOk
@@ -56,12 +58,13 @@ draft-sound m d e = go (eqb (held m d) 0) refl
     go false z =
         let known : Bool = ltb (draftHull m d) (hullCount m) in
         let ordered : Bool = leb (opening m d) (edit m (draftHull m d)) in
-        let p = four-hold (eqb (held m d) 1) known ordered (wordsOk (draftSheet m d)) (rw z at e) in
+        let right : Bool = weighedOk (draftWeight m d) (draftSheet m d) in
+        let p = four-hold (eqb (held m d) 1) known ordered right (rw z at e) in
         inr (record {
           holds = eqb-true (held m d) 1 (p .0);
           entered = ltb-true (draftHull m d) (hullCount m) (p .1);
           opened = leb-true (opening m d) (edit m (draftHull m d)) (p .2);
-          sheet = p .3;
+          sheet = weighed (draftWeight m d) (draftSheet m d) (p .3);
         })
 
 pub sound : (m : List ℕ) → formed m ≡ true → Sound m
@@ -84,14 +87,15 @@ held-draft m d e l n = elim (sound m e .drafts d l) [ inl z ↦ absurd (n z) | i
 
 hull-holds : (m : List ℕ) (i : ℕ) → Hull m i → hullOk m i ≡ true
 unfolding hullOk
-hull-holds m i h = rw (le-leb (edit m i) mostEdits (h .number), h .sheet) refl
+hull-holds m i h = rw (le-leb (edit m i) mostEdits (h .number)) (weighed-back (h .sheet))
 
 draft-holds : (m : List ℕ) (d : ℕ) → (held m d ≡ 0) ⊎ Draft m d → draftOk m d ≡ true
 unfolding draftOk
 draft-holds m d (inl z) = rw (eq-eqb (held m d) 0 z) refl
 draft-holds m d (inr h) =
     let i : ℕ = draftHull m d in
-    rw (h .holds, lt-ltb i (hullCount m) (h .entered), le-leb (opening m d) (edit m i) (h .opened), h .sheet) refl
+    rw (h .holds, lt-ltb i (hullCount m) (h .entered), le-leb (opening m d) (edit m i) (h .opened))
+    (weighed-back (h .sheet))
 
 pub sound-formed : (m : List ℕ) → Sound m → formed m ≡ true
 unfolding formed

@@ -18,10 +18,9 @@ use Rattle.memory.specs.Layout.{registerWords, draftSheet}
 use Rattle.memory.specs.Updates.{freshWords}
 use Rattle.memory.proofs.Sound.{sound}
 use Rattle.sheet.proofs.Words.{words-length}
-use Rattle.memory.proofs.Changes.{EnteredChanges, entered-changes, OpenedChanges, opened-changes, SavedChanges}
-use Rattle.memory.proofs.Changes.{saved-changes}
-use Rattle.memory.proofs.Changes.{FittedChanges, fitted-changes, ReplacedChanges, replaced-changes, DroppedChanges}
-use Rattle.memory.proofs.Changes.{dropped-changes}
+use Rattle.memory.proofs.DeskChanges.{OpenedChanges, opened-changes, FittedChanges, fitted-changes}
+use Rattle.memory.proofs.DeskChanges.{ReplacedChanges, replaced-changes, DroppedChanges, dropped-changes}
+use Rattle.memory.proofs.Changes.{EnteredChanges, entered-changes, SavedChanges, saved-changes}
 use Rattle.memory.proofs.Fittings.{FittedWords, fitted-two}
 use Rattle.register.specs.Refusals.{roomRefusal, openRefusal, deskRefusal, setOwn, leaves, sheetOf}
 use Rattle.register.specs.Calls.{Call, Step, lent, makes, fills, freshStep, step}
