@@ -25,7 +25,7 @@ use Rattle.capacity.specs.Kinds.{kindA, kindC, kindU}
 use Rattle.memory.specs.Formed.{each, hullOk, draftOk, formed}
 use Rattle.memory.proofs.Memories.{sheet, hulls, draft, idle, full}
 use Rattle.register.specs.Refusals.{roomRefusal, hullRefusal, openRefusal, deskRefusal}
-use Rattle.register.specs.Calls.{setFitting, replace, tryPlate, plate, write}
+use Rattle.register.specs.Calls.{setFitting, replace, tryPlate, plate, weigh, write}
 use Rattle.register.specs.Calls.{newHull, openHull, work, save, dropDraft, ask, freshStep, step}
 use Rattle.register.proofs.Wanted.{alike, agree, as-wanted}
 use Rattle.register.proofs.Day.{Must, _must_, wanted, answered}
@@ -40,9 +40,9 @@ text = sheetText (9 ∷ sheet)
 outside : List ℕ
 outside = sheetText (16 ∷ sheet)
 
--- a desk whose draft has ended: its words are free
+-- a desk whose draft has ended: its words are free, its weight too
 ended : ℕ → ℕ → List ℕ
-ended hull number = 0 ∷ hull ∷ number ∷ sheet
+ended hull number = 0 ∷ hull ∷ number ∷ 1 ∷ sheet
 
 -- fifteen hulls, and no draft
 fifteen : List ℕ
@@ -52,7 +52,7 @@ fifteen = 15 ∷ (hulls 16 0 ++ idle 8)
 -- they stand; on desks 2 and 3 such drafts have ended
 edited : List ℕ
 edited =
-    2 ∷ (hulls 1 65534 ++ (hulls 1 65535 ++ (replicate 1302 99 ++ (idle 2 ++ (ended 0 65533 ++ (ended 1 65535
+    2 ∷ (hulls 1 65534 ++ (hulls 1 65535 ++ (replicate 1316 99 ++ (idle 2 ++ (ended 0 65533 ++ (ended 1 65535
     ++ (draft 0 65533 ++ (draft 1 65534 ++ (draft 0 65534 ++ draft 1 65535)))))))))
 
 -- a 17th hull, whatever its text; a 16th; hulls 15 and 16 of sixteen
@@ -60,6 +60,7 @@ on-full : List Must
 on-full =
     (newHull text must Refused 4) ∷ (newHull [] must Refused 4) ∷ (newHull outside must Refused 4)
     ∷ (openHull 7 15 must Count 65535) ∷ (openHull 7 16 must Refused 5)
+    ∷ (ask 15 weigh must Count 203334) ∷ (ask 16 weigh must Refused 5)
     ∷ (ask 15 (write (replicate 240 7)) must Count 240) ∷ (ask 15 (write (replicate 239 7)) must Refused 16)
     ∷ []
 
@@ -92,6 +93,8 @@ on-small =
     ∷ (ask 0 (plate kindU) must Count 718) ∷ (ask 0 (plate (kindC [] [])) must Refused 10)
     ∷ (ask 1 (plate (kindC [] [])) must Refused 5) ∷ (ask 1 (plate kindA) must Refused 5)
     ∷ (ask 1 (plate kindU) must Refused 5)
+    -- the boat's weight
+    ∷ (ask 0 weigh must Count 203334) ∷ (ask 1 weigh must Refused 5)
     -- a text of 239 bytes
     ∷ (ask 0 (write (replicate 239 7)) must Count 239) ∷ (ask 0 (write (replicate 238 7)) must Refused 16)
     ∷ (ask 1 (write (replicate 238 7)) must Refused 5)
@@ -116,7 +119,7 @@ calls-right = (
 )
 
 -- fresh start looks at the size alone
-fresh-right : map (λ (n : ℕ). freshStep (replicate n 99) .answer) (2248 ∷ 2249 ∷ 2250 ∷ [])
+fresh-right : map (λ (n : ℕ). freshStep (replicate n 99) .answer) (2272 ∷ 2273 ∷ 2274 ∷ [])
     ≡ Refused 1 ∷ Done ∷ Refused 1 ∷ []
 fresh-right = refl
 
@@ -125,6 +128,6 @@ written-right :
     (step small (ask 0 (write (replicate 242 7))) .output ≡ sheetText (0 ∷ sheet) ++ replicate 3 7)
     × (step full (ask 15 (write (replicate 242 7))) .output ≡ sheetText (15 ∷ sheet) ++ replicate 2 7)
     × (step full (ask 15 (write (replicate 239 7))) .output ≡ replicate 239 7)
-unfolding small full sheet hulls draft idle formed each hullOk draftOk hullRefusal allHold okOn fitsOk
+unfolding small full sheet hulls draft idle formed each hullOk draftOk hullRefusal allHold okOn fitsOk boatM addedUp
     sheetText sheetForm rowsOn fitRows partsText rowsText kindOf numbersText digitsOf digitsIn
 written-right = (refl, refl, refl)

@@ -30,7 +30,7 @@ use Rattle.memory.specs.Formed.{each, hullOk, draftOk, formed}
 use Rattle.memory.specs.Updates.{freshWords, entered, opened, fitted, replaced, dropped, saved}
 use Rattle.sheet.proofs.BaseHull.{form, mass, power, seats, sheetWith}
 use Rattle.register.specs.Refusals.{roomRefusal, hullRefusal, openRefusal, deskRefusal}
-use Rattle.register.specs.Calls.{setFitting, replace, tryPlate, plate, write}
+use Rattle.register.specs.Calls.{setFitting, replace, tryPlate, plate, weigh, write}
 use Rattle.register.specs.Calls.{Call, newHull, openHull, work, save, dropDraft, ask, step}
 use Rattle.register.proofs.Wanted.{alike, agree, as-wanted}
 
@@ -104,8 +104,8 @@ day =
     ∷ (work 0 (setFitting 2 250001 2) must Refused 3) ∷ (work 0 (setFitting 2 1667 2) must Done)
     ∷ (tries 0 kindA must Plate 326 20000)
     ∷ (marks 0 kindA must Plate 327 20000) ∷ (tries 0 byC must Plate 325 3) ∷ (tries 0 kindU must Count 718)
-    ∷ (marks 0 kindU must Count 720) ∷ (work 0 (setFitting 1 0 0) must Refused 17) ∷ (save 0 must Count 1)
-    ∷ (marks 0 kindA must Plate 326 20000)
+    ∷ (marks 0 kindU must Count 720) ∷ (ask 0 weigh must Count 200000) ∷ (work 0 (setFitting 1 0 0) must Refused 17) ∷ (save 0 must Count 1)
+    ∷ (marks 0 kindA must Plate 326 20000) ∷ (ask 0 weigh must Count 203334) ∷ (ask 2 weigh must Refused 5)
     -- desk 7's draft is behind; opened anew it is the saved sheet, whose fitting line is emptied
     ∷ (save 7 must Refused 8) ∷ (openHull 7 0 must Count 1) ∷ (work 7 (setFitting 2 0 0) must Done)
     ∷ (work 7 (setFitting 2 0 0) must Refused 17) ∷ (save 7 must Count 2) ∷ (marks 0 byC must Plate 326 3)
@@ -139,6 +139,6 @@ two = step (step freshWords (newHull (text mass)) .memory) (newHull (text heavie
 a-text : step two (writes 1 230) .output ≡ numbered-text "HULL\t1\n" heavier ++ replicate 4 7
 unfolding two text numbered-text freshWords entered each hullOk draftOk formed hullRefusal roomRefusal
     readSheet sheetForm numbersOn numbersOf fitsOf emptyLines fitsFrom readForm readParts readRows kindOf readLine
-    agreed readNumbers readEntry fieldOf numberOf restOf allHold okOn fitsOk sheetText rowsOn fitRows
+    agreed readNumbers readEntry fieldOf numberOf restOf allHold okOn fitsOk boatM addedUp sheetText rowsOn fitRows
     partsText rowsText numbersText digitsOf digitsIn
 a-text = refl

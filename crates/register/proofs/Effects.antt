@@ -21,7 +21,7 @@ use Rattle.sheet.proofs.Words.{words-length}
 use Rattle.memory.proofs.DeskChanges.{OpenedChanges, opened-changes, FittedChanges, fitted-changes}
 use Rattle.memory.proofs.DeskChanges.{ReplacedChanges, replaced-changes, DroppedChanges, dropped-changes}
 use Rattle.memory.proofs.Changes.{EnteredChanges, entered-changes, SavedChanges, saved-changes}
-use Rattle.memory.proofs.Fittings.{FittedWords, fitted-two}
+use Rattle.memory.proofs.Fittings.{FittedWords, fitted-three}
 use Rattle.register.specs.Refusals.{roomRefusal, openRefusal, deskRefusal, setOwn, leaves, sheetOf}
 use Rattle.register.specs.Calls.{Call, Step, lent, makes, fills, freshStep, step}
 use Rattle.register.proofs.Refusals.{room-goes, open-goes, desk-goes}
@@ -112,7 +112,7 @@ module _ (m : List ℕ) (d : ℕ) (z : deskRefusal m d ≡ 0) where
   set-words line w c y =
       let g = desk-goes m d z in
       let p = set-fits (draftSheet m d) line w c y in
-      fitted-two m d line w c (sound m (g .ok) .size) (g .desk) (p .low) (p .high)
+      fitted-three m d line w c (sound m (g .ok) .size) (g .desk) (p .low) (p .high)
 
   pub replace-changes : (t s : List ℕ) → readSheet t ≡ right s → ReplacedChanges m d (sheetOf t)
   replace-changes t s e =

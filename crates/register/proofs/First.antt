@@ -44,7 +44,8 @@ memory-first m c e = rw (← shared-unformed m c e) refl
 
 -- an entered hull's sheet is within the limits, its number included
 pub hull-within : (m : List ℕ) (h : ℕ) → formed m ≡ true → h < hullCount m → sheetOk (h ∷ hullSheet m h) ≡ true
-hull-within m h e l = let s = sound m e in numbered h (hullSheet m h) (omega (arith, s .few)) (s .hulls h l .sheet)
+hull-within m h e l =
+    let s = sound m e in numbered h (hullSheet m h) (omega (arith, s .few)) (s .hulls h l .sheet .within)
 
 abbrev isOutside : Answer → Bool
 isOutside (Refused number) = eqb number outsideLimits

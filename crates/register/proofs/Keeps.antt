@@ -14,7 +14,7 @@ use Rattle.sheet.specs.Sheet.{wordsOk}
 use Rattle.sheet.specs.SheetText.{readSheet}
 use Rattle.sheet.proofs.Words.{words-of}
 use Rattle.sheet.proofs.SheetText.{reads-written}
-use Rattle.memory.specs.Layout.{registerWords, hullCount, draftSheet}
+use Rattle.memory.specs.Layout.{registerWords, hullCount, draftWeight, draftSheet}
 use Rattle.memory.specs.Formed.{formed}
 use Rattle.memory.proofs.Sound.{sound}
 use Rattle.memory.proofs.Keeps.{fresh-formed, entered-formed, opened-formed, fitted-formed, replaced-formed}
@@ -64,14 +64,15 @@ past-text t a x m ok f = go (readSheet t) refl
 work-keeps : (m : List ℕ) (d : ℕ) (w : Work)
     → formed m ≡ true
     → DeskGoes m d
-    → formed (leaves (workAnswer w (draftSheet m d)) (workMakes m d w) m) ≡ true
+    → formed (leaves (workAnswer w (draftWeight m d) (draftSheet m d)) (workMakes m d w) m) ≡ true
 work-keeps m d (setFitting line w c) ok g =
     past-refusal (setOwn (draftSheet m d) line w c) Done _ m ok
     (λ y.
     let p = set-fits (draftSheet m d) line w c y in
     fitted-formed m d line w c ok (g .desk) (g .some) (p .low) (p .high) (p .fits))
 work-keeps m d (replace t) ok g = past-text t Done _ m ok (replaced-formed m d (sheetOf t) ok (g .desk) (g .some))
-work-keeps m d (tryPlate k) ok g = kept-or-made (workAnswer (tryPlate k) (draftSheet m d)) m m ok ok
+work-keeps m d (tryPlate k) ok g =
+    kept-or-made (workAnswer (tryPlate k) (draftWeight m d) (draftSheet m d)) m m ok ok
 
 own-keeps : (m : List ℕ) (c : Call) → formed m ≡ true → shared m c ≡ 0 → formed (leaves (own m c) (makes m c) m) ≡ true
 own-keeps m (newHull t) ok z =

@@ -20,12 +20,12 @@ use Rattle.sheet.proofs.SheetText.{sheet-fault}
 use Rattle.sheet.proofs.Listed.{write-listed}
 use Rattle.capacity.proofs.Answers.{plate-listed}
 use Rattle.memory.specs.Layout.{mostHulls, desks, registerWords, hullCount, edit, hullSheet, held, draftHull, opening}
-use Rattle.memory.specs.Layout.{draftSheet}
+use Rattle.memory.specs.Layout.{hullWeight, draftWeight, draftSheet}
 use Rattle.memory.specs.Formed.{mostEdits, formed}
 use Rattle.register.specs.Refusals.{freshRefusal, roomRefusal, hullRefusal, openRefusal, deskRefusal, setOwn}
 use Rattle.register.specs.Refusals.{saveOwn}
 use Rattle.register.specs.Refusals.{orRefused, onText}
-use Rattle.register.specs.Calls.{Work, setFitting, replace, tryPlate, Ask, plate, write}
+use Rattle.register.specs.Calls.{Work, setFitting, replace, tryPlate, Ask, plate, weigh, write}
 use Rattle.register.specs.Calls.{Call, newHull, openHull, work, save, dropDraft, ask, workAnswer, askAnswer}
 use Rattle.register.specs.Calls.{shared, own, freshStep, step}
 use Rattle.register.proofs.Own.{within}
@@ -77,22 +77,23 @@ save-listed m d =
     let e = edit m (draftHull m d) in
     either OrNone (eqb e (opening m d)) (either OrNone (eqb e mostEdits) refl refl) refl
 
-work-listed : (w : Work) (s : List ℕ) → OfList (workAnswer w s)
-work-listed (setFitting line w c) s = by-refusal (setOwn s line w c) Done (set-listed s line w c) refl
-work-listed (replace t) s = by-text t Done refl
-work-listed (tryPlate k) s = plate-listed k s
+work-listed : (w : Work) (v : ℕ) (s : List ℕ) → OfList (workAnswer w v s)
+work-listed (setFitting line w c) v s = by-refusal (setOwn s line w c) Done (set-listed s line w c) refl
+work-listed (replace t) v s = by-text t Done refl
+work-listed (tryPlate k) v s = plate-listed k v s
 
-ask-listed : (h : ℕ) (q : Ask) (s : List ℕ) → OfList (askAnswer h q s)
-ask-listed h (plate k) s = plate-listed k s
-ask-listed h (write out) s = write-listed (h ∷ s) (length out)
+ask-listed : (h : ℕ) (q : Ask) (v : ℕ) (s : List ℕ) → OfList (askAnswer h q v s)
+ask-listed h (plate k) v s = plate-listed k v s
+ask-listed h weigh v s = refl
+ask-listed h (write out) v s = write-listed (h ∷ s) (length out)
 
 own-listed : (m : List ℕ) (c : Call) → OfList (own m c)
 own-listed m (newHull t) = by-text t (Count (hullCount m)) refl
 own-listed m (openHull d h) = refl
-own-listed m (work d w) = work-listed w (draftSheet m d)
+own-listed m (work d w) = work-listed w (draftWeight m d) (draftSheet m d)
 own-listed m (save d) = by-refusal (saveOwn m d) (Count (edit m (draftHull m d) + 1)) (save-listed m d) refl
 own-listed m (dropDraft d) = refl
-own-listed m (ask h q) = ask-listed h q (hullSheet m h)
+own-listed m (ask h q) = ask-listed h q (hullWeight m h) (hullSheet m h)
 
 -- ---- every call
 

@@ -7,6 +7,7 @@ use lib.ListN.{set, take, drop}
 use Rattle.text.specs.Limit.{allHold}
 use Rattle.answers.specs.declared.Answer.the-variants.{Refused, Done}
 use Rattle.sheet.specs.Sheet.{fitsOk, okOn}
+use Rattle.capacity.specs.Weights.{addedUp, boatM}
 use Rattle.memory.specs.Formed.{each, hullOk, draftOk, formed}
 use Rattle.memory.specs.Updates.{fitted}
 use Rattle.memory.proofs.Memories.{sheet, hulls, draft, idle}
@@ -60,15 +61,15 @@ in-turn =
     ∷ (setting 1 5050 98 must Done) ∷ (setting 1 0 0 must Done) ∷ (setting 1 0 0 must Refused 17)
     ∷ []
 
--- line 1 without its fitting
+-- line 1 without its fitting, and the boat without its weight
 emptied : List ℕ
-emptied = set (set small 2201 0) 2202 0
+emptied = set (set (set small 2225 0) 2226 0) 2180 200000
 
 sets-right :
     (answered small outside ≡ map wanted outside) × (answered emptied outside ≡ map wanted outside)
     × (answered small figures ≡ map wanted figures) × (given small in-turn ≡ map wanted in-turn)
 unfolding alike agree outside figures in-turn emptied answered given small sheet hulls draft idle formed each hullOk
-    draftOk deskRefusal allHold okOn fitsOk fitted
+    draftOk deskRefusal allHold okOn fitsOk boatM addedUp fitted
 sets-right = (
   as-wanted (answered small outside) (map wanted outside) refl,
   as-wanted (answered emptied outside) (map wanted outside) refl,
@@ -78,24 +79,25 @@ sets-right = (
 
 -- the words of lines 1 and 2; refused, all are as they were
 lines-left :
-    map (λ (c : Call). take 4 (drop 2201 (step small c .memory)))
+    map (λ (c : Call). take 4 (drop 2225 (step small c .memory)))
     (setting 1 0 0 ∷ setting 1 120 12 ∷ setting 2 120 12 ∷ setting 1 0 12 ∷ setting 1 120 0
     ∷ setting 2 0 0 ∷ setting 25 0 0 ∷ [])
     ≡ (0 ∷ 0 ∷ 0 ∷ 0 ∷ []) ∷ (120 ∷ 12 ∷ 0 ∷ 0 ∷ []) ∷ (3334 ∷ 1 ∷ 120 ∷ 12 ∷ []) ∷ (3334 ∷ 1 ∷ 0 ∷ 0 ∷ [])
     ∷ (3334 ∷ 1 ∷ 0 ∷ 0 ∷ []) ∷ (3334 ∷ 1 ∷ 0 ∷ 0 ∷ []) ∷ (3334 ∷ 1 ∷ 0 ∷ 0 ∷ []) ∷ []
-unfolding small sheet hulls draft idle formed each hullOk draftOk deskRefusal allHold okOn fitsOk fitted
+unfolding small sheet hulls draft idle formed each hullOk draftOk deskRefusal allHold okOn fitsOk boatM addedUp fitted
 lines-left = refl
 
 -- and where the lines beside are full too
 beside-left :
-    map (λ (c : Call). take 6 (drop 2201 (step (fitted (fitted small 7 2 120 12) 7 3 40 1) c .memory)))
+    map (λ (c : Call). take 6 (drop 2225 (step (fitted (fitted small 7 2 120 12) 7 3 40 1) c .memory)))
     (setting 1 0 0 ∷ setting 2 0 0 ∷ setting 2 7 3 ∷ setting 3 0 0 ∷ [])
     ≡ (0 ∷ 0 ∷ 120 ∷ 12 ∷ 40 ∷ 1 ∷ []) ∷ (3334 ∷ 1 ∷ 0 ∷ 0 ∷ 40 ∷ 1 ∷ []) ∷ (3334 ∷ 1 ∷ 7 ∷ 3 ∷ 40 ∷ 1 ∷ [])
     ∷ (3334 ∷ 1 ∷ 120 ∷ 12 ∷ 0 ∷ 0 ∷ []) ∷ []
-unfolding small sheet hulls draft idle formed each hullOk draftOk deskRefusal allHold okOn fitsOk fitted
+unfolding small sheet hulls draft idle formed each hullOk draftOk deskRefusal allHold okOn fitsOk boatM addedUp fitted
 beside-left = refl
 
--- and all words of the memory: of the line that is emptied its two are 0
+-- and all words of the memory: of the line that is emptied its two are 0, and the boat weighs so much less
 emptied-whole : step small (setting 1 0 0) .memory ≡ emptied
-unfolding emptied small sheet hulls draft idle formed each hullOk draftOk deskRefusal allHold okOn fitsOk fitted
+unfolding emptied small sheet hulls draft idle formed each hullOk draftOk deskRefusal allHold okOn fitsOk boatM addedUp
+    fitted
 emptied-whole = refl

@@ -17,9 +17,9 @@ use Rattle.sheet.specs.SheetText.{readSheet}
 use Rattle.sheet.proofs.Places.{sheet-places, rooms-right}
 use Rattle.sheet.proofs.Refused.{write-unplaced}
 use Rattle.capacity.proofs.Answers.{plate-unplaced}
-use Rattle.memory.specs.Layout.{hullCount, edit, hullSheet, draftHull, draftSheet}
+use Rattle.memory.specs.Layout.{hullCount, edit, hullWeight, hullSheet, draftHull, draftWeight, draftSheet}
 use Rattle.register.specs.Refusals.{freshRefusal, setOwn, saveOwn, orRefused, onText}
-use Rattle.register.specs.Calls.{setFitting, replace, tryPlate, plate, write}
+use Rattle.register.specs.Calls.{setFitting, replace, tryPlate, plate, weigh, write}
 use Rattle.register.specs.Calls.{Call, newHull, openHull, work, save, dropDraft, ask}
 use Rattle.register.specs.Calls.{shared, own, freshStep, step}
 
@@ -70,10 +70,11 @@ own-unplaced m (openHull d h) n = refl
 own-unplaced m (work d (setFitting line weight count)) n =
     numbered-unplaced (setOwn (draftSheet m d) line weight count) Done refl
 own-unplaced m (work d (replace t)) n = absurd (true≢false n)
-own-unplaced m (work d (tryPlate k)) n = plate-unplaced k (draftSheet m d)
+own-unplaced m (work d (tryPlate k)) n = plate-unplaced k (draftWeight m d) (draftSheet m d)
 own-unplaced m (save d) n = numbered-unplaced (saveOwn m d) (Count (edit m (draftHull m d) + 1)) refl
 own-unplaced m (dropDraft d) n = refl
-own-unplaced m (ask h (plate k)) n = plate-unplaced k (hullSheet m h)
+own-unplaced m (ask h (plate k)) n = plate-unplaced k (hullWeight m h) (hullSheet m h)
+own-unplaced m (ask h weigh) n = refl
 own-unplaced m (ask h (write out)) n = write-unplaced (h ∷ hullSheet m h) (length out)
 
 pub textless-unplaced : (m : List ℕ) (c : Call) → takesText c ≡ false → Unplaced (step m c .answer)
