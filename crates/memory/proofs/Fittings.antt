@@ -1,6 +1,6 @@
 -- A fitting line that is set to a weight and a count within their limits: the words of the sheet stay within theirs.
 -- And so does the boat's weight, which moves by the difference. Of all words of the memory three are set.
-use mathlib.Core.Path.{_≡_, sym, _∙_}
+use mathlib.Core.Path.{_≡_, refl, sym, _∙_}
 use mathlib.Core.Bool.{true}
 use mathlib.Core.List.{List, [], _∷_}
 use Prim.Native.Nat.{ℕ, zero, suc, _+_, _*_, _≤_, _<_}
@@ -12,14 +12,14 @@ use Rattle.ground.proofs.Booleans.{both-hold, both-true, false-true}
 use Rattle.ground.proofs.Stores.{take-sets, drop-sets}
 use Rattle.sheet.specs.Lines.{lines, fittings}
 use Rattle.sheet.specs.Sheet.{limitsOn, fitOk, fitsOk, wordsOk}
-use Rattle.sheet.specs.Places.{fittingWord, fittingsAt}
+use Rattle.sheet.specs.Places.{fittingWord, fittingsAt, sheetWords}
 use Rattle.sheet.proofs.Words.{words-length, words-run}
-use Rattle.capacity.specs.Weights.{boatM}
+use Rattle.capacity.specs.Weights.{lineWeight, boatM}
 use Rattle.capacity.proofs.LineSet.{boat-set}
 use Rattle.capacity.proofs.Scale.{Weighed}
-use Rattle.memory.specs.Layout.{desks, Sized, draftWeightAt, fittingAt, draftWeight, draftSheet}
+use Rattle.memory.specs.Layout.{desks, Sized, draftWeightAt, draftSheetAt, fittingAt, draftWeight, draftSheet}
 use Rattle.memory.specs.Updates.{moved, fitted}
-use Rattle.memory.proofs.Parts.{word-outside, word-inside}
+use Rattle.memory.proofs.Parts.{word-outside, word-inside, part-word}
 
 module _ (w c : ℕ) (f : fitOk w c ≡ true) where
   -- line k of n, counted from 0
@@ -66,6 +66,19 @@ weight-follows m d line w c h a b =
     omega (arith, h .weight-is, set-line)
 
 -- ---- the words
+
+-- what a line of the draft weighs, as the code works it
+pub line-weighs : (m : List ℕ) (d line : ℕ)
+    → 1 ≤ line
+    → line ≤ fittings
+    → getD m (fittingAt d line) 0 * getD m (fittingAt d line + 1) 0 ≡ lineWeight (draftSheet m d) line
+line-weighs m d line a b =
+    let e : draftSheetAt d + (fittingWord line + 1) ≡ fittingAt d line + 1 = omega arith in
+    rw (
+      part-word m (draftSheetAt d) sheetWords (fittingWord line) (omega arith),
+      part-word m (draftSheetAt d) sheetWords (fittingWord line + 1) (omega arith),
+      e,
+    ) refl
 
 pub record FittedWords (m : List ℕ) (d line w c : ℕ) : Type 0 where
   pub weight : getD (fitted m d line w c) (fittingAt d line) 0 ≡ w

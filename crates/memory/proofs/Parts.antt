@@ -7,7 +7,7 @@ use native.Mathlib.Numerals.{add-one}
 use native.Mathlib.Omega.{arith}
 use lib.ListN.{length, getD, set, take, drop, replicate, length-drop, List·getD-append}
 use lib.Seq.{sets, sets-eq, length-sets, length-take-le, take-suc, take-at, drop-at, take-set-lt, drop-set-add}
-use lib.Seq.{getD-take, getD-drop, getD-set-same, getD-set-other, set-comm, ext-getD}
+use lib.Seq.{drop-cons, getD-take, getD-drop, getD-set-same, getD-set-other, set-comm, ext-getD}
 use Rattle.ground.proofs.Stores.{sets-append, sets-snoc}
 use Rattle.memory.specs.Layout.{part}
 
@@ -83,6 +83,10 @@ part-length m at n h = length-take-le n (drop at m) (simp length-drop (omega ari
 
 pub part-word : (m : List ℕ) (at n j : ℕ) → j < n → getD (part m at n) j 0 ≡ getD m (at + j) 0
 part-word m at n j h = getD-take n (drop at m) j 0 h ∙ getD-drop at m j 0
+
+-- the first of them, and the others
+pub part-first : (m : List ℕ) (at n : ℕ) → at < length m → part m at (suc n) ≡ getD m at 0 ∷ part m (suc at) n
+part-first m at n h = rw (drop-cons m at 0 h) refl
 
 -- the same words at the same place in two memories
 pub part-same :

@@ -1,16 +1,16 @@
 -- One law for a hull's slot and one for a desk's: a write that leaves its places leaves it as it was.
-use mathlib.Core.Path.{_≡_, _∙_}
-use mathlib.Core.List.{List}
-use Prim.Native.Nat.{ℕ, _+_, _≤_, _<_}
+use mathlib.Core.Path.{_≡_, refl, _∙_}
+use mathlib.Core.List.{List, _∷_}
+use Prim.Native.Nat.{ℕ, suc, _+_, _≤_, _<_}
 use native.Mathlib.Omega.{arith}
 use lib.ListN.{length, getD}
 use lib.Seq.{sets, length-sets}
 use Rattle.sheet.specs.Places.{sheetWords}
-use Rattle.memory.specs.Layout.{mostHulls, desks, hullWords, draftWords, registerWords, Sized, hullAt}
+use Rattle.memory.specs.Layout.{mostHulls, desks, hullWords, draftWords, weighedWords, registerWords, Sized, hullAt}
 use Rattle.memory.specs.Layout.{editAt, hullWeightAt, hullSheetAt, draftAt, heldAt, draftHullAt, openingAt}
 use Rattle.memory.specs.Layout.{draftWeightAt, draftSheetAt, part, edit, hullWeight, hullSheet}
 use Rattle.memory.specs.Layout.{held, draftHull, opening, draftWeight, draftSheet}
-use Rattle.memory.proofs.Parts.{Outside, word-outside, part-length, part-same}
+use Rattle.memory.proofs.Parts.{Outside, word-outside, part-length, part-first, part-same}
 
 -- a sheet in the memory has all of its words
 pub hull-long : (m : List ℕ) (h : ℕ) → Sized m → h < mostHulls → length (hullSheet m h) ≡ sheetWords
@@ -18,6 +18,23 @@ hull-long m h k l = part-length m (hullSheetAt h) sheetWords (omega arith)
 
 pub draft-long : (m : List ℕ) (d : ℕ) → Sized m → d < desks → length (draftSheet m d) ≡ sheetWords
 draft-long m d k l = part-length m (draftSheetAt d) sheetWords (omega arith)
+
+-- a weight and its sheet are one run of words
+pub hull-run : (m : List ℕ) (h : ℕ)
+    → Sized m
+    → h < mostHulls
+    → part m (hullWeightAt h) weighedWords ≡ hullWeight m h ∷ hullSheet m h
+hull-run m h k l =
+    let n : suc (hullWeightAt h) ≡ hullSheetAt h = omega arith in
+    rw (part-first m (hullWeightAt h) sheetWords (omega arith), n) refl
+
+pub draft-run : (m : List ℕ) (d : ℕ)
+    → Sized m
+    → d < desks
+    → part m (draftWeightAt d) weighedWords ≡ draftWeight m d ∷ draftSheet m d
+draft-run m d k l =
+    let n : suc (draftWeightAt d) ≡ draftSheetAt d = omega arith in
+    rw (part-first m (draftWeightAt d) sheetWords (omega arith), n) refl
 
 -- hull i, and desk d, are in o as they were in m
 pub record SameHull (o m : List ℕ) (i : ℕ) : Type 0 where

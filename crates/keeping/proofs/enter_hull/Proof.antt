@@ -7,17 +7,19 @@ use borrow.Author.Needs.{needs}
 use Rattle.keeping.proofs.enter_hull.Statement.{statement}
 use Rattle.keeping.proofs.enter_hull.Tie as tie
 
-lay-sheet-requires : tie.Need-lay-sheet-requires
-lay-sheet-requires c κs = record { fits = simp length-set (omega arith); sheet = search needs }
+lay-weighed-requires : tie.Need-lay-weighed-requires
+lay-weighed-requires c κs = record { fits = simp length-set (omega arith); sheet = search needs }
 
 slice-write-mem-2 : tie.Need-slice-write-mem-2
-slice-write-mem-2 c = omega (arith, simp length-set at (c .before .before .lay-sheet .kept .0))
+slice-write-mem-2 c = omega (arith, simp length-set at (c .before .before .lay-weighed .kept .0))
 
 same-length : tie.Need-same-length
-same-length c = simp length-set (simp length-set at (c .before .before .lay-sheet .kept .0))
+same-length c = simp length-set (simp length-set at (c .before .before .lay-weighed .kept .0))
 
 returns : tie.Need-returns
-returns c = (refl, entered-as _ _ (c .before .before .lay-sheet .ensures))
+returns c =
+    let start = c .before .before .before .before .before .before .before in
+    (refl, entered-as _ _ (start .pre .weight) (c .before .before .lay-weighed .ensures))
 
 pub enter-hull-spec : {M : Type 1} → statement M
 enter-hull-spec =
@@ -30,7 +32,7 @@ enter-hull-spec =
     (λ c. search needs)
     (λ c. search needs)
     (λ c. search needs)
-    lay-sheet-requires
+    lay-weighed-requires
     (λ c. search needs)
     slice-write-mem-2
     same-length

@@ -1,12 +1,13 @@
 -- `replace_sheet` meets its contract.
-use Rattle.memory.specs.Updates.{replaced}
+use Rattle.keeping.proofs.Writes.{replaced-as}
 use borrow.Author.Needs.{needs}
 use Rattle.keeping.proofs.replace_sheet.Statement.{statement}
 use Rattle.keeping.proofs.replace_sheet.Tie as tie
 
 returns : tie.Need-returns
-unfolding replaced
-returns c = c .before .before .lay-sheet .ensures
+returns c =
+    let start = c .before .before .before .before .before .before in
+    replaced-as _ _ _ (start .pre .weight) (c .before .before .lay-weighed .ensures)
 
 pub replace-sheet-spec : {M : Type 1} → statement M
 replace-sheet-spec =

@@ -12,17 +12,21 @@ add-edits-2 c =
     let args = c .before .before .before .before .args in
     omega (arith, saved-edit (args .mem .now) (args .desk) (c .before .draft-hull .ensures))
 
-copy-sheet-requires : tie.Need-copy-sheet-requires
-copy-sheet-requires c κs = record { source = omega arith; target = omega arith; apart = inl (omega arith) }
+copy-weighed-requires : tie.Need-copy-weighed-requires
+copy-weighed-requires c κs = record { source = omega arith; target = omega arith; apart = inl (omega arith) }
 
 slice-write-mem-2 : tie.Need-slice-write-mem-2
-slice-write-mem-2 c = simp length-set (omega (arith, c .before .before .copy-sheet .kept .0))
+slice-write-mem-2 c = simp length-set (omega (arith, c .before .before .copy-weighed .kept .0))
 
 returns : tie.Need-returns
 returns c =
-    let args = c .before .before .before .before .before .before .before .before .args in
+    let start = c .before .before .before .before .before .before .before .before in
+    let args = start .args in
     let found = c .before .before .before .before .before .draft-hull .ensures in
-    (saved-edit (args .mem .now) (args .desk) found, saved-as _ _ found (c .before .before .copy-sheet .ensures))
+    (
+      saved-edit (args .mem .now) (args .desk) found,
+      saved-as _ _ (start .pre .size) (start .pre .desk) found (c .before .before .copy-weighed .ensures),
+    )
 
 pub save-draft-spec : {M : Type 1} → statement M
 save-draft-spec =
@@ -37,7 +41,7 @@ save-draft-spec =
     add-edits-2
     (λ c. search needs)
     (λ c. search needs)
-    copy-sheet-requires
+    copy-weighed-requires
     (λ c. search needs)
     (λ c. search needs)
     (λ c. search needs)

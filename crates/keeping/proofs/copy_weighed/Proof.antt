@@ -1,21 +1,20 @@
--- `copy_sheet` meets its contract.
+-- `copy_weighed` meets its contract.
 use Rattle.keeping.proofs.Writes.{copied-more, copied-whole}
-use Rattle.memory.specs.Layout.{part}
-use Rattle.sheet.specs.Places.{sheetWords}
+use Rattle.memory.specs.Layout.{weighedWords, part}
 use lib.Seq.{sets}
 use lib.ListN.{length, take, length-set}
 use Prim.Native.Nat.{_-_, _≤_}
 use mathlib.Core.Path.{_≡_, refl}
 use native.Mathlib.Omega.{arith}
-use Rattle.keeping.proofs.copy_sheet.Statement.{statement}
-use Rattle.keeping.proofs.copy_sheet.Tie as tie
+use Rattle.keeping.proofs.copy_weighed.Statement.{statement}
+use Rattle.keeping.proofs.copy_weighed.Tie as tie
 
 abbrev Inv-loop : tie.InvT-loop
 Inv-loop mem₀ from to i₀ mem i =
-    (i ≤ sheetWords) × (length mem ≡ length mem₀) × (mem ≡ sets mem₀ to (take i (part mem₀ from sheetWords)))
+    (i ≤ weighedWords) × (length mem ≡ length mem₀) × (mem ≡ sets mem₀ to (take i (part mem₀ from weighedWords)))
 
 abbrev μ-loop : tie.MeasureT-loop
-μ-loop mem₀ from to i₀ mem i = sheetWords - i
+μ-loop mem₀ from to i₀ mem i = weighedWords - i
 
 loop-again : tie.Need-loop-again Inv-loop μ-loop
 loop-again c =
@@ -26,8 +25,8 @@ loop-again c =
 returns : tie.Need-returns Inv-loop μ-loop
 returns c = copied-whole _ _ _ (c .before .before .pre) _ (c .loop-test .left) (c .before .loop .inv .2)
 
-pub copy-sheet-spec : {M : Type 1} → statement M
-copy-sheet-spec =
+pub copy-weighed-spec : {M : Type 1} → statement M
+copy-weighed-spec =
     tie.close
     (tie.spec Inv-loop μ-loop (λ c. (omega arith, refl, refl)) (λ c. omega arith) (λ c. omega arith)
     (λ c. omega arith) (λ c. omega arith) (λ c. omega arith) (λ c. omega arith) (λ c. omega arith) (λ c. omega arith)
