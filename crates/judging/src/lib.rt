@@ -1,6 +1,9 @@
 // Whether the register's memory is well formed: the check that every call on the register makes first. It reads the
 // memory once, slot by slot, without copies.
 ghost use mathlib.Core.Path.{_≡_};
+ghost use lib.ListN.{length};
+ghost use Rattle.sheet.specs.Places.{sheetWords};
+ghost use Rattle.capacity.specs.Weights.{weighedOk};
 ghost use Rattle.memory.specs.Layout.{desks, hullCount};
 ghost use Rattle.memory.specs.Asked.{AtHull, AtHulls, AtDraft};
 ghost use Rattle.memory.specs.Formed.{each, hullOk, draftOk, formed};
@@ -9,13 +12,24 @@ use memory::MOST_EDITS;
 use memory::MOST_HULLS;
 use memory::REGISTER_WORDS;
 
-// Whether a hull is well formed: its edit number, then its sheet.
+// Whether a sheet is within limits and its boat weighs so much. It is read once, and weighed as it is judged.
+fn weighed_ok(weight: u32, sheet: &[u32]) -> bool
+    requires { ⌜ length (now sheet) ≡ sheetWords ⌝ }
+    ensures { λ r. ⌜ r ≡ weighedOk weight (now (sheet .entry)) ⌝ }
+{
+    if weight == 0 {
+        return false;
+    }
+    weight == measuring::weigh(sheet)
+}
+
+// Whether a hull is well formed: its edit number, then its sheet with the weight beside it.
 fn hull_ok(mem: &[u32], hull: usize) -> bool
     requires { ⌜ AtHull (now mem) hull ⌝ }
     ensures { λ r. ⌜ r ≡ hullOk (now (mem .entry)) hull ⌝ }
 {
     if keeping::edit(mem, hull) <= MOST_EDITS {
-        measuring::words_ok(keeping::hull_sheet(mem, hull))
+        weighed_ok(keeping::hull_weight(mem, hull), keeping::hull_sheet(mem, hull))
     } else {
         false
     }
@@ -38,7 +52,7 @@ fn hulls_ok(mem: &[u32], hulls: usize) -> bool
 }
 
 // Whether a desk is well formed: it holds no draft, or one of a hull that is there, of an edit number not above the
-// hull's, with a sheet within limits.
+// hull's, with a sheet within limits and what its boat weighs.
 fn draft_ok(mem: &[u32], desk: usize) -> bool
     requires { ⌜ AtDraft (now mem) desk ⌝ }
     ensures { λ r. ⌜ r ≡ draftOk (now (mem .entry)) desk ⌝ }
@@ -57,7 +71,7 @@ fn draft_ok(mem: &[u32], desk: usize) -> bool
     if keeping::edit(mem, hull) < keeping::opening(mem, desk) {
         return false;
     }
-    measuring::words_ok(keeping::draft_sheet(mem, desk))
+    weighed_ok(keeping::draft_weight(mem, desk), keeping::draft_sheet(mem, desk))
 }
 
 // The same of every desk.

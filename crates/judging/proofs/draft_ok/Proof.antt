@@ -49,16 +49,16 @@ returns-4 c =
       lt-leb _ _ (c .if4 .taken),
     )
 
-words-ok-requires : tie.Need-words-ok-requires
-words-ok-requires c κs =
-    let start = c .before .before .before .before .before .before .before .before .before .before .before in
+weighed-ok-requires : tie.Need-weighed-ok-requires
+weighed-ok-requires c κs =
+    let start = c .before .before .before .before .before .before .before .before .before .before .before .before in
     ap length (c .draft-sheet .ensures)
     ∙ draft-long (start .args .mem .now) (start .args .desk) (start .pre .size) (start .pre .desk)
 
 returns-5 : tie.Need-returns-5
 unfolding draftOk
 returns-5 c =
-    let last = c .before .before in
+    let last = c .before .before .before in
     let count = last .before .before .before .before in
     let hull = count .before in
     let held = hull .before .before .before in
@@ -72,8 +72,9 @@ returns-5 c =
       ← last .before .before .edit .ensures,
       ← last .before .opening .ensures,
       le-leb _ _ (last .if4 .left),
+      ← c .before .before .draft-weight .ensures,
       ← c .before .draft-sheet .ensures,
-      ← c .words-ok .ensures,
+      ← c .weighed-ok .ensures,
     )
 
 pub draft-ok-spec : {M : Type 1} → statement M
@@ -90,5 +91,6 @@ draft-ok-spec =
     (λ c κs. search needs)
     returns-4
     (λ c κs. search needs)
-    words-ok-requires
+    (λ c κs. search needs)
+    weighed-ok-requires
     returns-5)

@@ -8,9 +8,9 @@ use borrow.Author.Needs.{needs}
 use Rattle.judging.proofs.hull_ok.Statement.{statement}
 use Rattle.judging.proofs.hull_ok.Tie as tie
 
-words-ok-requires : tie.Need-words-ok-requires
-words-ok-requires c κs =
-    let start = c .before .before .before .before in
+weighed-ok-requires : tie.Need-weighed-ok-requires
+weighed-ok-requires c κs =
+    let start = c .before .before .before .before .before in
     ap length (c .hull-sheet .ensures)
     ∙ hull-long (start .args .mem .now) (start .args .hull) (start .pre .size) (start .pre .hull)
 
@@ -18,10 +18,11 @@ returns : tie.Need-returns
 unfolding hullOk
 returns c =
     simp (
-      ← c .before .before .before .edit .ensures,
-      le-leb _ _ (c .before .before .if1 .taken),
+      ← c .before .before .before .before .edit .ensures,
+      le-leb _ _ (c .before .before .before .if1 .taken),
+      ← c .before .before .hull-weight .ensures,
       ← c .before .hull-sheet .ensures,
-      ← c .words-ok .ensures,
+      ← c .weighed-ok .ensures,
     )
 
 returns-2 : tie.Need-returns-2
@@ -30,4 +31,4 @@ returns-2 c = simp (← c .before .edit .ensures, lt-leb _ _ (c .if1 .left))
 
 pub hull-ok-spec : {M : Type 1} → statement M
 hull-ok-spec =
-    tie.close (tie.spec (λ c κs. search needs) (λ c κs. search needs) words-ok-requires returns returns-2)
+    tie.close (tie.spec (λ c κs. search needs) (λ c κs. search needs) (λ c κs. search needs) weighed-ok-requires returns returns-2)
