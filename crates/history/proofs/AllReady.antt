@@ -1,13 +1,20 @@
 -- Every desk's draft stays ready to be run again, whatever rule is taken.
-use Prim.Native.Nat.{ℕ}
+use Prim.Native.Nat.{ℕ, _<_}
 use native.Mathlib.Omega.{arith}
 use native.Mathlib.Nat.{le-refl}
-use mathlib.Core.Path.{_≡_, refl, sym, _∙_}
+use mathlib.Core.Path.{_≡_, refl, sym, ap, _∙_}
 use mathlib.Core.Bool.{false, and-false}
 use mathlib.Core.List.{List, [], _∷_}
 use mathlib.Core.Option.{Option, none, some}
 use lib.Dec.{eqb}
+use lib.ListN.{length}
 use borrow.Author.Tests.{ne-eqb}
+use Rattle.sheet.specs.Places.{sheetWords}
+use Rattle.memory.specs.Layout.{desks}
+use Rattle.memory.specs.Updates.{freshWords}
+use Rattle.memory.proofs.Sound.{sound}
+use Rattle.memory.proofs.Slots.{draft-long}
+use Rattle.memory.proofs.Changes.{fresh-changes}
 use Rattle.register.specs.Calls.{Call, work, save, dropDraft}
 use Rattle.history.specs.Replies.{Reply}
 use Rattle.history.specs.Runs.{Event, _⇒_}
@@ -20,6 +27,8 @@ use Rattle.history.proofs.Rules.{work-idle, save-idle, save-spent, save
 use Rattle.history.proofs.Rules.{Way, new-enters, new-unread, open-done, work-done, save-done, drop-done}
 use Rattle.history.proofs.Rules.{ask-done, refused}
 use Rattle.history.proofs.SomeRule.{by-ways}
+use Rattle.history.proofs.Shown.{shown-holds}
+use Rattle.history.proofs.RunsShown.{run-shows}
 use Rattle.history.proofs.Replay.{Ready, IfSavable, kept, lost, opened-ready, worked-ready, store-ready}
 
 -- ---- every rule keeps every desk's draft and block so
@@ -36,7 +45,17 @@ idle-none {s} {d} past (no-desk p) f = go (s .draft d) refl
     go none e = e
     go (some x) e = absurd (omega (arith, f d x e .desk))
 
-module _ (s : State) (past : List Event) (f : Drafts s past) where
+-- every draft's sheet has all of its words
+abbrev Long : State → Type 0
+Long s = (d : ℕ) (x : Draft) → d < desks → s .draft d ≡ some x → length (x .sheet) ≡ sheetWords
+
+run-long : (cs : List Call) → Long (stateOf cs)
+run-long cs d x l e =
+    let S = run-shows freshWords (fresh-changes .size) cs in
+    let H = shown-holds S l e in
+    sym (ap length (H .sheet)) ∙ draft-long _ d (sound _ (S .ok) .size) l
+
+module _ (s : State) (past : List Event) (f : Drafts s past) (long : Long s) where
   -- a call of desk g that it makes without a draft
   ready-idle : {g n : ℕ} (c : Call)
       → Idle s g n
@@ -82,7 +101,8 @@ module _ (s : State) (past : List Event) (f : Drafts s past) where
       (λ d n x e. rw (n, block) (f d x (rw n at e)))
   ready-step (work-done {d = g} {w} y p q) =
       at-or g _
-      (λ x e. let u : edited w y ≡ x = some-inj (rw self at e) in rw (self, block, ← u) (worked-ready (f g y q) w))
+      (λ x e. let u : edited w y ≡ x = some-inj (rw self at e) in rw (self, block, ← u)
+      (worked-ready (f g y q) w (long g y p q)))
       (λ d n x e. rw (n, block) (f d x (rw n at e)))
   ready-step (save-done {d = g} y p q u l) =
       at-or g _ (λ x e. absurd (none≢some (rw self at e)))
@@ -97,4 +117,4 @@ unfolding stateOf eventsOf fresh
 drafts [] = λ d x e. absurd (none≢some e)
 drafts (c ∷ cs) =
     by-ways (stateOf cs) c (λ t r. Drafts t ((c ⇒ r) ∷ eventsOf cs))
-    (λ t r p. ready-step (stateOf cs) (eventsOf cs) (drafts cs) p)
+    (λ t r p. ready-step (stateOf cs) (eventsOf cs) (drafts cs) (run-long cs) p)

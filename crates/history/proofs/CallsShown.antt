@@ -26,7 +26,7 @@ use Rattle.history.proofs.Model.{Draft, State, askSays, opens, atDesk, 
 use Rattle.history.proofs.Rules.{Idle, no-desk, no-draft}
 use Rattle.history.proofs.Tools.{at-or, self}
 use Rattle.history.proofs.Shown.{Shows, holds-none, same-hull-in, same-draft-in, desk-shows, shown-few}
-use Rattle.history.proofs.Shown.{shown-number, shown-sheet, shown-holds, shown-hull}
+use Rattle.history.proofs.Shown.{shown-number, shown-sheet, shown-weight, shown-holds, shown-hull}
 
 -- the memory o shows the state t, and the reply a is the reply r
 pub record Tied (o : List ℕ) (a : Reply) (t : State) (r : Reply) : Type 0 where
@@ -67,7 +67,7 @@ module _ {m : List ℕ} {s : State} (S : Shows m s) where
   asks h q p z =
       record {
         shows = rw (leaves-same (step m (ask h q) .answer) m) S;
-        replies = rw (z, shown-sheet S (shown-few S p)) refl;
+        replies = rw (z, shown-weight S p, shown-sheet S (shown-few S p)) refl;
       }
 
   -- ---- the refusals of a memory that shows the state

@@ -1,5 +1,5 @@
--- The register as the office would draw it, with no words of memory: hulls, drafts, and what each call does to them. A
--- tool of the proofs alone: `Shown.antt` ties it to the memory of the calls, and no theorem of `Theorems.antt` speaks
+-- The register as the office would draw it, with no words of memory: hulls, drafts, and what each call does to them. No
+-- weight is drawn, since a sheet tells it. A tool of the proofs alone: `Shown.antt` ties it to the memory of the calls, and no theorem of `Theorems.antt` speaks
 -- of it.
 use Prim.Native.Nat.{ℕ, suc}
 use mathlib.Core.Bool.{cond}
@@ -8,6 +8,7 @@ use mathlib.Core.Option.{Option, none}
 use lib.Dec.{eqb}
 use Rattle.answers.specs.declared.Answer.{Answer}
 use Rattle.answers.specs.declared.Answer.the-variants.{Refused}
+use Rattle.capacity.specs.Weights.{boatM}
 use Rattle.register.specs.Refusals.{leaves, sheetOf}
 use Rattle.register.specs.Calls.{Work, Ask, Call, askLent, lent, workAnswer, askAnswer, askFills}
 use Rattle.history.specs.Replies.{Reply, says, accepted}
@@ -38,14 +39,15 @@ pub record Outcome : Type 0 where
 
 -- work on a draft whose sheet is s: the reply, and the sheet after it
 unfoldable pub workSays : Work → List ℕ → Reply
-workSays w s = says (workAnswer w s)
+workSays w s = says (workAnswer w (boatM s) s)
 
 abbrev workDone : Work → List ℕ → List ℕ
 workDone w s = cond (accepted (workSays w s)) (worked w s) s
 
 -- what is asked of hull h, whose sheet is s
 unfoldable pub askSays : ℕ → Ask → List ℕ → Reply
-askSays h q s = let a = askAnswer h q s in record { answer = a; output = leaves a (askFills h q s) (askLent q) }
+askSays h q s =
+    let a = askAnswer h q (boatM s) s in record { answer = a; output = leaves a (askFills h q s) (askLent q) }
 
 -- a call that is refused: what it was lent is as it stood
 abbrev pub refusal : Call → ℕ → Reply

@@ -3,12 +3,12 @@ use Prim.Native.Nat.{ℕ, zero, suc, _+_, _≤_, _<_}
 use native.Mathlib.Omega.{arith}
 use native.Mathlib.Nat.{le-refl}
 use mathlib.Core.Path.{_≡_, refl}
-use mathlib.Core.Bool.{false}
+use mathlib.Core.Bool.{Bool, false}
 use mathlib.Core.List.{List, [], _∷_, _++_}
 use lib.Dec.{eqb}
 use borrow.Author.Tests.{ne-eqb}
 use Rattle.ground.proofs.Booleans.{by-less, by-test}
-use Rattle.register.specs.Calls.{newHull, openHull, work, save, dropDraft, ask}
+use Rattle.register.specs.Calls.{Ask, newHull, openHull, work, save, dropDraft, ask}
 use Rattle.history.specs.Replies.{Reply, accepted}
 use Rattle.history.specs.Runs.{Event, _⇒_}
 use Rattle.history.specs.History.{Role, itsOpen, itsCall, itsEnd, elsewhere, role, block, spot, serial}
@@ -54,7 +54,7 @@ module _ (f k : ℕ → ℕ) (g : ℕ) (other : (d : ℕ) → eqb d g ≡ false 
   sum-grows c n l =
       by-less g n (λ p. let a = sum-beyond n p in omega arith) (λ p. let a = sum-before n p in omega arith)
 
-module _ (w : Event → ℕ) where
+module _ (kept : Ask → Bool) (w : Event → ℕ) where
   -- what the desks' blocks weigh
   held : List Event → ℕ → ℕ
   held past d = weight w (block d past)
@@ -80,7 +80,7 @@ module _ (w : Event → ℕ) where
 
   -- the serial list, and the blocks of the desks below n
   Within : List Event → ℕ → Type 0
-  Within past n = weight w (serial past) + sumBelow (held past) n ≤ weight w past
+  Within past n = weight w (serial kept past) + sumBelow (held past) n ≤ weight w past
 
   -- a save, by whether it was accepted
   saved-within : (g : ℕ) (r : Reply) (past : List Event) (n : ℕ)
@@ -93,12 +93,12 @@ module _ (w : Event → ℕ) where
       let k : ℕ → ℕ = held ((save g ⇒ r) ∷ past) in
       let z : k g ≡ 0 = rw (self, e, block) in
       let a = sum-beyond (held past) k g (λ d o. rw (o, block)) (n + suc g) (omega arith) in
-      let q : weight w (serial ((save g ⇒ r) ∷ past)) ≡ w (save g ⇒ r) + weight w (block g past ++ serial past) =
+      let q : weight w (serial kept ((save g ⇒ r) ∷ past)) ≡ w (save g ⇒ r) + weight w (block g past ++ serial kept past) =
       rw (e, serial) in
-      omega (arith, sum-more k n (suc g), weight-append w (block g past) (serial past), h (n + suc g)))
+      omega (arith, sum-more k n (suc g), weight-append w (block g past) (serial kept past), h (n + suc g)))
       (λ e.
       let a = grows (save g ⇒ r) g past n (λ d o. rw o) in
-      let q : weight w (serial ((save g ⇒ r) ∷ past)) ≡ weight w (serial past) = rw (e, serial) in
+      let q : weight w (serial kept ((save g ⇒ r) ∷ past)) ≡ weight w (serial kept past) = rw (e, serial) in
       omega (arith, h n))
 
   within : (past : List Event) (n : ℕ) → Within past n
@@ -110,9 +110,11 @@ module _ (w : Event → ℕ) where
   within ((work g x ⇒ r) ∷ past) n = omega (arith, within past n, grows (work g x ⇒ r) g past n (λ d o. rw o))
   within ((save g ⇒ r) ∷ past) n = saved-within g r past n (within past)
   within ((dropDraft g ⇒ r) ∷ past) n = omega (arith, within past n, grows (dropDraft g ⇒ r) g past n (λ d o. rw o))
-  within ((ask h q ⇒ r) ∷ past) n = omega (arith, within past n)
+  within ((ask h q ⇒ r) ∷ past) n =
+      by-test (kept q) (λ t. rw (t, serial) (omega (arith, within past n)))
+      (λ t. rw (t, serial) (omega (arith, within past n)))
 
   -- Each call of a history is taken at most once.
-  pub once : (past : List Event) → weight w (serial past) ≤ weight w past
+  pub once : (past : List Event) → weight w (serial kept past) ≤ weight w past
   unfolding Within
   once past = omega (arith, within past 0)

@@ -5,7 +5,7 @@ use mathlib.Core.Path.{_≡_, refl, ap}
 use mathlib.Core.Bool.{Bool, true, false, cond}
 use mathlib.Core.List.{List, [], _∷_, _++_}
 use Rattle.ground.proofs.Booleans.{by-test}
-use Rattle.register.specs.Calls.{newHull, openHull, work, save, dropDraft, ask}
+use Rattle.register.specs.Calls.{Ask, newHull, openHull, work, save, dropDraft, ask}
 use Rattle.history.specs.Replies.{accepted}
 use Rattle.history.specs.Runs.{Event, _⇒_}
 use Rattle.history.specs.History.{Role, itsOpen, itsCall, itsEnd, elsewhere, role, block, spot, serial}
@@ -37,54 +37,56 @@ block-in-order d (e ∷ past) = go (role d e) refl (block-in-order d past)
 
 -- ---- the serial list
 
--- new hulls, plates and writings, and accepted saves: each has a place of its own
-unfoldable pub hasPlace : Event → Bool
-hasPlace (newHull t ⇒ r) = true
-hasPlace (openHull d h ⇒ r) = false
-hasPlace (work d w ⇒ r) = false
-hasPlace (save d ⇒ r) = accepted r
-hasPlace (dropDraft d ⇒ r) = false
-hasPlace (ask h q ⇒ r) = true
+-- new hulls, questions that are kept, and accepted saves: each has a place of its own
+unfoldable pub hasPlace : (Ask → Bool) → Event → Bool
+hasPlace keeps (newHull t ⇒ r) = true
+hasPlace keeps (openHull d h ⇒ r) = false
+hasPlace keeps (work d w ⇒ r) = false
+hasPlace keeps (save d ⇒ r) = accepted r
+hasPlace keeps (dropDraft d ⇒ r) = false
+hasPlace keeps (ask h q ⇒ r) = keeps q
 
-unfoldable pub placed : List Event → List Event
-placed [] = []
-placed (e ∷ es) = cond (hasPlace e) (e ∷ placed es) (placed es)
+unfoldable pub placed : (Ask → Bool) → List Event → List Event
+placed keeps [] = []
+placed keeps (e ∷ es) = cond (hasPlace keeps e) (e ∷ placed keeps es) (placed keeps es)
 
-placed-append : (a b : List Event) → placed (a ++ b) ≡ placed a ++ placed b
-unfolding placed
-placed-append [] b = refl
-placed-append (e ∷ a) b =
-    let h = placed-append a b in by-test (hasPlace e) (λ t. rw (t, h)) (λ t. rw (t, h))
+module _ (keeps : Ask → Bool) where
+  placed-append : (a b : List Event) → placed keeps (a ++ b) ≡ placed keeps a ++ placed keeps b
+  unfolding placed
+  placed-append [] b = refl
+  placed-append (e ∷ a) b =
+      let h = placed-append a b in by-test (hasPlace keeps e) (λ t. rw (t, h)) (λ t. rw (t, h))
 
--- the calls of a block have no place of their own
-unplaced : {d : ℕ} {e : Event} {s : Role} (past : List Event)
-    → Known d e s
-    → role d e ≡ s
-    → placed (block d past) ≡ []
-    → placed (block d (e ∷ past)) ≡ []
-unfolding placed hasPlace block
-unplaced past (an-open a) p n = rw (p, block)
-unplaced past some-work p n = rw (p, block) n
-unplaced past (vain-save a) p n = rw (p, block, a) n
-unplaced past an-end p n = rw (p, block)
-unplaced past (another e s c) p n = rw (p, block) n
+  -- the calls of a block have no place of their own
+  unplaced : {d : ℕ} {e : Event} {s : Role} (past : List Event)
+      → Known d e s
+      → role d e ≡ s
+      → placed keeps (block d past) ≡ []
+      → placed keeps (block d (e ∷ past)) ≡ []
+  unfolding placed hasPlace block
+  unplaced past (an-open a) p n = rw (p, block)
+  unplaced past some-work p n = rw (p, block) n
+  unplaced past (vain-save a) p n = rw (p, block, a) n
+  unplaced past an-end p n = rw (p, block)
+  unplaced past (another e s c) p n = rw (p, block) n
 
-block-none : (d : ℕ) (past : List Event) → placed (block d past) ≡ []
-unfolding placed block
-block-none d [] = refl
-block-none d (e ∷ past) = unplaced past (known d e) refl (block-none d past)
+  block-none : (d : ℕ) (past : List Event) → placed keeps (block d past) ≡ []
+  unfolding placed block
+  block-none d [] = refl
+  block-none d (e ∷ past) = unplaced past (known d e) refl (block-none d past)
 
--- Every call kept is at its own place, and every block at its save's place.
-pub places-kept : (past : List Event) → placed (serial past) ≡ placed past
-unfolding placed hasPlace serial spot
-places-kept [] = refl
-places-kept ((newHull t ⇒ r) ∷ past) = ap (λ (es : List Event). (newHull t ⇒ r) ∷ es) (places-kept past)
-places-kept ((openHull d h ⇒ r) ∷ past) = places-kept past
-places-kept ((work d w ⇒ r) ∷ past) = places-kept past
-places-kept ((save d ⇒ r) ∷ past) =
-    let h = places-kept past in
-    by-test (accepted r)
-    (λ e. rw (e, serial) (rw (e, placed-append (block d past) (serial past), block-none d past, h)))
-    (λ e. rw (e, serial) h)
-places-kept ((dropDraft d ⇒ r) ∷ past) = places-kept past
-places-kept ((ask h q ⇒ r) ∷ past) = ap (λ (es : List Event). (ask h q ⇒ r) ∷ es) (places-kept past)
+  -- Every call kept is at its own place, and every block at its save's place.
+  pub places-kept : (past : List Event) → placed keeps (serial keeps past) ≡ placed keeps past
+  unfolding placed hasPlace serial spot
+  places-kept [] = refl
+  places-kept ((newHull t ⇒ r) ∷ past) = ap (λ (es : List Event). (newHull t ⇒ r) ∷ es) (places-kept past)
+  places-kept ((openHull d h ⇒ r) ∷ past) = places-kept past
+  places-kept ((work d w ⇒ r) ∷ past) = places-kept past
+  places-kept ((save d ⇒ r) ∷ past) =
+      let h = places-kept past in
+      by-test (accepted r)
+      (λ e. rw (e, serial) (rw (e, placed-append (block d past) (serial keeps past), block-none d past, h)))
+      (λ e. rw (e, serial) h)
+  places-kept ((dropDraft d ⇒ r) ∷ past) = places-kept past
+  places-kept ((ask h q ⇒ r) ∷ past) =
+      let i = places-kept past in by-test (keeps q) (λ e. rw (e, serial) (rw (e, i))) (λ e. rw (e, serial) i)

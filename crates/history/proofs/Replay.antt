@@ -7,9 +7,11 @@ use mathlib.Core.Path.{_≡_, ap, refl}
 use mathlib.Core.Bool.{true}
 use mathlib.Core.List.{List, _∷_, _++_, map, []}
 use mathlib.Core.Option.{some}
+use lib.ListN.{length}
 use borrow.Author.Tests.{eq-eqb, ne-eqb}
 use Rattle.ground.proofs.Booleans.{by-equal}
 use Rattle.answers.specs.declared.Answer.the-variants.{Count}
+use Rattle.sheet.specs.Places.{sheetWords}
 use Rattle.memory.specs.Layout.{desks}
 use Rattle.memory.specs.Formed.{mostEdits}
 use Rattle.register.specs.Calls.{Call, Work, openHull, work}
@@ -19,6 +21,7 @@ use Rattle.history.proofs.WholeBlock.{saveless}
 use Rattle.history.proofs.Model.{Draft, Register, State, Outcome, workSays, store, opens, edited}
 use Rattle.history.proofs.ModelStep.{stateOf, eventsOf}
 use Rattle.history.proofs.Rules.{Way, way-taken, open-done, work-done}
+use Rattle.history.proofs.Moves.{Made, made-opened, made-worked}
 use Rattle.history.proofs.Tools.{self}
 
 -- ---- a rule, as what it adds to a run
@@ -45,13 +48,14 @@ pub record Replays (d : ℕ) (x : Draft) (b : List Event) (cs : List Call) : Typ
 abbrev pub IfSavable : Register → Draft → Type 0 → Type 0
 IfSavable R x P = R .hull (x .hull) .edits ≡ x .opening → (R .hull (x .hull) .edits ≡ mostEdits → ⊥) → P
 
--- the draft x of desk d, made by the calls b: while it may still be saved, b has no save, and gives x wherever its hull
--- is as it is here
+-- the draft x of desk d, made by the calls b: while it may still be saved, b has no save, makes x of its hull's sheet,
+-- and gives x wherever its hull is as it is here
 pub record Ready (R : Register) (d : ℕ) (x : Draft) (b : List Event) : Type 0 where
   pub desk : d < desks
   pub hull : x .hull < R .entered
   pub grown : x .opening ≤ R .hull (x .hull) .edits
   pub clean : IfSavable R x (saveless b ≡ true)
+  pub made : IfSavable R x (Made b (R .hull (x .hull) .sheet) (x .sheet))
   pub replays : IfSavable R x
       ((cs : List Call)
       → x .hull < stateOf cs .register .entered
@@ -66,6 +70,7 @@ module _ {R : Register} {d : ℕ} {x : Draft} {b : List Event} (r : Ready R d x 
         hull = omega (arith, r .hull);
         grown = rw e (r .grown);
         clean = rw e (r .clean);
+        made = rw e (r .made);
         replays = rw e (r .replays);
       }
 
@@ -81,6 +86,7 @@ module _ {R : Register} {d : ℕ} {x : Draft} {b : List Event} (r : Ready R d x 
         hull = omega (arith, r .hull);
         grown = g;
         clean = λ p q. absurd (never p q);
+        made = λ p q. absurd (never p q);
         replays = λ p q. absurd (never p q);
       }
 
@@ -93,7 +99,14 @@ pub opened-ready : (R : Register) (d h : ℕ)
     → Ready R d (opens R h) ((openHull d h ⇒ says (Count (R .hull h .edits))) ∷ [])
 unfolding saveless
 opened-ready R d h p q =
-    record { desk = p; hull = q; grown = le-refl _; clean = λ _ _. refl; replays = λ _ _. again }
+    record {
+      desk = p;
+      hull = q;
+      grown = le-refl _;
+      clean = λ _ _. refl;
+      made = λ _ _. made-opened d h _ (R .hull h .sheet);
+      replays = λ _ _. again;
+    }
   where
     again : (cs : List Call)
         → h < stateOf cs .register .entered
@@ -104,15 +117,18 @@ opened-ready R d h p q =
         record { replies = rw (events-by cs (open-done p l), e); register = rw is; draft = rw (is, self, e) }
 
 module _ {R : Register} {d : ℕ} {x : Draft} {b : List Event} (r : Ready R d x b) where
-  -- a draft that was worked on
-  pub worked-ready : (w : Work) → Ready R d (edited w x) ((work d w ⇒ workSays w (x .sheet)) ∷ b)
+  -- a draft that was worked on, whose sheet has all of its words
+  pub worked-ready : (w : Work)
+      → length (x .sheet) ≡ sheetWords
+      → Ready R d (edited w x) ((work d w ⇒ workSays w (x .sheet)) ∷ b)
   unfolding saveless
-  worked-ready w =
+  worked-ready w n =
       record {
         desk = r .desk;
         hull = r .hull;
         grown = r .grown;
         clean = r .clean;
+        made = λ p q. made-worked d w n (r .made p q);
         replays = λ p q cs l e. more cs (r .replays p q cs l e);
       }
     where

@@ -4,13 +4,13 @@ use Prim.Native.Nat.{ℕ, suc, _<_, _≤_}
 use native.Mathlib.Omega.{arith}
 use mathlib.Core.Path.{_≡_, refl, sym, ap, _∙_}
 use mathlib.Core.Bool.{Bool, true, false, cond, false≢true}
-use mathlib.Core.List.{List, [], _∷_}
+use mathlib.Core.List.{List, [], _∷_, map}
 use mathlib.Core.Option.{some}
 use Rattle.ground.proofs.Booleans.{false-true}
 use Rattle.answers.specs.declared.Answer.the-variants.{Count}
 use Rattle.memory.specs.Formed.{mostEdits}
 use Rattle.register.specs.Calls.{Call, save}
-use Rattle.history.specs.Runs.{Event}
+use Rattle.history.specs.Runs.{Event, call}
 use Rattle.history.specs.History.{Role, role, block}
 use Rattle.history.specs.Told.{Opening, opening, isSaveOf, savesOf, quietSince}
 use Rattle.history.specs.Replies.{Reply, says, accepted}
@@ -24,6 +24,8 @@ use Rattle.history.proofs.SomeRule.{by-ways}
 use Rattle.history.proofs.AllReady.{Drafts, drafts}
 use Rattle.history.proofs.HistoryTells.{draftOf, draftFrom, Tells, drawn}
 use Rattle.history.proofs.TellsEvery.{history-tells}
+use Rattle.history.proofs.Moves.{Made}
+use Rattle.history.proofs.Still.{hull-stood}
 
 -- ---- no save since an open, walked or counted
 
@@ -111,6 +113,8 @@ pub record Saved (s : State) (past : List Event) (d : ℕ) (o : Opening) : Type 
       let x = draftOf (block d past) o in Way s (save d) (afterSave s d x) (says (Count (suc (editsOf s x))))
   pub count : editsOf s (draftOf (block d past) o) ≡ savesOf (o .hull) past
   pub known : o .hull < s .register .entered
+  pub made : Made (block d past) (s .register .hull (o .hull) .sheet) (draftOf (block d past) o .sheet)
+  pub stood : s .register .hull (o .hull) ≡ stateOf (map call (o .before)) .register .hull (o .hull)
 
 pub save-taken : (cs : List Call) (d : ℕ) (o : Opening)
     → opening d (eventsOf cs) ≡ some o
@@ -124,8 +128,12 @@ save-taken cs d o e q l =
     let x : stateOf cs .draft d ≡ some y = f .drafts d ∙ ap (draftFrom (block d past)) e in
     let n : editsOf (stateOf cs) y ≡ savesOf (o .hull) past = f .edits (o .hull) in
     let r = drafts cs d y x in
+    let quiet = quiet-still d (o .hull) past o e q in
+    let left : editsOf (stateOf cs) y ≡ mostEdits → ⊥ = λ k. omega (arith, n, k) in
     record {
-      rule = save-done y (r .desk) x (n ∙ quiet-still d (o .hull) past o e q) (λ k. omega (arith, n, k));
+      rule = save-done y (r .desk) x (n ∙ quiet) left;
       count = n;
       known = r .hull;
+      made = r .made (n ∙ quiet) left;
+      stood = hull-stood cs d o e quiet;
     }

@@ -1,7 +1,9 @@
 -- The list of demand 3, run from fresh in the model: the same register, and the same reply to each call kept.
 use Prim.Native.Nat.{ℕ, suc, _<_}
 use mathlib.Core.Path.{_≡_, refl, ap, _∙_}
+use mathlib.Core.Bool.{Bool}
 use mathlib.Core.List.{List, [], _∷_, _++_, map}
+use Rattle.ground.proofs.Booleans.{by-test}
 use Rattle.answers.specs.declared.Answer.the-variants.{Count}
 use Rattle.memory.specs.Formed.{mostEdits}
 use Rattle.register.specs.Calls.{Ask, Call, newHull, openHull, work, save, dropDraft, ask}
@@ -40,7 +42,7 @@ module _ {R : Register} {es : List Event} (g : RunsTo R es) where
 
 -- ---- one block more, and its save
 
-calls-append : (b es : List Event) → map call (b ++ es) ≡ map call b ++ map call es
+pub calls-append : (b es : List Event) → map call (b ++ es) ≡ map call b ++ map call es
 calls-append [] es = refl
 calls-append (e ∷ b) es = ap (λ (l : List Call). call e ∷ l) (calls-append b es)
 
@@ -61,42 +63,51 @@ saves-runs {R} {es} {d} {x} {b} r u l g =
       register = rw (calls-append b es, state-by (map call b ++ cs) rule, same);
     }
 
--- ---- every rule. What is asked of a hull changes no register, so the list would run so without it too.
+-- ---- every rule. What is asked of a hull changes no register, so the list runs so with it and without it.
 
-serial-refused : {s : State} (past : List Event) (c : Call) {n : ℕ}
-    → Refuses s c n
-    → RunsTo (s .register) (serial past)
-    → RunsTo (s .register) (serial ((c ⇒ refusal c n) ∷ past))
-unfolding serial spot
-serial-refused past (newHull t) (no-room p) g = refused-runs g (no-room (rw (g .register) p))
-serial-refused past (openHull d h) p g = g
-serial-refused past (work d w) p g = g
-serial-refused past (save d) p g = g
-serial-refused past (dropDraft d) p g = g
-serial-refused past (ask h q) (ask-unknown p) g =
-    search (g, refused-runs g (ask-unknown {h = h} {q = q} (rw (g .register) p)))
+module _ (kept : Ask → Bool) where
+  kept-or-not : {R : Register} (past : List Event) (h : ℕ) (q : Ask) (r : Reply)
+      → RunsTo R (serial kept past)
+      → RunsTo R ((ask h q ⇒ r) ∷ serial kept past)
+      → RunsTo R (serial kept ((ask h q ⇒ r) ∷ past))
+  unfolding serial spot
+  kept-or-not past h q r without with-it =
+      by-test (kept q) (λ t. rw (t, serial) with-it) (λ t. rw (t, serial) without)
 
-serial-step : (s : State) (past : List Event) {c : Call} {t : State} {r : Reply}
-    → Way s c t r
-    → Drafts s past
-    → RunsTo (s .register) (serial past)
-    → RunsTo (t .register) (serial ((c ⇒ r) ∷ past))
-unfolding serial spot
-serial-step s past (new-enters r p e) f g =
-    rw (← g .register) (one-more g (new-enters r (rw (g .register) p) e) refl)
-serial-step s past (new-unread n line byte p e) f g =
-    rw (← g .register) (one-more g (new-unread n line byte (rw (g .register) p) e) refl)
-serial-step s past (open-done p q) f g = g
-serial-step s past (work-done y p q) f g = g
-serial-step s past (save-done {d} y p q u l) f g = saves-runs (f d y q) u l g
-serial-step s past (drop-done y p q) f g = g
-serial-step s past (ask-done {h} {q} p) f g = search (g, asks-runs g h q p)
-serial-step s past (refused p) f g = serial-refused past _ p g
+  serial-refused : {s : State} (past : List Event) (c : Call) {n : ℕ}
+      → Refuses s c n
+      → RunsTo (s .register) (serial kept past)
+      → RunsTo (s .register) (serial kept ((c ⇒ refusal c n) ∷ past))
+  unfolding serial spot
+  serial-refused past (newHull t) (no-room p) g = refused-runs g (no-room (rw (g .register) p))
+  serial-refused past (openHull d h) p g = g
+  serial-refused past (work d w) p g = g
+  serial-refused past (save d) p g = g
+  serial-refused past (dropDraft d) p g = g
+  serial-refused past (ask h q) (ask-unknown p) g =
+      kept-or-not past h q _ g (refused-runs g (ask-unknown {h = h} {q = q} (rw (g .register) p)))
 
--- run from fresh, the serial list gives the same hulls and edit numbers, and the replies that its calls had
-pub serial-runs : (cs : List Call) → RunsTo (stateOf cs .register) (serial (eventsOf cs))
-unfolding stateOf eventsOf serial
-serial-runs [] = record { replies = refl; register = refl }
-serial-runs (c ∷ cs) =
-    by-ways (stateOf cs) c (λ t r. RunsTo (t .register) (serial ((c ⇒ r) ∷ eventsOf cs)))
-    (λ t r p. serial-step (stateOf cs) (eventsOf cs) p (drafts cs) (serial-runs cs))
+  serial-step : (s : State) (past : List Event) {c : Call} {t : State} {r : Reply}
+      → Way s c t r
+      → Drafts s past
+      → RunsTo (s .register) (serial kept past)
+      → RunsTo (t .register) (serial kept ((c ⇒ r) ∷ past))
+  unfolding serial spot
+  serial-step s past (new-enters r p e) f g =
+      rw (← g .register) (one-more g (new-enters r (rw (g .register) p) e) refl)
+  serial-step s past (new-unread n line byte p e) f g =
+      rw (← g .register) (one-more g (new-unread n line byte (rw (g .register) p) e) refl)
+  serial-step s past (open-done p q) f g = g
+  serial-step s past (work-done y p q) f g = g
+  serial-step s past (save-done {d} y p q u l) f g = saves-runs (f d y q) u l g
+  serial-step s past (drop-done y p q) f g = g
+  serial-step s past (ask-done {h} {q} p) f g = kept-or-not past h q _ g (asks-runs g h q p)
+  serial-step s past (refused p) f g = serial-refused past _ p g
+
+  -- run from fresh, the serial list gives the same hulls and edit numbers, and the replies that its calls had
+  pub serial-runs : (cs : List Call) → RunsTo (stateOf cs .register) (serial kept (eventsOf cs))
+  unfolding stateOf eventsOf serial
+  serial-runs [] = record { replies = refl; register = refl }
+  serial-runs (c ∷ cs) =
+      by-ways (stateOf cs) c (λ t r. RunsTo (t .register) (serial kept ((c ⇒ r) ∷ eventsOf cs)))
+      (λ t r p. serial-step (stateOf cs) (eventsOf cs) p (drafts cs) (serial-runs cs))

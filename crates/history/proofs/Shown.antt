@@ -9,8 +9,9 @@ use mathlib.Core.Option.{Option, none, some}
 use lib.Dec.{eqb}
 use borrow.Author.Tests.{eqb-true, eqb-false}
 use Rattle.ground.proofs.Booleans.{by-test}
-use Rattle.memory.specs.Layout.{mostHulls, desks, editAt, heldAt, hullCount, edit, hullSheet, held, draftHull, opening}
-use Rattle.memory.specs.Layout.{draftSheet}
+use Rattle.capacity.specs.Weights.{boatM}
+use Rattle.memory.specs.Layout.{mostHulls, desks, editAt, heldAt, hullCount, edit, hullWeight, hullSheet, held}
+use Rattle.memory.specs.Layout.{draftHull, opening, draftSheet}
 use Rattle.memory.specs.Formed.{formed}
 use Rattle.memory.specs.Updates.{freshWords}
 use Rattle.memory.proofs.Sound.{sound, held-draft}
@@ -107,6 +108,10 @@ module _ {m : List ℕ} {s : State} (S : Shows m s) where
 
   pub shown-sheet : {h : ℕ} → h < mostHulls → hullSheet m h ≡ s .register .hull h .sheet
   shown-sheet {h} l = ap (λ (x : Hull). x .sheet) (S .hulls h l)
+
+  pub shown-weight : {h : ℕ} → h < s .register .entered → hullWeight m h ≡ boatM (s .register .hull h .sheet)
+  shown-weight {h} l =
+      sound m (S .ok) .hulls h (rw (S .counts) l) .sheet .weight-is ∙ ap boatM (shown-sheet (shown-few l))
 
   pub shown-holds : {d : ℕ} {x : Draft} → d < desks → s .draft d ≡ some x → Holds m d x
   shown-holds {d} {x} l e = holds-it m d x (S .drafts d l ∙ e)

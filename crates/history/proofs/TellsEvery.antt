@@ -122,7 +122,7 @@ module _ {s : State} {past : List Event} (f : Tells s past) where
 
 -- ---- every run
 
-its-calls : (cs : List Call) → map call (eventsOf cs) ≡ cs
+pub its-calls : (cs : List Call) → map call (eventsOf cs) ≡ cs
 unfolding eventsOf
 its-calls [] = refl
 its-calls (c ∷ cs) = ap (λ (l : List Call). c ∷ l) (its-calls cs)

@@ -2,15 +2,15 @@
 -- first.
 use Prim.Native.Nat.{ℕ, _≤_, _<_}
 use mathlib.Core.Path.{_≡_, refl, sym, ap, _∙_}
-use mathlib.Core.Bool.{true}
+use mathlib.Core.Bool.{Bool, true}
 use mathlib.Core.List.{List, _∷_, map}
 use mathlib.Core.Logic.{_↔_}
 use lib.ListN.{length}
 use borrow.Author.Tests.{ne-eqb}
-use Rattle.memory.specs.Layout.{registerWords, hullCount, edit}
+use Rattle.memory.specs.Layout.{registerWords, hullCount, edit, hullSheet}
 use Rattle.memory.specs.Formed.{mostEdits, formed}
 use Rattle.memory.proofs.Sound
-use Rattle.register.specs.Calls.{Call, save}
+use Rattle.register.specs.Calls.{Ask, Call, save}
 use Rattle.history.specs.Replies.{Reply, reply, accepted}
 use Rattle.history.specs.Runs.{call, after, history}
 use Rattle.history.specs.History.{block, serial}
@@ -18,14 +18,15 @@ use Rattle.history.specs.Told.{Opening, savesOf}
 use Rattle.history.specs.Demand.{Due, SaveDoes, Gives, Demand}
 use Rattle.history.proofs.Tools.{self}
 use Rattle.history.proofs.WholeBlock.{Whole, block-whole, saveless}
-use Rattle.history.proofs.Model.{State, Outcome}
+use Rattle.history.proofs.Model.{Hull, State, Outcome}
 use Rattle.history.proofs.ModelStep.{stateOf, eventsOf}
 use Rattle.history.proofs.Rules.{way-taken}
 use Rattle.history.proofs.Replay.{state-by}
 use Rattle.history.proofs.Serial.{serial-runs}
-use Rattle.history.proofs.Shown.{shown-few, there-few, shown-number, shown-sheet}
+use Rattle.history.proofs.Shown.{shown-few, there-few, shown-number, shown-sheet, shown-weight}
 use Rattle.history.proofs.RunsShown.{run-shows, run-replies, run-history}
 use Rattle.history.proofs.TellsEvery.{history-tells}
+use Rattle.history.proofs.RunsTold.{there, weights-told}
 use Rattle.history.proofs.Saves.{Saved, save-only, save-taken}
 
 module _ (m : List ℕ) (z : length m ≡ registerWords) where
@@ -58,6 +59,7 @@ module _ (m : List ℕ) (z : length m ≡ registerWords) where
       let T = run-shows m z (save d ∷ cs) in
       let k = shown-few S (y .known) in
       let next = state-by cs (y .rule) in
+      let known : o .hull < stateOf (save d ∷ cs) .register .entered = rw next (y .known) in
       record {
         answer = ap (λ (r : Reply). r .answer)
             (run-replies m z cs (save d) ∙ ap (λ (x : Outcome). x .reply) (way-taken (stateOf cs) (y .rule)))
@@ -65,10 +67,18 @@ module _ (m : List ℕ) (z : length m ≡ registerWords) where
         number = rw (run-history m z cs) (shown-number T k ∙ rw (next, self, y .count) refl);
         sheet = rw (run-history m z cs, shown-sheet (run-shows m z (map call (o .before))) k)
             (shown-sheet T k ∙ rw (next, self) refl);
+        weight =
+            let base : hullSheet (after m (map call (o .before))) (o .hull)
+            ≡ stateOf cs .register .hull (o .hull) .sheet =
+            shown-sheet (run-shows m z (map call (o .before))) k ∙ ap (λ (x : Hull). x .sheet) (sym (y .stood)) in
+            rw (run-history m z cs, base, shown-weight S (y .known), shown-weight T known, next, self)
+            (y .made .weight);
         hulls = T .counts ∙ ap (λ (s : State). s .register .entered) next ∙ sym (S .counts);
-        others = λ h l n. let j = there-few S l in (
-          shown-number T j ∙ rw (next, ne-eqb h (o .hull) n) (sym (shown-number S j)),
-          shown-sheet T j ∙ rw (next, ne-eqb h (o .hull) n) (sym (shown-sheet S j)),
+        others = λ h l n. let j = there-few S l in let e = ne-eqb h (o .hull) n in (
+          shown-number T j ∙ rw (next, e) (sym (shown-number S j)),
+          (let there-still : h < stateOf (save d ∷ cs) .register .entered = rw next (there m z cs l) in
+              shown-weight T there-still ∙ rw (next, e) (sym (shown-weight S (there m z cs l)))),
+          shown-sheet T j ∙ rw (next, e) (sym (shown-sheet S j)),
         );
       }
 
@@ -104,12 +114,12 @@ module _ (m : List ℕ) (z : length m ≡ registerWords) where
 
   -- ---- (b) the list of demand 3
 
-  -- The serial list of a history, run from fresh: its calls reply as they did, and it leaves the hulls as they were
-  -- left, edit numbers too.
-  pub serial-gives : (cs : List Call) → Gives m (serial (history m cs)) (after m cs)
-  serial-gives cs =
-      let ks : List Call = map call (serial (eventsOf cs)) in
-      let g = serial-runs cs in
+  -- The serial list of a history, whichever questions it keeps, run from fresh: its calls reply as they did, and it
+  -- leaves the hulls as they were left, edit numbers and weights too.
+  pub serial-gives : (kept : Ask → Bool) (cs : List Call) → Gives m (serial kept (history m cs)) (after m cs)
+  serial-gives kept cs =
+      let ks : List Call = map call (serial kept (eventsOf cs)) in
+      let g = serial-runs kept cs in
       let S = run-shows m z cs in
       let T = run-shows m z ks in
       rw (run-history m z cs) (record {
@@ -117,6 +127,10 @@ module _ (m : List ℕ) (z : length m ≡ registerWords) where
         hulls = record {
           counts = T .counts ∙ rw (g .register) (sym (S .counts));
           numbers = λ h l. let j = there-few S l in shown-number T j ∙ rw (g .register) (sym (shown-number S j));
+          weights = λ h l.
+              let j = there m z cs l in
+              let i : h < stateOf ks .register .entered = rw (g .register) j in
+              shown-weight T i ∙ rw (g .register) (sym (shown-weight S j));
           sheets = λ h l. let j = there-few S l in shown-sheet T j ∙ rw (g .register) (sym (shown-sheet S j));
         };
       })
@@ -125,4 +139,10 @@ module _ (m : List ℕ) (z : length m ≡ registerWords) where
 
 pub demand-3 : (m : List ℕ) → length m ≡ registerWords → Demand m
 demand-3 m z =
-    record { accepts = save-iff m z; saves = save-does m z; counts = edits-count m z; serves = serial-gives m z }
+    record {
+      accepts = save-iff m z;
+      saves = save-does m z;
+      counts = edits-count m z;
+      weighs = weights-told m z;
+      serves = serial-gives m z;
+    }

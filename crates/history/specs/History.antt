@@ -1,10 +1,10 @@
 -- 00, demand 3 (b): an accepted save stands with the open and the calls of its draft as one block, where the save was;
--- new hulls, plates and texts stand where they were. Histories are newest first.
+-- new hulls stand where they were, and so do the questions on hulls that are kept. Histories are newest first.
 use Prim.Native.Nat.{ℕ}
-use mathlib.Core.Bool.{cond, _&&_}
+use mathlib.Core.Bool.{Bool, true, false, cond, _&&_}
 use mathlib.Core.List.{List, [], _∷_, _++_}
 use lib.Dec.{eqb}
-use Rattle.register.specs.Calls.{newHull, openHull, work, save, dropDraft, ask}
+use Rattle.register.specs.Calls.{Ask, plate, weigh, write, newHull, openHull, work, save, dropDraft, ask}
 use Rattle.history.specs.Replies.{accepted}
 use Rattle.history.specs.Runs.{Event, _⇒_}
 
@@ -33,6 +33,16 @@ block d [] = []
 block d (e ∷ past) =
     elim (role d e) [ itsOpen ↦ e ∷ [] | itsCall ↦ e ∷ block d past | itsEnd ↦ [] | elsewhere ↦ block d past ]
 
+-- which questions on a hull are kept. 00's letter keeps plates and writings, and a question after the weight (02 (vii))
+-- is neither; as a plate is, it may be kept too. What is proved of the list is so whichever are.
+abbrev pub byLetter : Ask → Bool
+byLetter (plate k) = true
+byLetter weigh = false
+byLetter (write out) = true
+
+abbrev pub everyAsk : Ask → Bool
+everyAsk q = true
+
 -- where an event stands in the serial list: at its own place, alone; at its own place, after the block of a desk's
 -- draft; or at none, unless it is in a block
 pub data Spot : Type 0 where
@@ -40,16 +50,20 @@ pub data Spot : Type 0 where
   withBlock : ℕ → Spot
   nowhere : Spot
 
-unfoldable pub spot : Event → Spot
-spot (newHull t ⇒ r) = alone
-spot (openHull d h ⇒ r) = nowhere
-spot (work d w ⇒ r) = nowhere
-spot (save d ⇒ r) = cond (accepted r) (withBlock d) nowhere
-spot (dropDraft d ⇒ r) = nowhere
-spot (ask h q ⇒ r) = alone
+unfoldable pub spot : (Ask → Bool) → Event → Spot
+spot kept (newHull t ⇒ r) = alone
+spot kept (openHull d h ⇒ r) = nowhere
+spot kept (work d w ⇒ r) = nowhere
+spot kept (save d ⇒ r) = cond (accepted r) (withBlock d) nowhere
+spot kept (dropDraft d ⇒ r) = nowhere
+spot kept (ask h q ⇒ r) = cond (kept q) alone nowhere
 
--- the list of demand 3
-unfoldable pub serial : List Event → List Event
-serial [] = []
-serial (e ∷ past) =
-    elim (spot e) [ alone ↦ e ∷ serial past | withBlock d ↦ e ∷ (block d past ++ serial past) | nowhere ↦ serial past ]
+-- the list of demand 3, by the questions that are kept
+unfoldable pub serial : (Ask → Bool) → List Event → List Event
+serial kept [] = []
+serial kept (e ∷ past) =
+    elim (spot kept e) [
+      | alone ↦ e ∷ serial kept past
+      | withBlock d ↦ e ∷ (block d past ++ serial kept past)
+      | nowhere ↦ serial kept past
+    ]

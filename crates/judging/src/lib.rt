@@ -29,7 +29,10 @@ fn hull_ok(mem: &[u32], hull: usize) -> bool
     ensures { λ r. ⌜ r ≡ hullOk (now (mem .entry)) hull ⌝ }
 {
     if keeping::edit(mem, hull) <= MOST_EDITS {
-        weighed_ok(keeping::hull_weight(mem, hull), keeping::hull_sheet(mem, hull))
+        weighed_ok(
+            keeping::hull_weight(mem, hull),
+            keeping::hull_sheet(mem, hull),
+        )
     } else {
         false
     }
@@ -71,7 +74,10 @@ fn draft_ok(mem: &[u32], desk: usize) -> bool
     if keeping::edit(mem, hull) < keeping::opening(mem, desk) {
         return false;
     }
-    weighed_ok(keeping::draft_weight(mem, desk), keeping::draft_sheet(mem, desk))
+    weighed_ok(
+        keeping::draft_weight(mem, desk),
+        keeping::draft_sheet(mem, desk),
+    )
 }
 
 // The same of every desk.

@@ -22,8 +22,7 @@ returns : tie.Need-returns
 returns c =
     let start = c .before .before .before .before .before .before .before .before in
     let args = start .args in
-    let found = c .before .before .before .before .before .draft-hull .ensures in
-    (
+    let found = c .before .before .before .before .before .draft-hull .ensures in (
       saved-edit (args .mem .now) (args .desk) found,
       saved-as _ _ (start .pre .size) (start .pre .desk) found (c .before .before .copy-weighed .ensures),
     )
