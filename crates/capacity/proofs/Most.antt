@@ -73,15 +73,15 @@ module _ (s : List ℕ) (ok : wordsOk s ≡ true) where
   unfolding boatM
   boat-some = omega (arith, bare-least s ok)
 
-  -- by any weight that is handed in for it
-  pub weight-most : {m : ℕ} → m ≤ wordMost → inboardVessel m s ≤ heaviest
-  weight-most h = omega (arith, fuel-most s ok, machinery-most s ok)
+  -- by the greatest weight that can be handed in for it
+  pub weight-most : inboardVessel wordMost s ≤ heaviest
+  weight-most = omega (arith, fuel-most s ok, machinery-most s ok)
 
   pub loss-most : {w : ℕ} → w ≤ heaviest → loss w s ≤ lossMost
   loss-most h = omega (arith, well-most s ok, flooding-most s ok)
 
-  pub lost-most : {m : ℕ} → m ≤ wordMost → loss (inboardVessel m s) s ≤ lossMost
-  lost-most h = loss-most (weight-most h)
+  pub lost-most : loss (inboardVessel wordMost s) s ≤ lossMost
+  lost-most = loss-most weight-most
 
   -- ---- a marked load fits 32 bits
 

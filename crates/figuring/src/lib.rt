@@ -1,4 +1,5 @@
-// Plates A, C and U, worked from the words of a sheet that is within the limits. printing and answering call them.
+// Plates A, C and U, worked from the words of a sheet that is within the limits and from a weight that is taken for M,
+// the boat with its fittings: the plate is by that weight, whatever it is. printing and answering call them.
 ghost use mathlib.Core.Path.{_≡_};
 ghost use mathlib.Core.Bool.{true};
 ghost use Rattle.sheet.specs.Sheet.{wordsOk};
@@ -26,7 +27,7 @@ use power::power_a;
 
 mod numbers; // widening, the lesser and the greater, rounding down
 mod volume; // N, and what adds to the load
-mod weights; // the boat, and what takes from the load
+mod weights; // what takes from the load
 mod loads; // marked loads of plates C and A
 mod engines; // engine rows and the engine's weight
 mod persons; // plate C's persons
@@ -34,13 +35,13 @@ mod power; // plate A's power
 mod pounds; // plate U's load
 
 // Plate A: its kilograms and its watts.
-pub fn plate_a(sheet: &[u32]) -> Answer
+pub fn plate_a(weight: u32, sheet: &[u32]) -> Answer
     requires { ⌜ wordsOk (now sheet) ≡ true ⌝ }
-    ensures { λ r. ⌜ r ≡ plateA (now (sheet .entry)) ⌝ }
+    ensures { λ r. ⌜ r ≡ plateA weight (now (sheet .entry)) ⌝ }
 {
     // Lent on as a part of itself, it goes in registers and takes no stack (DECISIONS).
     let sheet = &sheet[..];
-    let load = marked_a(sheet);
+    let load = marked_a(weight, sheet);
     if load == 0 {
         Answer::Refused(NO_LOAD)
     } else if lacks_power(sheet) {
@@ -51,14 +52,14 @@ pub fn plate_a(sheet: &[u32]) -> Answer
 }
 
 // Plate C: its kilograms and its persons, of engine rows in two lent slices.
-pub fn plate_c(sheet: &[u32], powers: &[u32], weights: &[u32]) -> Answer
+pub fn plate_c(weight: u32, sheet: &[u32], powers: &[u32], weights: &[u32]) -> Answer
     requires { ⌜ wordsOk (now sheet) ≡ true ⌝ }
-    ensures { λ r. ⌜ r ≡ plateC (now (sheet .entry)) (now (powers .entry)) (now (weights .entry)) ⌝ }
+    ensures { λ r. ⌜ r ≡ plateC weight (now (sheet .entry)) (now (powers .entry)) (now (weights .entry)) ⌝ }
 {
     // Lent on as a part of itself, it goes in registers and takes no stack (DECISIONS).
     let sheet = &sheet[..];
     if rows_right(powers, weights) {
-        let load = marked_c(sheet);
+        let load = marked_c(weight, sheet);
         if load == 0 {
             return Answer::Refused(NO_LOAD);
         }
@@ -80,13 +81,13 @@ pub fn plate_c(sheet: &[u32], powers: &[u32], weights: &[u32]) -> Answer
 }
 
 // Plate U: its pounds.
-pub fn plate_u(sheet: &[u32]) -> Answer
+pub fn plate_u(weight: u32, sheet: &[u32]) -> Answer
     requires { ⌜ wordsOk (now sheet) ≡ true ⌝ }
-    ensures { λ r. ⌜ r ≡ plateU (now (sheet .entry)) ⌝ }
+    ensures { λ r. ⌜ r ≡ plateU weight (now (sheet .entry)) ⌝ }
 {
     // Lent on as a part of itself, it goes in registers and takes no stack (DECISIONS).
     let sheet = &sheet[..];
-    let load = marked_u(sheet);
+    let load = marked_u(weight, sheet);
     if load == 0 {
         Answer::Refused(NO_LOAD)
     } else {

@@ -6,9 +6,9 @@ ghost use Rattle.capacity.specs.Whole.{orZero};
 ghost use Rattle.capacity.specs.PlateC.{markedC};
 ghost use Rattle.capacity.specs.PlateA.{markedA};
 use super::numbers::whole_part;
+use super::numbers::wide;
 use super::volume::GRAM;
 use super::volume::gain_of;
-use super::weights::boat_of;
 use super::weights::carried_of;
 use super::weights::loss_of;
 use sheet::DECLARED;
@@ -23,13 +23,12 @@ const MARKED_KILO: u64 = 5 * 1000 * GRAM;
 const HALF_MARKED: u64 = 2500 * GRAM;
 
 // The kilograms that plate C marks, or 0 where there are none.
-pub fn marked_c(sheet: &[u32]) -> u64
+pub fn marked_c(weight: u32, sheet: &[u32]) -> u64
     requires { ⌜ wordsOk (now sheet) ≡ true ⌝ }
-    ensures { λ r. ⌜ r ≡ orZero (markedC (now (sheet .entry))) ⌝ }
+    ensures { λ r. ⌜ r ≡ orZero (markedC weight (now (sheet .entry))) ⌝ }
 {
-    // the boat first, so that no other sum has to outlive that one's call (DECISIONS)
-    let loss = loss_of(sheet, boat_of(sheet) + carried_of(sheet));
     let gain = gain_of(sheet);
+    let loss = loss_of(sheet, wide(weight) + carried_of(sheet));
     if LOW_POWER < sheet[DECLARED] {
         whole_part(gain, loss, MARKED_KILO)
     } else {
@@ -39,14 +38,13 @@ pub fn marked_c(sheet: &[u32]) -> u64
 
 // The kilograms that plate A marks, or 0 where there are none: half a kilogram is added, so that a half goes upward. An
 // inboard's tanks and machinery count five times.
-pub fn marked_a(sheet: &[u32]) -> u64
+pub fn marked_a(weight: u32, sheet: &[u32]) -> u64
     requires { ⌜ wordsOk (now sheet) ≡ true ⌝ }
-    ensures { λ r. ⌜ r ≡ orZero (markedA (now (sheet .entry))) ⌝ }
+    ensures { λ r. ⌜ r ≡ orZero (markedA weight (now (sheet .entry))) ⌝ }
 {
-    // the boat first, so that no other sum has to outlive that one's call (DECISIONS)
-    let boat = boat_of(sheet);
-    let carried = carried_of(sheet);
     let gain = gain_of(sheet) + HALF_MARKED;
+    let boat = wide(weight);
+    let carried = carried_of(sheet);
     if sheet[OUTBOARD] == 1 {
         whole_part(gain, loss_of(sheet, boat + carried), MARKED_KILO)
     } else {

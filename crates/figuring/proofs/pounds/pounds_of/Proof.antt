@@ -3,10 +3,10 @@ use mathlib.Core.Path.{_∙_}
 use Prim.Native.Nat.{_*_}
 use native.Mathlib.Nat.{lt-of-le-of-lt}
 use lib.Dec.{lit<}
-use Rattle.capacity.specs.PlateU.{figure, finer}
+use Rattle.capacity.specs.PlateU.{figure}
 use Rattle.capacity.proofs.Most.{gainMost, lossMost}
 use Rattle.sheet.proofs.Words.{words-length}
-use Rattle.capacity.proofs.PoundsWorked.{pounds-are, gain-fine, loss-fine}
+use Rattle.capacity.proofs.PoundsWorked.{fifths, pounds-are, gain-fine, loss-fine}
 use native.Mathlib.Omega.{arith}
 use borrow.Author.Needs.{needs}
 use Rattle.figuring.proofs.pounds.pounds_of.Statement.{statement}
@@ -16,15 +16,15 @@ mul-whole-part : tie.Need-mul-whole-part
 mul-whole-part c =
     let p = c .before .pre in
     record {
-      fits = lt-of-le-of-lt {m = 3 * finer * gainMost}
-          (rw (p .1 .gains) (gain-fine _ (p .0) (p .1 .times-most))) (lit< tt);
+      fits = lt-of-le-of-lt {m = 3 * fifths * gainMost}
+          (rw (p .1 .gains) (gain-fine _ (p .0) fifths (p .1 .times-most))) (lit< tt);
     }
 
 mul-whole-part-2 : tie.Need-mul-whole-part-2
 mul-whole-part-2 c =
     let p = c .before .before .pre in
     record {
-      fits = lt-of-le-of-lt {m = 3 * finer * lossMost}
+      fits = lt-of-le-of-lt {m = 3 * fifths * lossMost}
           (rw (c .loss-of .ensures) (loss-fine _ (p .0) (p .1 .times-most) (p .1 .grams-most))) (lit< tt);
     }
 
