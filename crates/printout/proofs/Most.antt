@@ -23,16 +23,17 @@ use Rattle.sheet.specs.EngineText.{readEngines, powersOf, weightsOf}
 use Rattle.sheet.proofs.SheetText.{sheet-fault, sheet-most}
 use Rattle.sheet.proofs.EngineText.{engines-fault, engines-most}
 use Rattle.capacity.specs.Whole.{isBelow}
+use Rattle.capacity.specs.Weights.{boatM}
 use Rattle.capacity.specs.PlateA.{markedA, lacksPower, plateA}
 use Rattle.capacity.specs.PlateC.{markedC, rowsRight, lacksRow, liveLoad, lacksTests, persons, plateC}
+use Rattle.capacity.specs.Kinds.{kindA, kindC, plateOf}
 use Rattle.sheet.specs.Sheet.{wordsOk}
 use Rattle.capacity.proofs.Most.{marked-most, c-most}
 use Rattle.capacity.proofs.Power.{power-most}
 use Rattle.capacity.proofs.Persons.{persons-most}
 use Rattle.printout.specs.Input.{mostInput, sheetPart, enginePart}
 use Rattle.printout.specs.Printed.{figures, inputText, plateText, platesText, rowsPrinted, printed}
-use Rattle.printout.proofs.Printed.{rows-fault, rows-plates, read-ok}
-use Rattle.printout.proofs.Printed.{printed-long, printed-fault, printed-rows}
+use Rattle.printout.proofs.Printed.{rows-fault, rows-plates, read-ok, printed-long, printed-fault, printed-rows}
 
 abbrev pub mostPrinted : ℕ
 mostPrinted = 60
@@ -94,28 +95,28 @@ abbrev Low : Answer → Type 0
 Low a = sumOf a ≤ 320000
 
 module _ (s : List ℕ) (b : wordsOk s ≡ true) where
-  a-small : Low (plateA s)
+  a-small : (m : ℕ) → Low (plateA m s)
   unfolding plateA
-  a-small =
-      either Low (isBelow (markedA s) 1) (omega arith)
-      (either Low (lacksPower s) (omega arith) (omega (arith, marked-most s b, power-most s b)))
+  a-small m =
+      either Low (isBelow (markedA m s) 1) (omega arith)
+      (either Low (lacksPower s) (omega arith) (omega (arith, marked-most s b m, power-most s b)))
 
-  c-small : (ps ws : List ℕ) → Low (plateC s ps ws)
+  c-small : (m : ℕ) (ps ws : List ℕ) → Low (plateC m s ps ws)
   unfolding plateC
-  c-small ps ws =
+  c-small m ps ws =
+      let live = liveLoad m s ps ws in
       either Low (not (rowsRight ps ws)) (omega arith)
-      (either Low (isBelow (markedC s) 1) (omega arith)
+      (either Low (isBelow (markedC m s) 1) (omega arith)
       (either Low (lacksRow s ps) (omega arith)
-      (either Low (lacksTests s (liveLoad s ps ws)) (omega arith)
-      (either Low (isBelow (persons s (liveLoad s ps ws)) 1) (omega arith)
-      (omega (arith, c-most s b, persons-most s (liveLoad s ps ws) b))))))
+      (either Low (lacksTests s live) (omega arith)
+      (either Low (isBelow (persons s live) 1) (omega arith) (omega (arith, c-most s b m, persons-most s live b))))))
 
   plates-most : (ps ws : List ℕ) → length (platesText s ps ws) ≤ mostPrinted
   unfolding platesText
   plates-most ps ws =
       rw length-append
-      (both-most _ _ (plate-most _ _ (plateA s) (omega (arith, a-small)))
-      (plate-most _ _ (plateC s ps ws) (omega (arith, c-small ps ws))))
+      (both-most _ _ (plate-most _ _ (plateOf kindA s) (omega (arith, a-small (boatM s))))
+      (plate-most _ _ (plateOf (kindC ps ws) s) (omega (arith, c-small (boatM s) ps ws))))
 
   rows-most : (t : List ℕ) → length (rowsPrinted s t) ≤ mostPrinted
   rows-most t = go (readEngines t) refl
