@@ -81,17 +81,18 @@ fn lay_plates(sheet: &[u32], powers: &[u32], weights: &[u32], out: &mut [u8]) ->
     ensures { λ r. ⌜ Laid (platesText (now (sheet .entry)) (now (powers .entry)) (now (weights .entry)))
         (now (out .entry)) 0 r (now (out .exit)) ⌝ }
 {
+    let weight = measuring::weigh(sheet);
     let end = lay_plate(
         b"PLATE\tA\t",
         b"REFUSED\tA\t",
-        figuring::plate_a(sheet),
+        figuring::plate_a(weight, sheet),
         out,
     );
     end
         + lay_plate(
             b"PLATE\tC\t",
             b"REFUSED\tC\t",
-            figuring::plate_c(sheet, powers, weights),
+            figuring::plate_c(weight, sheet, powers, weights),
             &mut out[end..],
         )
 }
