@@ -25,4 +25,5 @@ pub mod CasesC  -- of plate C
 pub mod CasesU  -- of plate U
 pub mod CasesF  -- of fittings, on all three
 pub mod Heaviest  -- the heaviest boats
+pub mod Weighed  -- the weight that is kept beside a sheet, and the plates by it
 pub mod Samples  -- all of them computed, with 01's

@@ -30,8 +30,8 @@ abbrev at-plate-a : tie.After-plate-c → tie.After-plate-a
 at-plate-a c = c .before .before .before .before .before .before .before
 
 plate-c-is : (c : tie.After-plate-c) →
-    let start = begun (at-plate-a c .before .before .before) in
-    c .plate-c .result ≡ plateOf (kindC (start .args .powers .now) (start .args .weights .now)) (start .args .sheet .now)
+    let a = begun (at-plate-a c .before .before .before) .args in
+    c .plate-c .result ≡ plateOf (kindC (a .powers .now) (a .weights .now)) (a .sheet .now)
 plate-c-is c = c .plate-c .ensures ∙ by-sheet (kindC _ _) (at-plate-a c .before .before .before)
 
 out-from : tie.Need-sub-lay-plate
