@@ -142,6 +142,6 @@ unfolding plateU
 u-unplaced m s = either Unplaced (isBelow (markedU m s) 1) refl refl
 
 pub plate-unplaced : (k : PlateKind) (m : ℕ) (s : List ℕ) → Unplaced (plateBy k m s)
-plate-unplaced kindA m s = a-unplaced m s
-plate-unplaced (kindC ps ws) m s = c-unplaced m s ps ws
-plate-unplaced kindU m s = u-unplaced m s
+plate-unplaced kindA m s = search (a-unplaced, c-unplaced, u-unplaced)
+plate-unplaced (kindC ps ws) m s = search (a-unplaced, c-unplaced, u-unplaced)
+plate-unplaced kindU m s = search (a-unplaced, c-unplaced, u-unplaced)
