@@ -16,7 +16,9 @@ use Rattle.capacity.proofs.Boats.{pieced, alike, laden}
 heavy : List ℕ
 heavy = replicate 37 0 ++ (2000000 ∷ 500000 ∷ 500000 ∷ 0 ∷ 0 ∷ 1 ∷ 0 ∷ alike 24 500000 1)
 
-heaviest-right : _≡_ {A = List ℕ} (boatM heavy ∷ boatMost ∷ (fuel heavy + machinery heavy) ∷ []) (14000000 ∷ 14000000 ∷ 1000000 ∷ [])
+heaviest-right :
+    _≡_ {A = List ℕ} (boatM heavy ∷ boatMost ∷ (fuel heavy + machinery heavy) ∷ [])
+    (14000000 ∷ 14000000 ∷ 1000000 ∷ [])
 unfolding heavy alike boatM addedUp
 heaviest-right = refl
 

@@ -22,16 +22,19 @@ use Rattle.capacity.proofs.Rounding.{Largest, floor-largest}
 
 -- ---- which figures apply
 
-pub u-high : (m : ℕ) (s : List ℕ) → eqb (outboard s) 1 ≡ true → twoHorses < declared s → ruleU m s ≡ onlyOne (outboardFifth m s)
+pub u-high : (m : ℕ) (s : List ℕ) → eqb (outboard s) 1 ≡ true → twoHorses < declared s
+    → ruleU m s ≡ onlyOne (outboardFifth m s)
 unfolding ruleU
 u-high m s e h = rw (e, lt-ltb twoHorses (declared s) h) refl
 
-pub u-low : (m : ℕ) (s : List ℕ) → eqb (outboard s) 1 ≡ true → declared s ≤ twoHorses → ruleU m s ≡ onlyOne (outboardTenths m)
+pub u-low : (m : ℕ) (s : List ℕ) → eqb (outboard s) 1 ≡ true → declared s ≤ twoHorses
+    → ruleU m s ≡ onlyOne (outboardTenths m)
 unfolding ruleU
 u-low m s e h = rw (e, le-ltb twoHorses (declared s) h) refl
 
 -- an inboard's two, whatever its power
-pub u-inboard : (m : ℕ) (s : List ℕ) → eqb (outboard s) 1 ≡ false → ruleU m s ≡ greaterOf (inboardFifth m s) (inboardSeventh m s)
+pub u-inboard : (m : ℕ) (s : List ℕ) → eqb (outboard s) 1 ≡ false
+    → ruleU m s ≡ greaterOf (inboardFifth m s) (inboardSeventh m s)
 unfolding ruleU
 u-inboard m s e = rw e refl
 

@@ -84,7 +84,8 @@ module _ (m : ℕ) (s : List ℕ) where
       → max (orZero (pounds s (figure (boatB m s + 4 * machinery s) 1 5))) (orZero (pounds s (figure (boatB m s) 1 7)))
       ≡ orZero (markedU m s)
   unfolding markedU
-  marked-greater e = rw (u-inboard m s e) (sym (whole-greatest (pounds s (inboardFifth m s)) (pounds s (inboardSeventh m s))))
+  marked-greater e =
+      rw (u-inboard m s e) (sym (whole-greatest (pounds s (inboardFifth m s)) (pounds s (inboardSeventh m s))))
 
 -- ---- within 64 bits as they are multiplied, and pounds within 32
 

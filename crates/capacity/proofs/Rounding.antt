@@ -43,9 +43,11 @@ pub c-largest-high : (m : ℕ) (s : List ℕ) → lowPower < declared s → Larg
 unfolding markedC
 c-largest-high m s h = rw (lt-ltb lowPower (declared s) h) (floor-largest (exactX m s) markedKilo (lit< tt))
 
-pub c-largest-low : (m : ℕ) (s : List ℕ) → declared s ≤ lowPower → Largest (pos 3 *ℤ exactX m s) (2 * markedKilo) (markedC m s)
+pub c-largest-low : (m : ℕ) (s : List ℕ) → declared s ≤ lowPower
+    → Largest (pos 3 *ℤ exactX m s) (2 * markedKilo) (markedC m s)
 unfolding markedC
-c-largest-low m s h = rw (le-ltb lowPower (declared s) h) (floor-largest (pos 3 *ℤ exactX m s) (2 * markedKilo) (lit< tt))
+c-largest-low m s h =
+    rw (le-ltb lowPower (declared s) h) (floor-largest (pos 3 *ℤ exactX m s) (2 * markedKilo) (lit< tt))
 
 -- z is at least q × d less a half of d, and below q × d and a half of d
 pub record Nearest (z : ℤ) (half : ℕ) (q : ℤ) : Type 0 where

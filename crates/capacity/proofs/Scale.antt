@@ -17,7 +17,9 @@ module _ (s : List ℕ) {read : ℕ} (e : read ≡ cond (wordsOk s) (boatM s) 0)
   pub read-some : not (eqb read 0) ≡ wordsOk s
   read-some =
       by-test (wordsOk s)
-      (λ t. let n : eqb (boatM s) 0 ≡ false = ne-eqb (boatM s) 0 (λ z. omega (arith, boat-some s t)) in rw (e, t, n) refl)
+      (λ t.
+      let n : eqb (boatM s) 0 ≡ false = ne-eqb (boatM s) 0 (λ z. omega (arith, boat-some s t)) in
+      rw (e, t, n) refl)
       (λ t. rw (e, t) refl)
 
   pub read-held : {held : ℕ} → (held ≡ 0 → ⊥) → eqb held read ≡ weighedOk held s
