@@ -5,12 +5,12 @@ ghost use mathlib.Core.Path.{_≡_};
 ghost use mathlib.Core.List.{_∷_};
 ghost use lib.ListN.{length};
 ghost use Rattle.sheet.specs.Places.{sheetWords};
-ghost use Rattle.memory.specs.Layout.{mostHulls, hullSheet, draftHull, draftSheet};
+ghost use Rattle.memory.specs.Layout.{mostHulls, hullWeight, hullSheet, draftHull, draftWeight, draftSheet};
 ghost use Rattle.memory.specs.Asked.{AtDesk};
 ghost use Rattle.capacity.specs.Kinds.{kindA, kindC, kindU};
 ghost use Rattle.register.specs.Refusals.{hullRefusal, deskRefusal, roomRefusal, openRefusal, setOwn, saveOwn};
-ghost use Rattle.register.specs.Calls.{setFitting, replace, tryPlate, plate, write, newHull, openHull, work, save};
-ghost use Rattle.register.specs.Calls.{dropDraft, ask, freshStep, step, Changes, Writes};
+ghost use Rattle.register.specs.Calls.{setFitting, replace, tryPlate, plate, weigh, write, newHull, openHull, work};
+ghost use Rattle.register.specs.Calls.{save, dropDraft, ask, freshStep, step, Changes, Writes};
 use answers::Answer;
 use answers::BAD_MEMORY;
 use answers::EDITED_SINCE;
@@ -62,7 +62,15 @@ fn desk_refusal(mem: &[u32], desk: u32) -> u32
     }
 }
 
-// ---- the sheets that the calls read, once nothing refuses them
+// ---- the weights and sheets that the calls read, once nothing refuses them
+
+// What a hull's boat weighs.
+fn hull_weight(mem: &[u32], hull: u32) -> u32
+    requires { ⌜ hullRefusal (now mem) hull ≡ 0 ⌝ }
+    ensures { λ r. ⌜ r ≡ hullWeight (now (mem .entry)) hull ⌝ }
+{
+    keeping::hull_weight(mem, hull as usize)
+}
 
 // A hull's sheet, still the caller's own words.
 fn hull_sheet(mem: &[u32], hull: u32) -> &[u32]
@@ -70,6 +78,14 @@ fn hull_sheet(mem: &[u32], hull: u32) -> &[u32]
     ensures { λ r. ⌜ now r ≡ hullSheet (now (mem .entry)) hull ⌝ }
 {
     keeping::hull_sheet(mem, hull as usize)
+}
+
+// What the boat of a desk's draft weighs.
+fn draft_weight(mem: &[u32], desk: u32) -> u32
+    requires { ⌜ deskRefusal (now mem) desk ≡ 0 ⌝ }
+    ensures { λ r. ⌜ r ≡ draftWeight (now (mem .entry)) desk ⌝ }
+{
+    keeping::draft_weight(mem, desk as usize)
 }
 
 // The sheet of a desk's draft, still the caller's own words.
@@ -119,7 +135,10 @@ pub fn new_hull(mem: &mut [u32], text: &[u8]) -> Answer
     let mut words = [0u32; TEXT_WORDS];
     match reading::read_words(text, &mut words) {
         TextRead::Wrong(fault, line, byte) => Answer::RefusedAt(fault, line, byte),
-        TextRead::Whole(_) => Answer::Count(keeping::enter_hull(mem, &words[1..])),
+        TextRead::Whole(_) => {
+            let weight = measuring::weigh(&words[1..]);
+            Answer::Count(keeping::enter_hull(mem, weight, &words[1..]))
+        }
     }
 }
 
@@ -131,7 +150,7 @@ pub fn plate_a(mem: &[u32], hull: u32) -> Answer
     if refusal != 0 {
         return Answer::Refused(refusal);
     }
-    figuring::plate_a(hull_sheet(mem, hull))
+    figuring::plate_a(hull_weight(mem, hull), hull_sheet(mem, hull))
 }
 
 // Plate C of a hull.
@@ -144,7 +163,7 @@ pub fn plate_c(mem: &[u32], hull: u32, powers: &[u32], weights: &[u32]) -> Answe
     if refusal != 0 {
         return Answer::Refused(refusal);
     }
-    figuring::plate_c(hull_sheet(mem, hull), powers, weights)
+    figuring::plate_c(hull_weight(mem, hull), hull_sheet(mem, hull), powers, weights)
 }
 
 // Plate U of a hull.
@@ -155,7 +174,18 @@ pub fn plate_u(mem: &[u32], hull: u32) -> Answer
     if refusal != 0 {
         return Answer::Refused(refusal);
     }
-    figuring::plate_u(hull_sheet(mem, hull))
+    figuring::plate_u(hull_weight(mem, hull), hull_sheet(mem, hull))
+}
+
+// What a hull's boat weighs, with its fittings, as it is held: nothing is summed.
+pub fn weight(mem: &[u32], hull: u32) -> Answer
+    ensures { λ r. ⌜ r ≡ step (now (mem .entry)) (ask hull weigh) .answer ⌝ }
+{
+    let refusal = hull_refusal(mem, hull);
+    if refusal != 0 {
+        return Answer::Refused(refusal);
+    }
+    Answer::Count(hull_weight(mem, hull))
 }
 
 // The words of a sheet with a hull's number before them.
@@ -266,7 +296,8 @@ pub fn replace(mem: &mut [u32], desk: u32, text: &[u8]) -> Answer
     match reading::read_words(text, &mut words) {
         TextRead::Wrong(fault, line, byte) => Answer::RefusedAt(fault, line, byte),
         TextRead::Whole(_) => {
-            keeping::replace_sheet(mem, desk as usize, &words[1..]);
+            let weight = measuring::weigh(&words[1..]);
+            keeping::replace_sheet(mem, desk as usize, weight, &words[1..]);
             Answer::Done
         }
     }
@@ -280,7 +311,7 @@ pub fn trial_a(mem: &[u32], desk: u32) -> Answer
     if refusal != 0 {
         return Answer::Refused(refusal);
     }
-    figuring::plate_a(draft_sheet(mem, desk))
+    figuring::plate_a(draft_weight(mem, desk), draft_sheet(mem, desk))
 }
 
 // Plate C of a desk's draft, as a trial.
@@ -293,7 +324,7 @@ pub fn trial_c(mem: &[u32], desk: u32, powers: &[u32], weights: &[u32]) -> Answe
     if refusal != 0 {
         return Answer::Refused(refusal);
     }
-    figuring::plate_c(draft_sheet(mem, desk), powers, weights)
+    figuring::plate_c(draft_weight(mem, desk), draft_sheet(mem, desk), powers, weights)
 }
 
 // Plate U of a desk's draft, as a trial.
@@ -304,7 +335,7 @@ pub fn trial_u(mem: &[u32], desk: u32) -> Answer
     if refusal != 0 {
         return Answer::Refused(refusal);
     }
-    figuring::plate_u(draft_sheet(mem, desk))
+    figuring::plate_u(draft_weight(mem, desk), draft_sheet(mem, desk))
 }
 
 // What refuses a save of a draft that is there: an edit of the hull since the open, then that no edit number is left.

@@ -7,8 +7,8 @@ ghost use Rattle.sheet.specs.SheetText.{readSheet};
 ghost use Rattle.sheet.specs.EngineText.{readEngines};
 ghost use Rattle.sheet.specs.TextCalls.{readAnswer, readInto, writeAnswer, writeInto, enginesAnswer, columnsInto};
 ghost use Rattle.capacity.specs.Kinds.{kindA, kindC, kindU};
-ghost use Rattle.register.specs.Calls.{setFitting, replace, tryPlate, plate, write, newHull, openHull, work, save};
-ghost use Rattle.register.specs.Calls.{dropDraft, ask, freshStep, step, WbChanges, WbWrites};
+ghost use Rattle.register.specs.Calls.{setFitting, replace, tryPlate, plate, weigh, write, newHull, openHull, work};
+ghost use Rattle.register.specs.Calls.{save, dropDraft, ask, freshStep, step, WbChanges, WbWrites};
 ghost use Rattle.answers.specs.Values.{faced};
 use answers::Answer;
 use answers::WbAnswer;
@@ -168,6 +168,14 @@ pub extern "C" fn wb_plate_u(mem: &[u32], hull: u32) -> WbAnswer
     ensures { λ r. ⌜ r ≡ faced (step (now (mem .entry)) (ask hull (plate kindU)) .answer) ⌝ }
 {
     face(answering::plate_u(mem, hull))
+}
+
+// What a hull's boat weighs with its fittings; answers grams.
+#[no_mangle]
+pub extern "C" fn wb_weight(mem: &[u32], hull: u32) -> WbAnswer
+    ensures { λ r. ⌜ r ≡ faced (step (now (mem .entry)) (ask hull weigh) .answer) ⌝ }
+{
+    face(answering::weight(mem, hull))
 }
 
 // Writes a hull's sheet; answers the count of bytes.

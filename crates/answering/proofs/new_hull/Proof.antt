@@ -2,7 +2,7 @@
 use Rattle.register.proofs.Refusals.{room-goes}
 use Rattle.memory.specs.Updates.{entered}
 use Rattle.answers.specs.declared.Answer.the-variants.{Count}
-use Rattle.answering.proofs.Sheets.{read-lent, read-long}
+use Rattle.answering.proofs.Sheets.{read-lent, read-weighs, read-long}
 use Rattle.reading.proofs.Heard.{told-wrong, heard-right}
 use lib.ListN.{length}
 use Rattle.answering.proofs.Settling.{refused, passed, text-passed, text-refused}
@@ -15,20 +15,28 @@ use Rattle.answering.proofs.new_hull.Tie as tie
 returns : tie.Need-returns
 returns c = refused (c .before .room-refusal .ensures) _ _ (c .if1 .taken)
 
+weigh-requires : tie.Need-weigh-requires
+weigh-requires c κs =
+    let at-enum-told = c .before .before in
+    let at-read-words = at-enum-told .before .before .before in
+    let start = at-read-words .before .before .before .before .before .before .before in
+    read-long (start .args .text .now)
+    (rw (at-enum-told .enum-told .given .1) at (at-read-words .read-words .ensures))
+
 enter-hull-requires : tie.Need-enter-hull-requires
 enter-hull-requires c κs =
-    let start =
-    c .before .before .before .before .before .before .before .before .before .before .before .before .before in
-    let at-room-refusal = c .before .before .before .before .before .before .before .before .before in
-    let at-if1 = c .before .before .before .before .before .before .before .before in
-    let at-enum-told = c .before .before .before in
-    let at-read-words = c .before .before .before .before .before .before in
-    let g = room-goes (start .args .mem .now) (sym (at-room-refusal .room-refusal .ensures) ∙ at-if1 .if1 .left) in
+    let at-weigh = c .before .before .before in
+    let at-enum-told = at-weigh .before .before .before in
+    let at-read-words = at-enum-told .before .before .before in
+    let at-if1 = at-read-words .before .before in
+    let start = at-if1 .before .before .before .before .before in
+    let g = room-goes (start .args .mem .now) (sym (at-if1 .before .room-refusal .ensures) ∙ at-if1 .if1 .left) in
+    let read = rw (at-enum-told .enum-told .given .1) at (at-read-words .read-words .ensures) in
     record {
       size = sound (start .args .mem .now) (g .ok) .size;
       room = g .room;
-      sheet = read-long (start .args .text .now)
-          (rw (at-enum-told .enum-told .given .1) at (at-read-words .read-words .ensures));
+      sheet = read-long (start .args .text .now) read;
+      weight = read-weighs (start .args .text .now) read (at-weigh .weigh .ensures);
     }
 
 returns-2 : tie.Need-returns-2
@@ -41,7 +49,7 @@ returns-2 c =
 
 returns-3 : tie.Need-returns-3
 returns-3 c =
-    let at-enum-told = c .before .before .before .before .before .before in
+    let at-enum-told = c .before .before .before .before .before .before .before .before .before in
     let at-read-words = at-enum-told .before .before .before in
     let at-if1 = at-read-words .before .before in
     let start = at-if1 .before .before .before .before .before in
@@ -60,4 +68,4 @@ new-hull-spec =
     tie.close
     (tie.spec (λ c κs. search needs) (λ c. search needs) returns (λ c. search needs) (λ c κs. search needs)
     (λ c. search needs) (λ c. search needs) (λ c. search needs) (λ c. search needs) (λ c. search needs)
-    enter-hull-requires (λ c. search needs) returns-2 (λ c. search needs) returns-3)
+    weigh-requires (λ c. search needs) (λ c. search needs) (λ c. search needs) enter-hull-requires (λ c. search needs) returns-2 (λ c. search needs) returns-3)

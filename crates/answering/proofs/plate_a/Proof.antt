@@ -10,12 +10,13 @@ returns c = answer-refused (c .before .hull-refusal .ensures) _ (c .if1 .taken)
 
 plate-a-requires : tie.Need-plate-a-requires
 plate-a-requires c κs =
-    hull-ok _ _ (c .before .before .hull-refusal .ensures) (c .before .if1 .left) (c .hull-sheet .ensures)
+    hull-ok _ _ (c .before .before .before .hull-refusal .ensures) (c .before .before .if1 .left)
+    (c .hull-sheet .ensures)
 
 returns-2 : tie.Need-returns-2
 returns-2 c =
-    answer-given (c .before .before .before .hull-refusal .ensures) (c .before .before .if1 .left)
-    (rw (c .before .hull-sheet .ensures) at (c .plate-a .ensures))
+    answer-given (c .before .before .before .before .hull-refusal .ensures) (c .before .before .before .if1 .left)
+    (rw (c .before .before .hull-weight .ensures, c .before .hull-sheet .ensures) at (c .plate-a .ensures))
 
 pub plate-a-spec : {M : Type 1} → statement M
-plate-a-spec = tie.close (tie.spec (λ c κs. search needs) returns (λ c κs. search needs) plate-a-requires returns-2)
+plate-a-spec = tie.close (tie.spec (λ c κs. search needs) returns (λ c κs. search needs) (λ c κs. search needs) plate-a-requires returns-2)

@@ -10,12 +10,13 @@ returns c = answer-refused (c .before .hull-refusal .ensures) _ (c .if1 .taken)
 
 plate-u-requires : tie.Need-plate-u-requires
 plate-u-requires c κs =
-    hull-ok _ _ (c .before .before .hull-refusal .ensures) (c .before .if1 .left) (c .hull-sheet .ensures)
+    hull-ok _ _ (c .before .before .before .hull-refusal .ensures) (c .before .before .if1 .left)
+    (c .hull-sheet .ensures)
 
 returns-2 : tie.Need-returns-2
 returns-2 c =
-    answer-given (c .before .before .before .hull-refusal .ensures) (c .before .before .if1 .left)
-    (rw (c .before .hull-sheet .ensures) at (c .plate-u .ensures))
+    answer-given (c .before .before .before .before .hull-refusal .ensures) (c .before .before .before .if1 .left)
+    (rw (c .before .before .hull-weight .ensures, c .before .hull-sheet .ensures) at (c .plate-u .ensures))
 
 pub plate-u-spec : {M : Type 1} → statement M
-plate-u-spec = tie.close (tie.spec (λ c κs. search needs) returns (λ c κs. search needs) plate-u-requires returns-2)
+plate-u-spec = tie.close (tie.spec (λ c κs. search needs) returns (λ c κs. search needs) (λ c κs. search needs) plate-u-requires returns-2)

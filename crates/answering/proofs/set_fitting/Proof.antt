@@ -1,8 +1,6 @@
 -- `set_fitting` meets its contract.
-use Rattle.register.proofs.Own.{set-fits}
-use Rattle.answering.proofs.Sheets.{at-desk, at-line}
+use Rattle.answering.proofs.Sheets.{at-desk, to-set}
 use Rattle.answering.proofs.Settling.{refused, passed, done}
-use Rattle.memory.specs.Layout.{draftSheet}
 use mathlib.Core.Path.{sym, _∙_}
 use borrow.Author.Needs.{needs}
 use Rattle.answering.proofs.set_fitting.Statement.{statement}
@@ -25,10 +23,9 @@ set-fitting-requires c κs =
     let at-if2 = c .before in
     let at-if1 = at-if2 .before .before .before in
     let start = at-if1 .before .before .before .before in
-    let p =
-    set-fits (draftSheet (start .args .mem .now) (start .args .desk)) (start .args .line) (start .args .weight)
-    (start .args .count) (sym (at-if2 .before .set-own .ensures) ∙ at-if2 .if2 .left) in
-    at-line _ _ (sym (at-if1 .before .desk-refusal .ensures) ∙ at-if1 .if1 .left) (start .args .line) (p .low) (p .high)
+    to-set (start .args .mem .now) (start .args .desk) (sym (at-if1 .before .desk-refusal .ensures) ∙ at-if1 .if1 .left)
+    (start .args .line) (start .args .weight) (start .args .count)
+    (sym (at-if2 .before .set-own .ensures) ∙ at-if2 .if2 .left)
 
 returns-3 : tie.Need-returns-3
 returns-3 c =

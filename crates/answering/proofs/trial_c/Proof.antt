@@ -10,12 +10,13 @@ returns c = answer-refused (c .before .desk-refusal .ensures) _ (c .if1 .taken)
 
 plate-c-requires : tie.Need-plate-c-requires
 plate-c-requires c κs =
-    draft-ok _ _ (c .before .before .desk-refusal .ensures) (c .before .if1 .left) (c .draft-sheet .ensures)
+    draft-ok _ _ (c .before .before .before .desk-refusal .ensures) (c .before .before .if1 .left)
+    (c .draft-sheet .ensures)
 
 returns-2 : tie.Need-returns-2
 returns-2 c =
-    answer-given (c .before .before .before .desk-refusal .ensures) (c .before .before .if1 .left)
-    (rw (c .before .draft-sheet .ensures) at (c .plate-c .ensures))
+    answer-given (c .before .before .before .before .desk-refusal .ensures) (c .before .before .before .if1 .left)
+    (rw (c .before .before .draft-weight .ensures, c .before .draft-sheet .ensures) at (c .plate-c .ensures))
 
 pub trial-c-spec : {M : Type 1} → statement M
-trial-c-spec = tie.close (tie.spec (λ c κs. search needs) returns (λ c κs. search needs) plate-c-requires returns-2)
+trial-c-spec = tie.close (tie.spec (λ c κs. search needs) returns (λ c κs. search needs) (λ c κs. search needs) plate-c-requires returns-2)
