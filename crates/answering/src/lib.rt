@@ -163,7 +163,12 @@ pub fn plate_c(mem: &[u32], hull: u32, powers: &[u32], weights: &[u32]) -> Answe
     if refusal != 0 {
         return Answer::Refused(refusal);
     }
-    figuring::plate_c(hull_weight(mem, hull), hull_sheet(mem, hull), powers, weights)
+    figuring::plate_c(
+        hull_weight(mem, hull),
+        hull_sheet(mem, hull),
+        powers,
+        weights,
+    )
 }
 
 // Plate U of a hull.
@@ -324,7 +329,12 @@ pub fn trial_c(mem: &[u32], desk: u32, powers: &[u32], weights: &[u32]) -> Answe
     if refusal != 0 {
         return Answer::Refused(refusal);
     }
-    figuring::plate_c(draft_weight(mem, desk), draft_sheet(mem, desk), powers, weights)
+    figuring::plate_c(
+        draft_weight(mem, desk),
+        draft_sheet(mem, desk),
+        powers,
+        weights,
+    )
 }
 
 // Plate U of a desk's draft, as a trial.
