@@ -10,6 +10,7 @@ pub mod Power  -- plate A's power, by the case that the code finds
 pub mod Rising  -- it never falls as P grows
 pub mod Watts  -- as the plate tells it
 pub mod Former  -- the rule that 02 (ii) amends
+pub mod Ends  -- each number is between its limit's ends
 pub mod Within  -- what a sheet within the limits keeps to
 pub mod Scale  -- M or 0, as the code reads it; a weight that is right
 pub mod Rounding  -- what the roundings give

@@ -34,6 +34,6 @@ a-day-weighed :
     × (differences 0 (reverse day) ≡ pos 20 ∷ negsuc 3333 ∷ pos 3334 ∷ [])
     × (weightTold 0 (reverse day) ≡ pos 200020)
 unfolding enteredWeight differences together mark sheetTold blockMoves redo isSaveOf opening role block day text
-    readSheet sheetForm numbersOn numbersOf fitsOf emptyLines fitsFrom readForm readParts readRows kindOf readLine agreed
-    readNumbers readEntry fieldOf numberOf restOf allHold addedUp boatM
+    readSheet sheetForm numbersOn numbersOf fitsOf emptyLines fitsFrom readForm readParts readRows kindOf readLine
+    agreed readNumbers readEntry fieldOf numberOf restOf allHold addedUp boatM
 a-day-weighed = (refl, refl, refl)

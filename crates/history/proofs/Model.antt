@@ -1,6 +1,6 @@
 -- The register as the office would draw it, with no words of memory: hulls, drafts, and what each call does to them. No
--- weight is drawn, since a sheet tells it. A tool of the proofs alone: `Shown.antt` ties it to the memory of the calls, and no theorem of `Theorems.antt` speaks
--- of it.
+-- weight is drawn, since a sheet tells it. A tool of the proofs alone: `Shown.antt` ties it to the memory of the calls,
+-- and no theorem of `Theorems.antt` speaks of it.
 use Prim.Native.Nat.{ℕ, suc}
 use mathlib.Core.Bool.{cond}
 use mathlib.Core.List.{List}

@@ -93,8 +93,8 @@ module _ (kept : Ask → Bool) (w : Event → ℕ) where
       let k : ℕ → ℕ = held ((save g ⇒ r) ∷ past) in
       let z : k g ≡ 0 = rw (self, e, block) in
       let a = sum-beyond (held past) k g (λ d o. rw (o, block)) (n + suc g) (omega arith) in
-      let q : weight w (serial kept ((save g ⇒ r) ∷ past)) ≡ w (save g ⇒ r) + weight w (block g past ++ serial kept past) =
-      rw (e, serial) in
+      let q : weight w (serial kept ((save g ⇒ r) ∷ past))
+      ≡ w (save g ⇒ r) + weight w (block g past ++ serial kept past) = rw (e, serial) in
       omega (arith, sum-more k n (suc g), weight-append w (block g past) (serial kept past), h (n + suc g)))
       (λ e.
       let a = grows (save g ⇒ r) g past n (λ d o. rw o) in

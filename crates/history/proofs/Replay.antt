@@ -99,14 +99,8 @@ pub opened-ready : (R : Register) (d h : ℕ)
     → Ready R d (opens R h) ((openHull d h ⇒ says (Count (R .hull h .edits))) ∷ [])
 unfolding saveless
 opened-ready R d h p q =
-    record {
-      desk = p;
-      hull = q;
-      grown = le-refl _;
-      clean = λ _ _. refl;
-      made = λ _ _. made-opened d h _ (R .hull h .sheet);
-      replays = λ _ _. again;
-    }
+    let made = made-opened d h _ (R .hull h .sheet) in
+    record { desk = p; hull = q; grown = le-refl _; clean = λ _ _. refl; made = λ _ _. made; replays = λ _ _. again }
   where
     again : (cs : List Call)
         → h < stateOf cs .register .entered

@@ -1,5 +1,5 @@
--- A hull whose edit number stands has stood: so a hull that a save finds unsaved since its draft was opened is as it was
--- then.
+-- A hull whose edit number stands has stood: so a hull that a save finds unsaved since its draft was opened is as it
+-- was then.
 use Prim.Native.Nat.{ℕ, _≤_, _<_}
 use native.Mathlib.Omega.{arith}
 use native.Mathlib.Nat.{le-refl, le-trans}
@@ -87,7 +87,9 @@ abbrev taken : List Event → Bool
 taken [] = false
 taken ((c ⇒ r) ∷ es) = accepted r
 
-older-run : (newer older : List Event) (cs : List Call) → eventsOf cs ≡ newer ++ older → eventsOf (map call older) ≡ older
+older-run : (newer older : List Event) (cs : List Call)
+    → eventsOf cs ≡ newer ++ older
+    → eventsOf (map call older) ≡ older
 unfolding eventsOf
 older-run [] older cs e = rw (← e) (ap eventsOf (its-calls cs))
 older-run (x ∷ newer) older [] e = absurd (let z = ap length e in omega arith)

@@ -16,7 +16,7 @@ use Rattle.sheet.specs.Places.{bareAt, fittingsAt, sheetWords}
 use Rattle.sheet.proofs.Held.{opens, linesOpen, hold-parts, ok-run}
 use Rattle.capacity.specs.Weights.{addedUp, boatM}
 use Rattle.capacity.specs.Highs.{highAt}
-use Rattle.capacity.proofs.Within.{run-most}
+use Rattle.capacity.proofs.Ends.{run-most}
 use Rattle.measuring.specs.Part.{wordRows, partOk, WordPart}
 
 -- ---- the parts as the code lends them

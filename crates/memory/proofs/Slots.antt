@@ -6,9 +6,9 @@ use native.Mathlib.Omega.{arith}
 use lib.ListN.{length, getD}
 use lib.Seq.{sets, length-sets}
 use Rattle.sheet.specs.Places.{sheetWords}
-use Rattle.memory.specs.Layout.{mostHulls, desks, hullWords, draftWords, weighedWords, registerWords, Sized, hullAt}
-use Rattle.memory.specs.Layout.{editAt, hullWeightAt, hullSheetAt, draftAt, heldAt, draftHullAt, openingAt}
-use Rattle.memory.specs.Layout.{draftWeightAt, draftSheetAt, part, edit, hullWeight, hullSheet}
+use Rattle.memory.specs.Layout.{mostHulls, desks, hullWords, draftWords, weighedWords, registerWords, Sized}
+use Rattle.memory.specs.Layout.{hullAt, editAt, hullWeightAt, hullSheetAt, draftAt, heldAt, draftHullAt}
+use Rattle.memory.specs.Layout.{openingAt, draftWeightAt, draftSheetAt, part, edit, hullWeight, hullSheet}
 use Rattle.memory.specs.Layout.{held, draftHull, opening, draftWeight, draftSheet}
 use Rattle.memory.proofs.Parts.{Outside, word-outside, part-length, part-first, part-same}
 

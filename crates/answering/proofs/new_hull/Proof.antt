@@ -68,4 +68,5 @@ new-hull-spec =
     tie.close
     (tie.spec (λ c κs. search needs) (λ c. search needs) returns (λ c. search needs) (λ c κs. search needs)
     (λ c. search needs) (λ c. search needs) (λ c. search needs) (λ c. search needs) (λ c. search needs)
-    weigh-requires (λ c. search needs) (λ c. search needs) (λ c. search needs) enter-hull-requires (λ c. search needs) returns-2 (λ c. search needs) returns-3)
+    weigh-requires (λ c. search needs) (λ c. search needs) (λ c. search needs) enter-hull-requires (λ c. search needs)
+    returns-2 (λ c. search needs) returns-3)

@@ -19,4 +19,6 @@ returns-2 c =
     (rw (c .before .before .hull-weight .ensures, c .before .hull-sheet .ensures) at (c .plate-a .ensures))
 
 pub plate-a-spec : {M : Type 1} → statement M
-plate-a-spec = tie.close (tie.spec (λ c κs. search needs) returns (λ c κs. search needs) (λ c κs. search needs) plate-a-requires returns-2)
+plate-a-spec =
+    tie.close
+    (tie.spec (λ c κs. search needs) returns (λ c κs. search needs) (λ c κs. search needs) plate-a-requires returns-2)

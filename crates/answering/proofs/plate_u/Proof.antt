@@ -19,4 +19,6 @@ returns-2 c =
     (rw (c .before .before .hull-weight .ensures, c .before .hull-sheet .ensures) at (c .plate-u .ensures))
 
 pub plate-u-spec : {M : Type 1} → statement M
-plate-u-spec = tie.close (tie.spec (λ c κs. search needs) returns (λ c κs. search needs) (λ c κs. search needs) plate-u-requires returns-2)
+plate-u-spec =
+    tie.close
+    (tie.spec (λ c κs. search needs) returns (λ c κs. search needs) (λ c κs. search needs) plate-u-requires returns-2)

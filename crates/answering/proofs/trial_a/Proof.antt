@@ -19,4 +19,6 @@ returns-2 c =
     (rw (c .before .before .draft-weight .ensures, c .before .draft-sheet .ensures) at (c .plate-a .ensures))
 
 pub trial-a-spec : {M : Type 1} → statement M
-trial-a-spec = tie.close (tie.spec (λ c κs. search needs) returns (λ c κs. search needs) (λ c κs. search needs) plate-a-requires returns-2)
+trial-a-spec =
+    tie.close
+    (tie.spec (λ c κs. search needs) returns (λ c κs. search needs) (λ c κs. search needs) plate-a-requires returns-2)

@@ -19,4 +19,6 @@ returns-2 c =
     (rw (c .before .before .draft-weight .ensures, c .before .draft-sheet .ensures) at (c .plate-c .ensures))
 
 pub trial-c-spec : {M : Type 1} → statement M
-trial-c-spec = tie.close (tie.spec (λ c κs. search needs) returns (λ c κs. search needs) (λ c κs. search needs) plate-c-requires returns-2)
+trial-c-spec =
+    tie.close
+    (tie.spec (λ c κs. search needs) returns (λ c κs. search needs) (λ c κs. search needs) plate-c-requires returns-2)

@@ -31,4 +31,6 @@ returns-2 c = simp (← c .before .edit .ensures, lt-leb _ _ (c .if1 .left))
 
 pub hull-ok-spec : {M : Type 1} → statement M
 hull-ok-spec =
-    tie.close (tie.spec (λ c κs. search needs) (λ c κs. search needs) (λ c κs. search needs) weighed-ok-requires returns returns-2)
+    tie.close
+    (tie.spec (λ c κs. search needs) (λ c κs. search needs) (λ c κs. search needs) weighed-ok-requires returns
+    returns-2)

@@ -51,7 +51,8 @@ loop-again : tie.Need-loop-again Inv-loop μ-loop
 loop-again c =
     let at = c .before .before .before .before .before in
     let more = sum-more (given at) (at .loop .line) (omega (arith, at .before .before .pre .1)) in
-    (omega arith, told (c .before) (c .if1 .taken), omega (arith, more), omega (arith, light (c .before) (c .if1 .taken)))
+    let few = light (c .before) (c .if1 .taken) in
+    (omega arith, told (c .before) (c .if1 .taken), omega (arith, more), omega (arith, few))
 
 returns-2 : tie.Need-returns-2 Inv-loop μ-loop
 returns-2 c =
