@@ -24,8 +24,11 @@
 extern "C" {
 #endif
 
-/* The size of a register's memory, in words of 32 bits. */
-#define WB_REGISTER_WORDS 2249
+/*
+ * The size of a register's memory, in words of 32 bits. It is that of version 4: registers of versions 2 and 3 had 2249
+ * words, those of version 1 had 1673, and both are refused with 1 for their size.
+ */
+#define WB_REGISTER_WORDS 2273
 
 /* Hulls are numbered 0 to 15 in the order in which they were entered, desks 0 to 7, fitting lines 1 to 24. */
 #define WB_HULLS 16
@@ -71,7 +74,7 @@ extern "C" {
 /* Why a call was refused. */
 typedef enum wb_refusal {
     WB_ACCEPTED = 0,
-    WB_BAD_MEMORY = 1,      /* the register's memory is not WB_REGISTER_WORDS long, or a number in it is not one that a register has */
+    WB_BAD_MEMORY = 1,      /* the memory: another size, a number that no register has, or a weight not its sheet's */
     WB_BROKEN_LINE = 2,     /* a text breaks the line rules; first and second are the place, or 0 and 0 where it is too long */
     WB_OUTSIDE_LIMITS = 3,  /* a number, or a fitting's weight times its count, is outside its limits; of a text first and second are the place */
     WB_FULL = 4,            /* sixteen hulls are entered */
@@ -140,6 +143,12 @@ typedef struct wb_sheet {
  *
  * Here and below, refusals stand in the order in which they are judged. What a call leaves alone is said of one that is accepted; a refused one leaves
  * everything. No call writes a word besides those that it is said to.
+ *
+ * Beside every sheet, of a hull and of a draft, the register keeps what the boat weighs by it, in grams: the bare boat
+ * and all fittings, each line its weight times its count; tanks, fuel and machinery are not in it. A call that writes a
+ * sheet or a line of one writes the weight too. It is in no text and in no wb_sheet. Where a weight that is kept is not
+ * that of its sheet, every call but fresh start refuses the memory with 1; in the words of hulls not entered and of
+ * desks without a draft anything may stand.
  */
 
 /*
@@ -149,30 +158,32 @@ typedef struct wb_sheet {
 wb_answer wb_fresh(uint32_t *mem, size_t mem_len);
 
 /*
- * Enters a hull from the text of a sheet, with edit number 0. The text's HULL number is judged and then ignored. The other hulls and all drafts are
- * left alone.
+ * Enters a hull from the text of a sheet, with edit number 0 and the weight of that sheet. The text's HULL number is
+ * judged and then ignored. The other hulls and all drafts are left alone.
  * Answers: first is the hull's number. Refuses: 1; 4; 2 or 3 with the place of the text's first fault.
  */
 wb_answer wb_new_hull(uint32_t *mem, size_t mem_len, const uint8_t *text, size_t text_len);
 
 /*
- * Opens a hull at a desk: the desk's draft is then a copy of the hull's sheet. A draft that the desk held is discarded, unless this call is refused.
- * The hulls and the other desks' drafts are left alone.
+ * Opens a hull at a desk: the desk's draft is then a copy of the hull's sheet and weight. A draft that the desk held is
+ * discarded, unless this call is refused. The hulls and the other desks' drafts are left alone.
  * Answers: first is the hull's edit number. Refuses: 1, 6, 5.
  */
 wb_answer wb_open(uint32_t *mem, size_t mem_len, uint32_t desk, uint32_t hull);
 
 /*
- * Sets a line of the desk's draft to count pieces of weight grams each, in place of what is there; with weight 0 and count 0 it empties the line. The
- * rest of the draft, the hulls and the other drafts are left alone.
+ * Sets a line of the desk's draft to count pieces of weight grams each, in place of what is there; with weight 0 and
+ * count 0 it empties the line. The draft's weight moves by the difference. The rest of the draft, the hulls and the
+ * other drafts are left alone.
  * Answers: done. Refuses: 1, 6, 7; 3 for a line outside 1..24, for just one of weight and count being 0, a weight above 500000, a count above 99, or a
  * weight times count above 500000; then 17 for emptying a line that is empty.
  */
 wb_answer wb_set_fitting(uint32_t *mem, size_t mem_len, uint32_t desk, uint32_t line, uint32_t weight, uint32_t count);
 
 /*
- * Makes the desk's draft the sheet of a text. The text's HULL number is judged and then ignored: the draft is of the hull that it was of, opened at the
- * edit number that it was. The hulls and the other drafts are left alone.
+ * Makes the desk's draft the sheet of a text, with the weight of that sheet. The text's HULL number is judged and then
+ * ignored: the draft is of the hull that it was of, opened at the edit number that it was. The hulls and the other
+ * drafts are left alone.
  * Answers: done. Refuses: 1, 6, 7; 2 or 3 with the place of the text's first fault.
  */
 wb_answer wb_replace(uint32_t *mem, size_t mem_len, uint32_t desk, const uint8_t *text, size_t text_len);
@@ -198,8 +209,9 @@ wb_answer wb_trial_c(const uint32_t *mem, size_t mem_len, uint32_t desk, const u
 wb_answer wb_trial_u(const uint32_t *mem, size_t mem_len, uint32_t desk);
 
 /*
- * Saves the desk's draft as its hull's sheet, even if nothing differs, and ends the draft; refused, it leaves the draft. The other hulls and the other
- * drafts are left alone, those of the same hull too: their saves are then refused with 8.
+ * Saves the desk's draft as its hull's sheet and weight, even if nothing differs, and ends the draft; refused, it
+ * leaves the draft. The other hulls and the other drafts are left alone, those of the same hull too: their saves are
+ * then refused with 8.
  * Answers: first is the hull's edit number, which is one more than before. Refuses: 1, 6, 7; 8, then 9.
  */
 wb_answer wb_save(uint32_t *mem, size_t mem_len, uint32_t desk);
@@ -229,6 +241,13 @@ wb_answer wb_plate_c(const uint32_t *mem, size_t mem_len, uint32_t hull, const u
  * Answers: first is the load in whole pounds of 453.59237 g. Refuses: 1, 5; 12.
  */
 wb_answer wb_plate_u(const uint32_t *mem, size_t mem_len, uint32_t hull);
+
+/*
+ * What a hull's boat weighs, as the register keeps it beside the hull's sheet. A draft counts once it is saved. The
+ * memory is only read.
+ * Answers: first is the weight in grams, 1..14000000: the bare boat and all fittings. Refuses: 1, 5.
+ */
+wb_answer wb_weight(const uint32_t *mem, size_t mem_len, uint32_t hull);
 
 /*
  * Writes the text of a hull's sheet, with the register's number, from the start of out. Bytes of out after the text are left alone, and the text is
