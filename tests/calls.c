@@ -11,6 +11,7 @@
 #include "parts.h"
 #include "random.h"
 #include "steps.h"
+#include "weighed.h"
 
 #include <stdio.h>
 #include <stdlib.h>
@@ -47,7 +48,8 @@ static void check_header(void)
         insist(pieces[i] == 4 * i, "the place of a fitting's member");
     insist(offsetof(wb_answer, refusal) == 0 && offsetof(wb_answer, first) == 4 && offsetof(wb_answer, second) == 8 &&
                offsetof(wb_answer, third) == 12, "the place of an answer's member");
-    insist(WB_REGISTER_WORDS == DESK_AT(WB_DESKS) && DESK_AT(0) == HULL_AT(WB_HULLS) && WB_ENGINE_ROWS == 40, "a size that the header gives");
+    insist(WB_REGISTER_WORDS == 2273 && WB_ENGINE_ROWS == 40, "a size that the header gives");
+    insist(DESK_AT(0) == HULL_AT(WB_HULLS) && DESK_AT(WB_DESKS) == WB_REGISTER_WORDS, "a size that the layout gives");
 }
 
 /* ---- what a random call is lent ---- */
@@ -109,22 +111,24 @@ static uint32_t random_poke(uint32_t is)
     }
 }
 
-/* A word of those that carry most: the count, an edit number, or a desk's mark, hull or opening number. */
+/* A word of those that carry most: the count, an edit number, a desk's mark, hull or opening number, or a weight. */
 static uint32_t weighty_word(void)
 {
     switch (random_between(0, 2)) {
     case 0:
         return 0;
     case 1:
-        return HULL_AT(random_between(0, 15));
+        return HULL_AT(random_between(0, 15)) + random_between(0, 1);
     default:
-        return DESK_AT(random_between(0, 7)) + random_between(0, 2);
+        return DESK_AT(random_between(0, 7)) + random_between(0, 3);
     }
 }
 
+/* The weights mostly follow the sheets, so that it is the other numbers that are judged. */
 static void harm_memory(void)
 {
-    static const uint32_t sizes[] = {0, 1, 1105, DESK_AT(0), 1673, WB_REGISTER_WORDS - 1, WB_REGISTER_WORDS + 1, 2 * WB_REGISTER_WORDS};
+    static const uint32_t sizes[] = {0, 1, 1105, DESK_AT(0), 1673, 2249, WB_REGISTER_WORDS - 1, WB_REGISTER_WORDS + 1,
+                                     2 * WB_REGISTER_WORDS};
     if (one_in(5)) {
         lent[MEMORY].size = 4 * ONE_OF(sizes);
         return;
@@ -133,6 +137,10 @@ static void harm_memory(void)
         uint32_t word = one_in(2) ? weighty_word() : random_between(0, WB_REGISTER_WORDS - 1);
         mem[word] = random_poke(mem[word]);
     }
+    if (one_in(3))
+        return;
+    for (uint32_t slot = 0; slot < SLOTS; slot++)
+        weigh_slot(mem, slot);
 }
 
 /* Brings an edit number near its end, where the next saves find it. */
@@ -176,8 +184,9 @@ static wb_fitting random_setting(uint32_t desk, uint32_t line)
 
 static struct call random_call(void)
 {
-    static const enum kind often[] = {NEW_HULL, NEW_HULL, OPEN, OPEN, OPEN, OPEN, SET_FITTING, SET_FITTING, SET_FITTING, REPLACE, REPLACE, TRIAL_A,
-                                      TRIAL_C, TRIAL_U, SAVE, SAVE, DROP, PLATE_A, PLATE_C, PLATE_U, WRITE_HULL, READ_SHEET, WRITE_SHEET, READ_ENGINES};
+    static const enum kind often[] = {NEW_HULL, NEW_HULL, OPEN, OPEN, OPEN, OPEN, SET_FITTING, SET_FITTING, SET_FITTING,
+                                      REPLACE, REPLACE, TRIAL_A, TRIAL_C, TRIAL_U, SAVE, SAVE, DROP, PLATE_A, PLATE_C,
+                                      PLATE_U, WEIGH, WRITE_HULL, READ_SHEET, WRITE_SHEET, READ_ENGINES};
     struct call call;
     call.kind = one_in(400) ? FRESH : ONE_OF(often);
     call.desk = random_desk();
@@ -267,6 +276,7 @@ int main(int argc, char **argv)
     try_text_edges();
     try_fault_places();
     try_register_edges();
+    try_weight_edges();
     printf("c tests: %lu chosen calls\n", calls_made());
     try_random_calls(count);
     print_answers_seen();

@@ -6,6 +6,7 @@
 #include "offices.h"
 #include "painted.h"
 #include "random.h"
+#include "weighed.h"
 
 #include <signal.h>
 #include <stdio.h>
@@ -40,6 +41,7 @@ static const struct {
     [PLATE_C] = {"plate_c", BIT(MEMORY) | BIT(POWERS) | BIT(WEIGHTS), 0,
                  BIT(0) | BIT(1) | BIT(5) | BIT(10) | BIT(11) | BIT(12) | BIT(14) | BIT(15), 160},
     [PLATE_U] = {"plate_u", BIT(MEMORY), 0, BIT(0) | BIT(1) | BIT(5) | BIT(12), 128},
+    [WEIGH] = {"weight", BIT(MEMORY), 0, BIT(0) | BIT(1) | BIT(5)},
     [WRITE_HULL] = {"write_hull", BIT(MEMORY), BIT(OUT), BIT(0) | BIT(1) | BIT(5) | BIT(16)},
     [READ_SHEET] = {"read_sheet", BIT(TEXT), BIT(SHEET), BIT(0) | BIT(2) | BIT(3)},
     [WRITE_SHEET] = {"write_sheet", BIT(SHEET), BIT(OUT), BIT(0) | BIT(3) | BIT(16)},
@@ -248,6 +250,8 @@ static wb_answer call_plate(const struct office *office, struct call call, const
         return office->plate_a(mem, len, call.hull);
     case PLATE_U:
         return office->plate_u(mem, len, call.hull);
+    case WEIGH:
+        return office->weight(mem, len, call.hull);
     default:
         return office->plate_c(mem, len, call.hull, powers, powers_len, weights, weights_len);
     }
@@ -405,6 +409,14 @@ static void compare_buffers(unsigned long writes, unsigned long uses, int refuse
     }
 }
 
+/* What the two agree on is held to the sheets themselves, after a call that judged the memory or wrote it. */
+static void judge_weights(uint32_t refusal)
+{
+    if (refusal != WB_BAD_MEMORY)
+        insist(weights_right((const uint32_t *)(void *)places[LIBRARY][MEMORY].start),
+               "the memory was not refused and keeps a weight that is not that of its sheet");
+}
+
 static wb_answer call_both(unsigned long reads, unsigned long uses)
 {
     int sealed = one_in(8); /* then the library could not even write back the same */
@@ -434,6 +446,8 @@ wb_answer attempt(struct call call)
     made++;
     wb_answer answer = call_both(reads, reads | writes);
     compare_buffers(writes, reads | writes, answer.refusal != 0);
+    if ((reads | writes) & BIT(MEMORY))
+        judge_weights(answer.refusal);
     insist(answer.refusal < REFUSALS && kinds[call.kind].answers & BIT(answer.refusal), "a refusal that the header does not name for this call");
     seen[call.kind][answer.refusal]++;
     if (answer.refusal == 0)

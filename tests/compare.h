@@ -7,8 +7,8 @@
 
 #include "willowblink.h"
 
-enum kind { FRESH, NEW_HULL, OPEN, SET_FITTING, REPLACE, TRIAL_A, TRIAL_C, TRIAL_U, SAVE, DROP, PLATE_A, PLATE_C, PLATE_U, WRITE_HULL, READ_SHEET,
-            WRITE_SHEET, READ_ENGINES, KINDS };
+enum kind { FRESH, NEW_HULL, OPEN, SET_FITTING, REPLACE, TRIAL_A, TRIAL_C, TRIAL_U, SAVE, DROP, PLATE_A, PLATE_C,
+            PLATE_U, WEIGH, WRITE_HULL, READ_SHEET, WRITE_SHEET, READ_ENGINES, KINDS };
 
 /* The buffers that a call can be lent. */
 enum buffer { MEMORY, TEXT, OUT, POWERS, WEIGHTS, SHEET, BUFFERS };
@@ -29,7 +29,10 @@ struct call {
     uint32_t desk, hull, line, weight, count;
 };
 
-/* Makes a call on what is lent. Ends the program with a report at the first difference. */
+/*
+ * Makes a call on what is lent. Ends the program with a report at the first difference, and where a memory that is not
+ * refused keeps a weight that is not that of its sheet.
+ */
 wb_answer attempt(struct call call);
 
 /* Holds the answer of the last call to what the rules say of it in so many figures. */

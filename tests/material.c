@@ -52,9 +52,12 @@ uint32_t heaviest(uint32_t count)
     return 500000 / count;
 }
 
-int64_t grams_on(const wb_fitting *fitting)
+uint64_t grams_of(const wb_sheet *sheet)
 {
-    return (int64_t)fitting->weight * fitting->count;
+    uint64_t grams = sheet->bare;
+    for (int i = 0; i < WB_FITTINGS; i++)
+        grams += (uint64_t)sheet->fitting[i].weight * sheet->fitting[i].count;
+    return grams;
 }
 
 wb_sheet base_hull(void)

@@ -8,7 +8,8 @@
 #define FIRST_FITTING 45 /* from here on a weight and a count in turn */
 
 /* The place of some of a sheet's numbers. */
-enum { HULL_NUMBER = 0, LENGTH_NUMBER = 1, REFERENCE_NUMBER = 2, FIRST_READING = 7, AFT_NUMBER = 35, MACHINERY_NUMBER = 40, TESTED_NUMBER = 44 };
+enum { HULL_NUMBER = 0, LENGTH_NUMBER = 1, REFERENCE_NUMBER = 2, FIRST_READING = 7, AFT_NUMBER = 35, BARE_NUMBER = 38,
+       MACHINERY_NUMBER = 40, TESTED_NUMBER = 44 };
 
 /* The limits of a sheet's number, by its place, as a text may have them. Those of a count hang on the weight too: see heaviest. */
 uint32_t lowest(int number);
@@ -19,8 +20,8 @@ uint32_t heaviest(uint32_t count);
 
 uint32_t *numbers_of(wb_sheet *sheet);
 
-/* What all pieces on a line weigh, in grams. */
-int64_t grams_on(const wb_fitting *fitting);
+/* What the boat weighs by a sheet, in grams: the bare boat and all pieces on every line. */
+uint64_t grams_of(const wb_sheet *sheet);
 
 /* The base hull of the samples: 4500 by 1200, positions 5, not tested, declared 20000. */
 wb_sheet base_hull(void);

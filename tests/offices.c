@@ -6,12 +6,12 @@
 
 const struct office library = {
     wb_fresh, wb_new_hull, wb_open, wb_set_fitting, wb_replace, wb_trial_a, wb_trial_c, wb_trial_u, wb_save, wb_drop, wb_plate_a, wb_plate_c,
-    wb_plate_u, wb_write_hull, wb_read_sheet, wb_write_sheet, wb_read_engines,
+    wb_plate_u, wb_weight, wb_write_hull, wb_read_sheet, wb_write_sheet, wb_read_engines,
 };
 
 const struct office reference = {
     ref_fresh, ref_new_hull, ref_open, ref_set_fitting, ref_replace, ref_trial_a, ref_trial_c, ref_trial_u, ref_save, ref_drop, ref_plate_a,
-    ref_plate_c, ref_plate_u, ref_write_hull, ref_read_sheet, ref_write_sheet, ref_read_engines,
+    ref_plate_c, ref_plate_u, ref_weight, ref_write_hull, ref_read_sheet, ref_write_sheet, ref_read_engines,
 };
 
 /* ---- the library with rubbish beside every number ---- */
@@ -31,6 +31,7 @@ wb_answer wide_drop(uint32_t *, size_t, uint64_t) __asm__("wb_drop");
 wb_answer wide_plate_a(const uint32_t *, size_t, uint64_t) __asm__("wb_plate_a");
 wb_answer wide_plate_c(const uint32_t *, size_t, uint64_t, const uint32_t *, size_t, const uint32_t *, size_t) __asm__("wb_plate_c");
 wb_answer wide_plate_u(const uint32_t *, size_t, uint64_t) __asm__("wb_plate_u");
+wb_answer wide_weight(const uint32_t *, size_t, uint64_t) __asm__("wb_weight");
 wb_answer wide_write_hull(const uint32_t *, size_t, uint64_t, uint8_t *, size_t) __asm__("wb_write_hull");
 
 static uint64_t soiled(uint32_t number)
@@ -96,6 +97,11 @@ static wb_answer plate_u_soiled(const uint32_t *mem, size_t len, uint32_t hull)
     return wide_plate_u(mem, len, soiled(hull));
 }
 
+static wb_answer weight_soiled(const uint32_t *mem, size_t len, uint32_t hull)
+{
+    return wide_weight(mem, len, soiled(hull));
+}
+
 static wb_answer write_hull_soiled(const uint32_t *mem, size_t len, uint32_t hull, uint8_t *out, size_t out_len)
 {
     return wide_write_hull(mem, len, soiled(hull), out, out_len);
@@ -104,5 +110,6 @@ static wb_answer write_hull_soiled(const uint32_t *mem, size_t len, uint32_t hul
 /* The calls that take no such number are as they are. */
 const struct office library_with_rubbish = {
     wb_fresh, wb_new_hull, open_soiled, set_fitting_soiled, replace_soiled, trial_a_soiled, trial_c_soiled, trial_u_soiled, save_soiled,
-    drop_soiled, plate_a_soiled, plate_c_soiled, plate_u_soiled, write_hull_soiled, wb_read_sheet, wb_write_sheet, wb_read_engines,
+    drop_soiled, plate_a_soiled, plate_c_soiled, plate_u_soiled, weight_soiled, write_hull_soiled, wb_read_sheet,
+    wb_write_sheet, wb_read_engines,
 };

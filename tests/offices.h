@@ -1,5 +1,6 @@
 /*
- * offices.h: the seventeen calls as one table, of the library and of the reference; and of the library once more with rubbish beside every number.
+ * offices.h: the eighteen calls as one table, of the library and of the reference; and of the library once more with
+ * rubbish beside every number.
  */
 #ifndef WILLOWBLINK_OFFICES_H
 #define WILLOWBLINK_OFFICES_H
@@ -20,6 +21,7 @@ struct office {
     wb_answer (*plate_a)(const uint32_t *, size_t, uint32_t);
     wb_answer (*plate_c)(const uint32_t *, size_t, uint32_t, const uint32_t *, size_t, const uint32_t *, size_t);
     wb_answer (*plate_u)(const uint32_t *, size_t, uint32_t);
+    wb_answer (*weight)(const uint32_t *, size_t, uint32_t);
     wb_answer (*write_hull)(const uint32_t *, size_t, uint32_t, uint8_t *, size_t);
     wb_answer (*read_sheet)(const uint8_t *, size_t, wb_sheet *);
     wb_answer (*write_sheet)(const wb_sheet *, uint8_t *, size_t);

@@ -8,5 +8,6 @@ void try_plate_u_edges(void);
 void try_text_edges(void);
 void try_fault_places(void);
 void try_register_edges(void);
+void try_weight_edges(void);
 
 #endif

@@ -14,9 +14,7 @@ static const uint32_t weightless_powers[] = {200000}, weightless[] = {0};
 /* Z - GRAM * (M + factor * (fuel + machinery)) of a sheet becomes net. */
 static void set_net(wb_sheet *sheet, int64_t net, int64_t factor)
 {
-    int64_t boat = sheet->bare;
-    for (int line = 0; line < WB_FITTINGS; line++)
-        boat += grams_on(&sheet->fitting[line]);
+    int64_t boat = (int64_t)grams_of(sheet);
     set_water(sheet, net + GRAM * (boat + factor * ((int64_t)sheet->fuel + sheet->machinery)));
 }
 

@@ -297,17 +297,14 @@ static void try_whole_pounds(void)
 {
     static const int counts[] = {-900, -2, -1, 0, 1, 2, 3, 4, 5, 75, 720, 1000, 1999, 2000};
     wb_sheet high = base_hull();
-    int64_t boat = high.bare, with_tanks;
     begin_part("whole pounds of each figure");
     high.well = 765;
     high.flooding = 4321;
     high.fuel = 12345;
     high.machinery = 98765;
-    for (uint32_t line = 0; line < WB_FITTINGS; line++) {
+    for (uint32_t line = 0; line < WB_FITTINGS; line++)
         high.fitting[line] = (wb_fitting){100 + line, 1 + line % 11};
-        boat += grams_on(&high.fitting[line]);
-    }
-    with_tanks = boat + high.fuel;
+    int64_t boat = (int64_t)grams_of(&high), with_tanks = boat + high.fuel;
     wb_sheet low = high;
     low.declared = 1491;
     for (size_t i = 0; i < sizeof counts / sizeof *counts; i++) {

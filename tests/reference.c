@@ -1,5 +1,6 @@
 /*
- * reference.c: a second opinion on the seventeen calls, in plain C. The rules are docs/RULES.md, the layout of the memory docs/REGISTER.md.
+ * reference.c: a second opinion on the eighteen calls, in plain C. The rules are docs/RULES.md, the layout of the
+ * memory docs/REGISTER.md.
  *
  * Nothing of the library is used, and nothing is clever: each part stands in the order of the rules, so that the two can be read side by side.
  */
@@ -71,15 +72,18 @@ static int is_empty(const uint32_t *fitting)
     return fitting[WEIGHT] == 0 && fitting[COUNT] == 0;
 }
 
-static int sheet_within_limits(const uint32_t *sheet)
+/* What the boat weighs by the sheet, bare boat and fittings, is summed on the way, of lines that are judged already. */
+static int sheet_within_limits(const uint32_t *sheet, uint32_t *grams)
 {
     for (int i = 0; i < FITTINGS; i++)
         if (sheet[i] < sheet_limits[i].low || sheet[i] > sheet_limits[i].high)
             return 0;
+    *grams = sheet[BARE];
     for (uint32_t line = 1; line <= WB_FITTINGS; line++) {
         const uint32_t *fitting = sheet + fitting_at(line);
         if (!is_empty(fitting) && !is_fitting(fitting[WEIGHT], fitting[COUNT]))
             return 0;
+        *grams += fitting[WEIGHT] * fitting[COUNT];
     }
     return sheet[REFERENCE] <= sheet[LENGTH];
 }
@@ -342,12 +346,12 @@ static int64_t water(const uint32_t *sheet)
     return n + 180000 * ((int64_t)sheet[AFT] - sheet[WELL] - sheet[FLOODING]);
 }
 
-/* M: bare boat and fittings, each line all its pieces. */
-static int64_t boat(const uint32_t *sheet)
+/* M of a sheet that was read: bare boat and fittings, each line all its pieces. The plates take it as it is kept. */
+static uint32_t boat(const uint32_t *sheet)
 {
-    int64_t grams = sheet[BARE];
+    uint32_t grams = sheet[BARE];
     for (uint32_t line = 1; line <= WB_FITTINGS; line++)
-        grams += (int64_t)sheet[fitting_at(line) + WEIGHT] * sheet[fitting_at(line) + COUNT];
+        grams += sheet[fitting_at(line) + WEIGHT] * sheet[fitting_at(line) + COUNT];
     return grams;
 }
 
@@ -358,10 +362,10 @@ static int64_t tanks_and_machinery(const uint32_t *sheet)
 
 /* ---- plate A ---- */
 
-static int64_t load_a(const uint32_t *sheet)
+static int64_t load_a(const uint32_t *sheet, int64_t m)
 {
     int64_t tanks_factor = sheet[OUTBOARD] ? 180000 : 900000;
-    int64_t load = water(sheet) - 180000 * boat(sheet) - tanks_factor * tanks_and_machinery(sheet);
+    int64_t load = water(sheet) - 180000 * m - tanks_factor * tanks_and_machinery(sheet);
     return floor_div(load + 450000000, 900000000); /* the nearest, a half upward */
 }
 
@@ -403,9 +407,9 @@ static uint32_t power_a(const uint32_t *sheet, uint32_t *watts)
     return WB_ACCEPTED;
 }
 
-static wb_answer plate_a(const uint32_t *sheet)
+static wb_answer plate_a(const uint32_t *sheet, uint32_t m)
 {
-    int64_t load = load_a(sheet);
+    int64_t load = load_a(sheet, m);
     if (load < 1)
         return refused(WB_NO_LOAD);
     uint32_t watts, fault = power_a(sheet, &watts);
@@ -427,9 +431,9 @@ static int rows_good(const uint32_t *powers, size_t powers_len, const uint32_t *
     return 1;
 }
 
-static int64_t load_c(const uint32_t *sheet)
+static int64_t load_c(const uint32_t *sheet, int64_t m)
 {
-    int64_t x = water(sheet) - 180000 * (boat(sheet) + tanks_and_machinery(sheet));
+    int64_t x = water(sheet) - 180000 * (m + tanks_and_machinery(sheet));
     return sheet[DECLARED] > 1500 ? floor_div(x, 900000000) : floor_div(3 * x, 1800000000);
 }
 
@@ -446,11 +450,12 @@ static uint32_t engine_weight(const uint32_t *sheet, const uint32_t *powers, con
     return WB_NO_ROW;
 }
 
-static wb_answer plate_c(const uint32_t *sheet, const uint32_t *powers, size_t powers_len, const uint32_t *weights, size_t weights_len)
+static wb_answer plate_c(const uint32_t *sheet, uint32_t m, const uint32_t *powers, size_t powers_len,
+                         const uint32_t *weights, size_t weights_len)
 {
     if (!rows_good(powers, powers_len, weights, weights_len))
         return refused(WB_BAD_ROWS);
-    int64_t load = load_c(sheet);
+    int64_t load = load_c(sheet, m);
     if (load < 1)
         return refused(WB_NO_LOAD);
     uint32_t engine, fault = engine_weight(sheet, powers, weights, powers_len, &engine);
@@ -475,9 +480,9 @@ struct load {
 };
 
 /* By 33 CFR 183.35 an outboard's tanks count, up to two horsepower by 183.37 they do not; by 183.33 an inboard has the greater of two loads. */
-static struct load load_u(const uint32_t *sheet)
+static struct load load_u(const uint32_t *sheet, int64_t m)
 {
-    int64_t less_boat = water(sheet) - 180000 * boat(sheet), less_tanks = less_boat - 180000 * (int64_t)sheet[FUEL];
+    int64_t less_boat = water(sheet) - 180000 * m, less_tanks = less_boat - 180000 * (int64_t)sheet[FUEL];
     struct load fifth = {less_tanks, 5}, seventh = {less_tanks, 7}, three_tenths = {3 * less_boat, 10};
     if (sheet[OUTBOARD])
         return sheet[DECLARED] > 1491 ? fifth : three_tenths;
@@ -489,9 +494,9 @@ static struct load load_u(const uint32_t *sheet)
  * The one load that is marked, rounded down once. A pound is 45359237/100000 g. Parts are at most 3 * 10,800,000,000,000, and 100000 times that is
  * some third of what 63 bits hold; what they are divided by is at most 180000 * 10 * 45359237, less still.
  */
-static wb_answer plate_u(const uint32_t *sheet)
+static wb_answer plate_u(const uint32_t *sheet, uint32_t m)
 {
-    struct load load = load_u(sheet);
+    struct load load = load_u(sheet, m);
     int64_t pounds = floor_div(100000 * load.parts, 180000 * load.by * 45359237);
     return pounds < 1 ? refused(WB_NO_LOAD) : accepted((uint32_t)pounds, 0);
 }
@@ -500,9 +505,12 @@ static wb_answer plate_u(const uint32_t *sheet)
 
 #define HIGHEST_EDIT 65535
 
-/* A hull's slot: its edit number, then its sheet. A desk's slot: its mark, hull and opening number, then the draft's sheet. */
-enum { EDIT, HULL_SHEET, HULL_SLOT = HULL_SHEET + SHEET_WORDS };
-enum { HELD, DRAFT_HULL, OPENING, DRAFT_SHEET, DESK_SLOT = DRAFT_SHEET + SHEET_WORDS };
+/*
+ * A hull's slot: its edit number, the boat's weight, then its sheet. A desk's slot: its mark, hull and opening number,
+ * the boat's weight by the draft, then the draft's sheet.
+ */
+enum { EDIT, HULL_WEIGHT, HULL_SHEET, HULL_SLOT = HULL_SHEET + SHEET_WORDS };
+enum { HELD, DRAFT_HULL, OPENING, DRAFT_WEIGHT, DRAFT_SHEET, DESK_SLOT = DRAFT_SHEET + SHEET_WORDS };
 
 static size_t hull_at(uint32_t hull)
 {
@@ -514,20 +522,31 @@ static size_t desk_at(uint32_t desk)
     return hull_at(WB_HULLS) + (size_t)DESK_SLOT * desk;
 }
 
+/* A sheet within the limits, and the weight that is kept beside it is what the boat weighs by it. */
+static int weighed(const uint32_t *sheet, uint32_t weight)
+{
+    uint32_t grams;
+    return sheet_within_limits(sheet, &grams) && weight == grams;
+}
+
+static int hull_formed(const uint32_t *hull)
+{
+    return hull[EDIT] <= HIGHEST_EDIT && weighed(hull + HULL_SHEET, hull[HULL_WEIGHT]);
+}
+
 static int draft_formed(const uint32_t *mem, const uint32_t *draft)
 {
-    return draft[DRAFT_HULL] < mem[0] && draft[OPENING] <= mem[hull_at(draft[DRAFT_HULL]) + EDIT] && sheet_within_limits(draft + DRAFT_SHEET);
+    return draft[DRAFT_HULL] < mem[0] && draft[OPENING] <= mem[hull_at(draft[DRAFT_HULL]) + EDIT] &&
+           weighed(draft + DRAFT_SHEET, draft[DRAFT_WEIGHT]);
 }
 
 static int formed(const uint32_t *mem, size_t mem_len)
 {
     if (mem_len != WB_REGISTER_WORDS || mem[0] > WB_HULLS)
         return 0;
-    for (uint32_t hull = 0; hull < mem[0]; hull++) {
-        const uint32_t *slot = mem + hull_at(hull);
-        if (slot[EDIT] > HIGHEST_EDIT || !sheet_within_limits(slot + HULL_SHEET))
+    for (uint32_t hull = 0; hull < mem[0]; hull++)
+        if (!hull_formed(mem + hull_at(hull)))
             return 0;
-    }
     for (uint32_t desk = 0; desk < WB_DESKS; desk++) {
         const uint32_t *slot = mem + desk_at(desk);
         if (slot[HELD] > 1 || (slot[HELD] == 1 && !draft_formed(mem, slot)))
@@ -581,6 +600,7 @@ wb_answer ref_new_hull(uint32_t *mem, size_t mem_len, const uint8_t *text, size_
         return read;
     uint32_t hull = mem[0]++, *slot = mem + hull_at(hull);
     slot[EDIT] = 0;
+    slot[HULL_WEIGHT] = boat(numbers + 1);
     memcpy(slot + HULL_SHEET, numbers + 1, SHEET_WORDS * sizeof *mem);
     return accepted(hull, 0);
 }
@@ -598,6 +618,7 @@ wb_answer ref_open(uint32_t *mem, size_t mem_len, uint32_t desk, uint32_t hull)
     draft[HELD] = 1;
     draft[DRAFT_HULL] = hull;
     draft[OPENING] = from[EDIT];
+    draft[DRAFT_WEIGHT] = from[HULL_WEIGHT];
     memcpy(draft + DRAFT_SHEET, from + HULL_SHEET, SHEET_WORDS * sizeof *mem);
     return accepted(from[EDIT], 0);
 }
@@ -610,9 +631,11 @@ wb_answer ref_set_fitting(uint32_t *mem, size_t mem_len, uint32_t desk, uint32_t
     int empties = weight == 0 && count == 0;
     if (!is_line(line) || !(empties || is_fitting(weight, count)))
         return refused(WB_OUTSIDE_LIMITS);
-    uint32_t *fitting = mem + desk_at(desk) + DRAFT_SHEET + fitting_at(line);
+    uint32_t *draft = mem + desk_at(desk), *fitting = draft + DRAFT_SHEET + fitting_at(line);
     if (empties && is_empty(fitting))
         return refused(WB_EMPTY_LINE);
+    draft[DRAFT_WEIGHT] -= fitting[WEIGHT] * fitting[COUNT];
+    draft[DRAFT_WEIGHT] += weight * count;
     fitting[WEIGHT] = weight;
     fitting[COUNT] = count;
     return accepted(0, 0);
@@ -622,28 +645,40 @@ wb_answer ref_replace(uint32_t *mem, size_t mem_len, uint32_t desk, const uint8_
 {
     uint32_t numbers[1 + SHEET_WORDS], fault = judge_draft(mem, mem_len, desk);
     wb_answer read = fault ? refused(fault) : read_text(text, text_len, numbers);
-    if (!read.refusal)
-        memcpy(mem + desk_at(desk) + DRAFT_SHEET, numbers + 1, SHEET_WORDS * sizeof *mem);
+    if (read.refusal)
+        return read;
+    uint32_t *draft = mem + desk_at(desk);
+    draft[DRAFT_WEIGHT] = boat(numbers + 1);
+    memcpy(draft + DRAFT_SHEET, numbers + 1, SHEET_WORDS * sizeof *mem);
     return read;
 }
 
 wb_answer ref_trial_a(const uint32_t *mem, size_t mem_len, uint32_t desk)
 {
     uint32_t fault = judge_draft(mem, mem_len, desk);
-    return fault ? refused(fault) : plate_a(mem + desk_at(desk) + DRAFT_SHEET);
+    if (fault)
+        return refused(fault);
+    const uint32_t *draft = mem + desk_at(desk);
+    return plate_a(draft + DRAFT_SHEET, draft[DRAFT_WEIGHT]);
 }
 
 wb_answer ref_trial_c(const uint32_t *mem, size_t mem_len, uint32_t desk, const uint32_t *powers, size_t powers_len, const uint32_t *weights,
                       size_t weights_len)
 {
     uint32_t fault = judge_draft(mem, mem_len, desk);
-    return fault ? refused(fault) : plate_c(mem + desk_at(desk) + DRAFT_SHEET, powers, powers_len, weights, weights_len);
+    if (fault)
+        return refused(fault);
+    const uint32_t *draft = mem + desk_at(desk);
+    return plate_c(draft + DRAFT_SHEET, draft[DRAFT_WEIGHT], powers, powers_len, weights, weights_len);
 }
 
 wb_answer ref_trial_u(const uint32_t *mem, size_t mem_len, uint32_t desk)
 {
     uint32_t fault = judge_draft(mem, mem_len, desk);
-    return fault ? refused(fault) : plate_u(mem + desk_at(desk) + DRAFT_SHEET);
+    if (fault)
+        return refused(fault);
+    const uint32_t *draft = mem + desk_at(desk);
+    return plate_u(draft + DRAFT_SHEET, draft[DRAFT_WEIGHT]);
 }
 
 wb_answer ref_save(uint32_t *mem, size_t mem_len, uint32_t desk)
@@ -657,6 +692,7 @@ wb_answer ref_save(uint32_t *mem, size_t mem_len, uint32_t desk)
     if (hull[EDIT] == HIGHEST_EDIT)
         return refused(WB_EDITS_SPENT);
     hull[EDIT]++;
+    hull[HULL_WEIGHT] = draft[DRAFT_WEIGHT];
     memcpy(hull + HULL_SHEET, draft + DRAFT_SHEET, SHEET_WORDS * sizeof *mem);
     draft[HELD] = 0;
     return accepted(hull[EDIT], 0);
@@ -674,20 +710,35 @@ wb_answer ref_drop(uint32_t *mem, size_t mem_len, uint32_t desk)
 wb_answer ref_plate_a(const uint32_t *mem, size_t mem_len, uint32_t hull)
 {
     uint32_t fault = judge_hull(mem, mem_len, hull);
-    return fault ? refused(fault) : plate_a(mem + hull_at(hull) + HULL_SHEET);
+    if (fault)
+        return refused(fault);
+    const uint32_t *slot = mem + hull_at(hull);
+    return plate_a(slot + HULL_SHEET, slot[HULL_WEIGHT]);
 }
 
 wb_answer ref_plate_c(const uint32_t *mem, size_t mem_len, uint32_t hull, const uint32_t *powers, size_t powers_len, const uint32_t *weights,
                       size_t weights_len)
 {
     uint32_t fault = judge_hull(mem, mem_len, hull);
-    return fault ? refused(fault) : plate_c(mem + hull_at(hull) + HULL_SHEET, powers, powers_len, weights, weights_len);
+    if (fault)
+        return refused(fault);
+    const uint32_t *slot = mem + hull_at(hull);
+    return plate_c(slot + HULL_SHEET, slot[HULL_WEIGHT], powers, powers_len, weights, weights_len);
 }
 
 wb_answer ref_plate_u(const uint32_t *mem, size_t mem_len, uint32_t hull)
 {
     uint32_t fault = judge_hull(mem, mem_len, hull);
-    return fault ? refused(fault) : plate_u(mem + hull_at(hull) + HULL_SHEET);
+    if (fault)
+        return refused(fault);
+    const uint32_t *slot = mem + hull_at(hull);
+    return plate_u(slot + HULL_SHEET, slot[HULL_WEIGHT]);
+}
+
+wb_answer ref_weight(const uint32_t *mem, size_t mem_len, uint32_t hull)
+{
+    uint32_t fault = judge_hull(mem, mem_len, hull);
+    return fault ? refused(fault) : accepted(mem[hull_at(hull) + HULL_WEIGHT], 0);
 }
 
 wb_answer ref_write_hull(const uint32_t *mem, size_t mem_len, uint32_t hull, uint8_t *out, size_t out_len)
@@ -708,7 +759,8 @@ wb_answer ref_read_sheet(const uint8_t *text, size_t text_len, wb_sheet *sheet)
 wb_answer ref_write_sheet(const wb_sheet *sheet, uint8_t *out, size_t out_len)
 {
     const uint32_t *numbers = (const uint32_t *)sheet; /* a wb_sheet is its 93 numbers and nothing else */
-    if (numbers[0] > HIGHEST_HULL || !sheet_within_limits(numbers + 1))
+    uint32_t grams;
+    if (numbers[0] > HIGHEST_HULL || !sheet_within_limits(numbers + 1, &grams))
         return refused(WB_OUTSIDE_LIMITS);
     return write_text(numbers[0], numbers + 1, out, out_len);
 }

@@ -1,4 +1,4 @@
-/* reference.h: the seventeen calls once more, in plain C, from the rules alone. They are what the library is compared with. */
+/* reference.h: the eighteen calls once more, in plain C, from the rules alone. The library is compared with them. */
 #ifndef WILLOWBLINK_REFERENCE_H
 #define WILLOWBLINK_REFERENCE_H
 
@@ -19,6 +19,7 @@ wb_answer ref_plate_a(const uint32_t *mem, size_t mem_len, uint32_t hull);
 wb_answer ref_plate_c(const uint32_t *mem, size_t mem_len, uint32_t hull, const uint32_t *powers, size_t powers_len, const uint32_t *weights,
                       size_t weights_len);
 wb_answer ref_plate_u(const uint32_t *mem, size_t mem_len, uint32_t hull);
+wb_answer ref_weight(const uint32_t *mem, size_t mem_len, uint32_t hull);
 wb_answer ref_write_hull(const uint32_t *mem, size_t mem_len, uint32_t hull, uint8_t *out, size_t out_len);
 wb_answer ref_read_sheet(const uint8_t *text, size_t text_len, wb_sheet *sheet);
 wb_answer ref_write_sheet(const wb_sheet *sheet, uint8_t *out, size_t out_len);

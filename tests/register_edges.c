@@ -1,106 +1,53 @@
 /* register_edges.c: memories with one word changed, wrong sizes, the last edit numbers, the order of the register's refusals, and fitting lines. */
 #include "layout.h"
 #include "material.h"
+#include "memories.h"
 #include "parts.h"
 #include "random.h"
 #include "steps.h"
+#include "weighed.h"
 
 #include <string.h>
 
 static uint32_t *const mem = lent[MEMORY].words;
 
-/* ---- a memory to change ---- */
-
-/* So many hulls, each saved three times, and so many drafts, opened before the last save; what is free holds anything. */
-static void build(uint32_t hulls, uint32_t drafts)
-{
-    start_fresh();
-    for (uint32_t word = 1; word < WB_REGISTER_WORDS; word++)
-        if ((word - DESK_AT(0)) % DESK_WORDS != 0 || word < DESK_AT(0))
-            mem[word] = random_word();
-    for (uint32_t hull = 0; hull < hulls; hull++) {
-        wb_sheet sheet = random_sheet();
-        lend_text_of(&sheet);
-        expect(attempt((struct call){.kind = NEW_HULL}), 0, hull, 0);
-        insist(mem[HULL_AT(hull)] == 0, "a new hull's edit number is not 0");
-        mem[HULL_AT(hull)] = 3;
-    }
-    for (uint32_t desk = 0; desk < drafts; desk++) {
-        expect(attempt((struct call){.kind = OPEN, .desk = desk, .hull = (desk + 1) % hulls}), 0, 3, 0);
-        mem[DESK_AT(desk) + 2] = 2;
-    }
-}
-
-/* The calls that judge the memory: all but a fresh start and those on texts alone. The first sets a line, the second empties one. */
-#define JUDGING 14
-
-/* One of them, with numbers that are right where the memory allows it. */
-static struct call judging_call(uint32_t turn)
-{
-    static const enum kind judging[JUDGING] = {SET_FITTING, SET_FITTING, NEW_HULL, OPEN, REPLACE, TRIAL_A, TRIAL_C, TRIAL_U, SAVE, DROP, PLATE_A,
-                                               PLATE_C, PLATE_U, WRITE_HULL};
-    wb_fitting fitting = turn % JUDGING == 1 ? (wb_fitting){0, 0} : (wb_fitting){5, 12};
-    return (struct call){judging[turn % JUDGING], turn % 3, turn % 4, turn % 24 + 1, fitting.weight, fitting.count};
-}
-
-static void lend_good_things(void)
-{
-    static const uint32_t power = 200000, weight = 1000;
-    wb_sheet sheet = base_hull();
-    lend_text_of(&sheet);
-    lend_rows(&power, &weight, 1);
-    lend_out(WB_SHEET_TEXT);
-}
-
 /* ---- one word changed ---- */
 
-/* What one word of a memory of build may hold; free words may hold anything. */
+/* The place of a word in a sheet's numbers, where the weight stands for HULL and the words before it are below 0. */
+static int number_at(uint32_t word)
+{
+    return (int)word - (int)sheet_at(slot_of(word)) + 1;
+}
+
+/* What one word of a memory of build may hold; free words may hold anything. A weight can only be what it is. */
 static void limits_of(uint32_t word, uint32_t hulls, uint32_t drafts, uint32_t *low, uint32_t *high)
 {
-    uint32_t hull = (word - 1) / HULL_WORDS, desk = (word - DESK_AT(0)) / DESK_WORDS;
-    uint32_t at = word < DESK_AT(0) ? (word - 1) % HULL_WORDS : (word - DESK_AT(0)) % DESK_WORDS;
-    int number = (int)at - (word < DESK_AT(0) ? 0 : 2); /* the place in a sheet, where the edit or opening number stands for HULL */
+    uint32_t slot = slot_of(word);
+    int number = number_at(word), of_hull = slot < WB_HULLS;
     *low = 0;
     if (word == 0)
         *high = WB_HULLS;
-    else if (word >= DESK_AT(0) && at == 0)
+    else if (is_mark(word))
         *high = 1;
-    else if (word < DESK_AT(0) ? hull >= hulls : desk >= drafts)
+    else if (of_hull ? slot >= hulls : slot - WB_HULLS >= drafts)
         *high = 0xFFFFFFFF;
-    else if (number < 0)
+    else if (number == -2)
         *high = hulls - 1;
+    else if (number == -1)
+        *high = of_hull ? 65535 : 3;
     else if (number == 0)
-        *high = word < DESK_AT(0) ? 65535 : 3;
+        *low = *high = mem[word];
     else {
         *low = number == TESTED_NUMBER || number >= FIRST_FITTING ? 0 : lowest(number);
         *high = highest(number);
     }
 }
 
-/* Changes a word and makes a call that judges it; the refusal is 1 exactly where the word is outside its limits. */
-static void change_word(uint32_t word, uint32_t number, int formed, uint32_t turn)
-{
-    static uint32_t before[WB_REGISTER_WORDS];
-    memcpy(before, mem, sizeof before);
-    mem[word] = number;
-    wb_answer answer = attempt(judging_call(turn));
-    insist((answer.refusal == 1) == !formed, "one word of a good memory was changed, and refusal 1 was given or not where it should not be");
-    memcpy(mem, before, sizeof before);
-}
-
-/* The words whose limits hang on another word are left out here: the count of hulls, lengths, weights and counts of fittings. */
+/* The words whose limits hang on another word are left out here: how many hulls, edit numbers, lengths, fittings. */
 static int alone(uint32_t word)
 {
-    uint32_t at = word < DESK_AT(0) ? (word - 1) % HULL_WORDS : (word - DESK_AT(0)) % DESK_WORDS - 2;
-    int of_fitting = at >= FIRST_FITTING && at < SHEET_NUMBERS;
-    return word != 0 && at != LENGTH_NUMBER && at != REFERENCE_NUMBER && !of_fitting && !(word < DESK_AT(0) && at == 0);
-}
-
-/* A word so changed that every call refuses the memory. */
-static void spoil_word(uint32_t word, uint32_t to)
-{
-    for (uint32_t turn = 0; turn < JUDGING; turn++)
-        change_word(word, to, 0, turn);
+    int number = number_at(word), is_edit = number == -1 && slot_of(word) < WB_HULLS;
+    return word != 0 && !is_edit && number != LENGTH_NUMBER && number != REFERENCE_NUMBER && number < FIRST_FITTING;
 }
 
 static void change_every_word(uint32_t hulls, uint32_t drafts)
@@ -118,7 +65,7 @@ static void change_every_word(uint32_t hulls, uint32_t drafts)
         if (low > 0)
             spoil_word(word, low - 1);
         /* a desk's mark set to 1 makes a draft of what was free there */
-        if ((high < 0xFFFFFFFF && !alone(word)) || (word >= DESK_AT(drafts) && (word - DESK_AT(0)) % DESK_WORDS == 0))
+        if ((high < 0xFFFFFFFF && !alone(word)) || (word >= DESK_AT(drafts) && is_mark(word)))
             continue;
         change_word(word, low, 1, turn++);
         change_word(word, high, 1, turn++);
@@ -131,8 +78,8 @@ static void change_bound_words(void)
 {
     build(16, 8);
     lend_good_things();
-    for (uint32_t slot = 0; slot < WB_HULLS + WB_DESKS; slot++) {
-        uint32_t length = slot < WB_HULLS ? HULL_AT(slot) + 1 : DESK_AT(slot - WB_HULLS) + 3, is = mem[length], reference = mem[length + 1];
+    for (uint32_t slot = 0; slot < SLOTS; slot++) {
+        uint32_t length = sheet_at(slot), is = mem[length], reference = mem[length + 1];
         change_word(length + 1, is, 1, slot);
         spoil_word(length + 1, is + 1);
         change_word(length, reference, 1, slot + 2);
@@ -161,9 +108,9 @@ static void change_fittings(void)
     uint32_t turn = 0;
     build(16, 8);
     lend_good_things();
-    for (uint32_t slot = 0; slot < WB_HULLS + WB_DESKS; slot++)
+    for (uint32_t slot = 0; slot < SLOTS; slot++)
         for (uint32_t line = 1; line <= WB_FITTINGS; line++) {
-            uint32_t sheet = slot < WB_HULLS ? HULL_AT(slot) + 1 : DESK_AT(slot - WB_HULLS) + 3, at = sheet + WEIGHT_IN_SHEET(line), is = mem[at];
+            uint32_t at = sheet_at(slot) + WEIGHT_IN_SHEET(line), is = mem[at];
             for (size_t i = 0; i < sizeof lines / sizeof *lines; i++) {
                 mem[at] = lines[i].weight;
                 change_word(at + 1, lines[i].count, lines[i].formed, turn++);
@@ -189,8 +136,9 @@ static void try_seventeen_hulls(void)
 
 static void try_wrong_sizes(void)
 {
-    /* 1673 had a register of version 1, and its hulls were the first 1105 */
-    static const uint32_t words[] = {0, 1, 2, 1105, DESK_AT(0) - 1, DESK_AT(0), 1673, 2248, 2250, 2251, 4096, 4498};
+    /* 1673 had a register of version 1, and its hulls were the first 1105; 2249 had one of versions 2 and 3, of 1489 */
+    static const uint32_t words[] = {0, 1, 2, 1105, 1489, DESK_AT(0) - 1, DESK_AT(0), 1673, 2248, 2249, 2272, 2274,
+                                     2275, 4096, 4546};
     begin_part("memories of the wrong size");
     build(16, 8);
     lend_good_things();
@@ -259,8 +207,9 @@ static void try_ended_drafts(void)
     expect(attempt((struct call){.kind = SAVE, .desk = 0}), 0, 4, 0);
     before[DESK_AT(0)] = 0;
     before[HULL_AT(1)] = 4;
-    before[HULL_AT(1) + 91] = 5050;
-    before[HULL_AT(1) + 92] = 99;
+    before[HULL_WEIGHT_AT(1)] = before[DRAFT_WEIGHT_AT(0)];
+    before[HULL_SHEET_AT(1) + WEIGHT_IN_SHEET(24)] = 5050;
+    before[HULL_SHEET_AT(1) + WEIGHT_IN_SHEET(24) + 1] = 99;
     insist(memcmp(before, mem, sizeof before) == 0, "save changed something else than the hull's slot and the desk's mark");
 }
 
@@ -284,10 +233,11 @@ static void try_order(void)
         {TRIAL_A, 8, 0, 0, 0, 0}, {TRIAL_A, 7, 0, 0, 0, 0}, {TRIAL_C, 8, 0, 0, 0, 0}, {TRIAL_C, 7, 0, 0, 0, 0}, {TRIAL_C, 0, 0, 0, 0, 0},
         {TRIAL_U, 8, 0, 0, 0, 0}, {TRIAL_U, 7, 0, 0, 0, 0}, {SAVE, 8, 0, 0, 0, 0}, {SAVE, 7, 0, 0, 0, 0}, {SAVE, 0, 0, 0, 0, 0}, {DROP, 8, 0, 0, 0, 0},
         {DROP, 7, 0, 0, 0, 0}, {PLATE_A, 0, 16, 0, 0, 0}, {PLATE_C, 0, 16, 0, 0, 0}, {PLATE_C, 0, 15, 0, 0, 0}, {PLATE_U, 0, 16, 0, 0, 0},
-        {WRITE_HULL, 0, 16, 0, 0, 0}, {WRITE_HULL, 0, 15, 0, 0, 0},
+        {WEIGH, 0, 16, 0, 0, 0}, {WRITE_HULL, 0, 16, 0, 0, 0}, {WRITE_HULL, 0, 15, 0, 0, 0},
         {NEW_HULL, 0, 0, 0, 0, 0},
     };
-    static const uint32_t refusals[] = {6, 5, 6, 7, 3, 3, 3, 3, 3, 3, 3, 6, 7, 3, 3, 6, 7, 2, 6, 7, 6, 7, 10, 6, 7, 6, 7, 8, 6, 7, 5, 5, 10, 5, 5, 16, 4};
+    static const uint32_t refusals[] = {6, 5, 6, 7, 3, 3, 3, 3, 3, 3, 3, 6, 7, 3, 3, 6, 7, 2, 6, 7, 6, 7, 10, 6, 7, 6,
+                                        7, 8, 6, 7, 5, 5, 10, 5, 5, 5, 16, 4};
     size_t count = sizeof calls / sizeof *calls;
     uint32_t bad_memory[sizeof calls / sizeof *calls];
     begin_part("order of the register's refusals");
@@ -306,7 +256,7 @@ static void try_order(void)
 static void try_high_numbers(void)
 {
     static const enum kind by_desk[] = {OPEN, SET_FITTING, REPLACE, TRIAL_A, TRIAL_C, TRIAL_U, SAVE, DROP};
-    static const enum kind by_hull[] = {OPEN, PLATE_A, PLATE_C, PLATE_U, WRITE_HULL};
+    static const enum kind by_hull[] = {OPEN, PLATE_A, PLATE_C, PLATE_U, WEIGH, WRITE_HULL};
     begin_part("numbers of desks and hulls that are too high");
     build(16, 8);
     lend_good_things();
@@ -364,7 +314,7 @@ static void insist_line(uint32_t line, uint32_t weight, uint32_t count, const ch
     insist(mem[WEIGHT_AT(3, line)] == weight && mem[COUNT_AT(3, line)] == count, what);
 }
 
-/* Sets a line of a desk's draft; accepted, its two words and no others have changed. */
+/* Sets a line of a desk's draft; accepted, its two words and the draft's weight and no others have changed. */
 static void expect_set_at(uint32_t desk, uint32_t line, uint32_t weight, uint32_t count, uint32_t refusal)
 {
     static uint32_t after[WB_REGISTER_WORDS];
@@ -373,6 +323,7 @@ static void expect_set_at(uint32_t desk, uint32_t line, uint32_t weight, uint32_
     if (refusal == 0) {
         after[WEIGHT_AT(desk, line)] = weight;
         after[COUNT_AT(desk, line)] = count;
+        weigh_slot(after, WB_HULLS + desk);
     }
     insist(memcmp(after, mem, sizeof after) == 0, "the line is not what it was set to, both numbers, or something else has changed");
 }
@@ -557,13 +508,13 @@ static void try_emptied_lines(void)
     build(1, 0);
     lend_text_of(&sheet);
     expect(attempt((struct call){.kind = NEW_HULL}), 0, 1, 0);
-    for (uint32_t word = HULL_AT(1) + 1 + WEIGHT_IN_SHEET(1); word < HULL_AT(2); word++)
+    for (uint32_t word = HULL_SHEET_AT(1) + WEIGHT_IN_SHEET(1); word < HULL_AT(2); word++)
         insist(mem[word] == 0, "a new hull has something on an empty line");
 }
 
 static void insist_hull_line(uint32_t hull, uint32_t line, uint32_t weight, uint32_t count)
 {
-    uint32_t at = HULL_AT(hull) + 1 + WEIGHT_IN_SHEET(line);
+    uint32_t at = HULL_SHEET_AT(hull) + WEIGHT_IN_SHEET(line);
     insist(mem[at] == weight && mem[at + 1] == count, "the hull's line does not have the two numbers that it was given");
 }
 
@@ -621,8 +572,8 @@ static void try_counts_in_free_words(uint32_t line)
     for (uint32_t hull = 0; hull < 2; hull++) {
         uint32_t count = hull == 0 ? 12 : 1;
         for (uint32_t each = 1; each <= WB_FITTINGS; each++) {
-            mem[HULL_AT(hull) + 1 + WEIGHT_IN_SHEET(each)] = 120;
-            mem[HULL_AT(hull) + 2 + WEIGHT_IN_SHEET(each)] = 7;
+            mem[HULL_SHEET_AT(hull) + WEIGHT_IN_SHEET(each)] = 120;
+            mem[HULL_SHEET_AT(hull) + WEIGHT_IN_SHEET(each) + 1] = 7;
         }
         lend_line(line, 120, count);
         expect(attempt((struct call){.kind = NEW_HULL}), 0, hull, 0);

@@ -106,6 +106,7 @@ static void sample_text(void)
     expect(attempt((struct call){.kind = READ_ENGINES}), 0, 2, 0);
     expect(attempt((struct call){.kind = PLATE_A}), 0, 326, 20000);
     expect(attempt((struct call){.kind = PLATE_C}), 0, 325, 3);
+    expect(attempt((struct call){.kind = WEIGH}), 0, 203334, 0);
 }
 
 void try_samples(void)

@@ -51,9 +51,11 @@ static void lend_register(void)
     wb_sheet sheet = base_hull();
     uint32_t *mem = memset(lend(MEMORY, 4 * WB_REGISTER_WORDS), 0, 4 * WB_REGISTER_WORDS);
     mem[0] = 1;
-    memcpy(mem + HULL_AT(0) + 1, numbers_of(&sheet) + 1, sizeof sheet - 4);
+    mem[HULL_WEIGHT_AT(0)] = sheet.bare;
+    memcpy(mem + HULL_SHEET_AT(0), numbers_of(&sheet) + 1, sizeof sheet - 4);
     mem[DESK_AT(3)] = 1;
-    memcpy(mem + DESK_AT(3) + 3, numbers_of(&sheet) + 1, sizeof sheet - 4);
+    mem[DRAFT_WEIGHT_AT(3)] = sheet.bare;
+    memcpy(mem + DRAFT_SHEET_AT(3), numbers_of(&sheet) + 1, sizeof sheet - 4);
 }
 
 wb_answer read_sheet(void)

@@ -1,0 +1,417 @@
+/*
+ * weight_edges.c: the boat's weight that is kept beside every sheet: how it follows each call, in figures, and memories
+ * that keep another. That every weight is its sheet's is seen after each call besides (compare.h).
+ */
+#include "layout.h"
+#include "material.h"
+#include "memories.h"
+#include "parts.h"
+#include "random.h"
+#include "steps.h"
+#include "weighed.h"
+
+#include <string.h>
+
+static uint32_t *const mem = lent[MEMORY].words;
+
+/* ---- steps ---- */
+
+static void expect_weight(uint32_t hull, uint32_t grams)
+{
+    expect(attempt((struct call){.kind = WEIGH, .hull = hull}), 0, grams, 0);
+    insist(mem[HULL_WEIGHT_AT(hull)] == grams, "the hull's weight is another one");
+}
+
+static void insist_draft(uint32_t desk, uint32_t grams)
+{
+    insist(mem[DRAFT_WEIGHT_AT(desk)] == grams, "the draft's weight is another one");
+}
+
+static void set_line(uint32_t desk, uint32_t line, uint32_t weight, uint32_t count)
+{
+    expect(attempt((struct call){SET_FITTING, desk, 0, line, weight, count}), 0, 0, 0);
+}
+
+static void open_hull(uint32_t desk, uint32_t hull, uint32_t edit)
+{
+    expect(attempt((struct call){.kind = OPEN, .desk = desk, .hull = hull}), 0, edit, 0);
+}
+
+static void save_draft(uint32_t desk, uint32_t edit)
+{
+    expect(attempt((struct call){.kind = SAVE, .desk = desk}), 0, edit, 0);
+}
+
+static void replace_draft(uint32_t desk, const wb_sheet *sheet)
+{
+    lend_text_of(sheet);
+    expect(attempt((struct call){.kind = REPLACE, .desk = desk}), 0, 0, 0);
+}
+
+static void enter(const wb_sheet *sheet, uint32_t hull)
+{
+    lend_text_of(sheet);
+    expect(attempt((struct call){.kind = NEW_HULL}), 0, hull, 0);
+}
+
+static void expect_trials(uint32_t desk, uint32_t kilograms, uint32_t watts, uint32_t pounds)
+{
+    expect(attempt((struct call){.kind = TRIAL_A, .desk = desk}), 0, kilograms, watts);
+    expect(attempt((struct call){.kind = TRIAL_U, .desk = desk}), 0, pounds, 0);
+}
+
+static void expect_plates(uint32_t hull, uint32_t kilograms, uint32_t watts, uint32_t pounds)
+{
+    expect(attempt((struct call){.kind = PLATE_A, .hull = hull}), 0, kilograms, watts);
+    expect(attempt((struct call){.kind = PLATE_U, .hull = hull}), 0, pounds, 0);
+}
+
+/* The base hull, which weighs 200000 g, with this on a line. */
+static wb_sheet base_with(uint32_t line, uint32_t weight, uint32_t count)
+{
+    wb_sheet sheet = base_hull();
+    sheet.fitting[line - 1] = (wb_fitting){weight, count};
+    return sheet;
+}
+
+/* ---- how it follows the calls ---- */
+
+/* A line of the base hull's draft, set, set again and emptied: the draft's weight moves, and the hull's does not. */
+static void try_line(uint32_t line)
+{
+    static const struct {
+        uint32_t weight, count, grams;
+    } settings[] = {{5050, 99, 699950}, {5049, 99, 699851}, {5050, 98, 694900}, {2, 3, 200006}, {3, 2, 200006},
+                    {2, 4, 200008}, {0, 0, 200000}, {1, 1, 200001}, {500000, 1, 700000}, {250000, 2, 700000},
+                    {499999, 1, 699999}, {1, 99, 200099}};
+    wb_sheet sheet = base_hull();
+    enter_alone(&sheet);
+    insist_draft(3, 200000);
+    for (size_t i = 0; i < sizeof settings / sizeof *settings; i++) {
+        set_line(3, line, settings[i].weight, settings[i].count);
+        insist_draft(3, settings[i].grams);
+        expect_weight(0, 200000);
+    }
+    set_line(3, line, 0, 0);
+    insist_draft(3, 200000);
+}
+
+/* From each of some fittings to each other, on a line beside full ones. */
+static void try_moves(void)
+{
+    static const wb_fitting fittings[] = {{1, 1}, {5050, 99}, {500000, 1}, {250000, 2},
+                                          {120, 12}, {12, 99}, {166666, 3}, {1, 99}};
+    wb_sheet sheet = base_hull();
+    for (uint32_t line = 0; line < WB_FITTINGS; line++)
+        sheet.fitting[line] = (wb_fitting){100 + line, 1 + line};
+    enter_alone(&sheet);
+    for (size_t i = 0; i < sizeof fittings / sizeof *fittings; i++)
+        for (size_t j = 0; j < sizeof fittings / sizeof *fittings; j++) {
+            uint32_t line = 1 + (uint32_t)(8 * i + j) % WB_FITTINGS;
+            set_line(3, line, fittings[i].weight, fittings[i].count);
+            sheet.fitting[line - 1] = fittings[i];
+            insist_draft(3, (uint32_t)grams_of(&sheet));
+            set_line(3, line, fittings[j].weight, fittings[j].count);
+            sheet.fitting[line - 1] = fittings[j];
+            insist_draft(3, (uint32_t)grams_of(&sheet));
+        }
+}
+
+/* A refused setting leaves the weight. */
+static void try_refused_lines(void)
+{
+    wb_sheet sheet = base_with(1, 120, 12);
+    enter_alone(&sheet);
+    expect(attempt((struct call){SET_FITTING, 3, 0, 1, 5051, 99}), 3, 0, 0);
+    expect(attempt((struct call){SET_FITTING, 3, 0, 1, 0, 1}), 3, 0, 0);
+    expect(attempt((struct call){SET_FITTING, 3, 0, 25, 1, 1}), 3, 0, 0);
+    expect(attempt((struct call){SET_FITTING, 3, 0, 2, 0, 0}), 17, 0, 0);
+    insist_draft(3, 201440);
+    expect_weight(0, 201440);
+}
+
+static void try_lines(void)
+{
+    begin_part("weights when a line is set");
+    for (uint32_t line = 1; line <= WB_FITTINGS; line++)
+        try_line(line);
+    try_moves();
+    try_refused_lines();
+}
+
+/* The heaviest boat and those a gram below it; the lightest. */
+static void try_heaviest(void)
+{
+    wb_sheet sheet = base_hull();
+    begin_part("the heaviest and the lightest boat");
+    sheet.bare = 2000000;
+    enter_alone(&sheet);
+    for (uint32_t line = 1; line <= WB_FITTINGS; line++) {
+        set_line(3, line, line % 2 ? 500000 : 250000, line % 2 ? 1 : 2);
+        insist_draft(3, 2000000 + 500000 * line);
+    }
+    save_draft(3, 1);
+    expect_weight(0, 14000000);
+    open_hull(3, 0, 1);
+    set_line(3, 24, 499999, 1);
+    save_draft(3, 2);
+    expect_weight(0, 13999999);
+    sheet = highest_sheet();
+    enter(&sheet, 1);
+    expect_weight(1, 14000000);
+    sheet.bare = 1999999;
+    enter(&sheet, 2);
+    expect_weight(2, 13999999);
+    open_hull(3, 1, 0);
+    for (uint32_t line = WB_FITTINGS; line >= 1; line--) {
+        set_line(3, line, 0, 0);
+        insist_draft(3, 2000000 + 500000 * (line - 1));
+    }
+    sheet = base_hull();
+    sheet.bare = 1;
+    enter(&sheet, 3);
+    expect_weight(3, 1);
+    sheet.fitting[0] = (wb_fitting){1, 1};
+    enter(&sheet, 4);
+    expect_weight(4, 2);
+}
+
+/* A sheet in place of a draft, heavier or lighter than it, as heavy or the same; then it is saved. */
+static void try_replaced(void)
+{
+    static const uint32_t weights[] = {5050, 3, 4, 4, 1};
+    wb_sheet sheet = base_hull();
+    begin_part("weights of sheets that are replaced");
+    enter_alone(&sheet);
+    for (uint32_t i = 0; i < 5; i++) {
+        uint32_t grams = 200000 + 99 * weights[i], before = mem[HULL_WEIGHT_AT(0)];
+        sheet = base_with(1 + i, weights[i], 99);
+        replace_draft(3, &sheet);
+        insist_draft(3, grams);
+        expect_weight(0, before);
+        save_draft(3, i + 1);
+        expect_weight(0, grams);
+        insist_draft(3, grams); /* drop and save leave it there, though the draft has ended */
+        open_hull(3, 0, i + 1);
+        insist_draft(3, grams);
+    }
+    sheet = base_hull();
+    replace_draft(3, &sheet);
+    set_line(3, 9, 2, 3);
+    save_draft(3, 6);
+    expect_weight(0, 200006);
+    open_hull(3, 0, 6);
+    sheet.bare = 150000;
+    sheet.fuel = 400000;
+    sheet.machinery = 300000;
+    replace_draft(3, &sheet);
+    insist_draft(3, 150000); /* tanks and machinery are not in it */
+    lend_text("HULL\t0\n");
+    expect(attempt((struct call){.kind = REPLACE, .desk = 3}), 2, 2, 1);
+    insist_draft(3, 150000);
+    expect_weight(0, 200006);
+}
+
+/* Two desks have one hull open. What the one saves is the hull's, and the other keeps a weight of its own. */
+static void try_two_desks(void)
+{
+    wb_sheet sheet = base_hull();
+    begin_part("weights at two desks");
+    enter_alone(&sheet);
+    open_hull(1, 0, 0);
+    set_line(1, 1, 5050, 99);
+    expect_trials(1, 227, 20000, 499);
+    expect_trials(3, 327, 20000, 720);
+    expect_plates(0, 327, 20000, 720);
+    save_draft(1, 1);
+    expect_weight(0, 699950);
+    expect_plates(0, 227, 20000, 499);
+    insist_draft(3, 200000);
+    expect_trials(3, 327, 20000, 720);
+    set_line(3, 2, 2, 3);
+    insist_draft(3, 200006);
+    expect(attempt((struct call){.kind = SAVE, .desk = 3}), 8, 0, 0);
+    insist_draft(3, 200006);
+    expect_weight(0, 699950);
+    open_hull(3, 0, 1);
+    insist_draft(3, 699950);
+    set_line(3, 1, 0, 0);
+    expect(attempt((struct call){.kind = DROP, .desk = 3}), 0, 0, 0);
+    insist_draft(3, 200000);
+    expect_weight(0, 699950);
+}
+
+/* A hull that is opened brings its weight, whatever the desk's words were: those of another draft, or anything. */
+static void try_opened(void)
+{
+    static const uint32_t stood[] = {0, 1, 200000, 200006, 0xFFFFFFFF};
+    wb_sheet light = base_hull(), heavy = base_with(7, 120, 12);
+    begin_part("weights of hulls that are opened");
+    enter_alone(&light);
+    enter(&heavy, 1);
+    for (uint32_t desk = 0; desk < WB_DESKS; desk++)
+        for (uint32_t hull = 0; hull < 2; hull++) {
+            open_hull(desk, 1 - hull, 0);
+            set_line(desk, 1 + desk, 5, 5);
+            open_hull(desk, hull, 0);
+            insist_draft(desk, hull ? 201440 : 200000);
+            for (size_t i = 0; i < sizeof stood / sizeof *stood; i++) {
+                expect(attempt((struct call){.kind = DROP, .desk = desk}), 0, 0, 0);
+                mem[DRAFT_WEIGHT_AT(desk)] = stood[i];
+                open_hull(desk, hull, 0);
+                insist_draft(desk, hull ? 201440 : 200000);
+            }
+        }
+}
+
+/* Each hull of a full register has its own; a save moves one of them. The words of a hull to come may be anything. */
+static void try_full_register(void)
+{
+    begin_part("weights of a full register");
+    start_fresh();
+    for (uint32_t hull = 0; hull < WB_HULLS; hull++) {
+        wb_sheet sheet = base_with(1 + hull, 10 + hull, 1 + hull);
+        expect(attempt((struct call){.kind = WEIGH, .hull = hull}), 5, 0, 0);
+        mem[HULL_WEIGHT_AT(hull)] = hull % 2 ? 0xFFFFFFFF : 200000;
+        enter(&sheet, hull);
+        for (uint32_t each = 0; each <= hull; each++)
+            expect_weight(each, 200000 + (10 + each) * (1 + each));
+    }
+    expect(attempt((struct call){.kind = WEIGH, .hull = WB_HULLS}), 5, 0, 0);
+    for (uint32_t hull = 0; hull < WB_HULLS; hull++) {
+        uint32_t desk = hull % WB_DESKS;
+        open_hull(desk, hull, 0);
+        set_line(desk, 24, 1000, 7);
+        save_draft(desk, 1);
+        for (uint32_t each = 0; each < WB_HULLS; each++)
+            expect_weight(each, 200000 + (10 + each) * (1 + each) + (each <= hull ? 7000 : 0));
+    }
+}
+
+/* ---- memories that keep another weight ---- */
+
+/* Other weights than that of a sheet: beside it, far from it, and those that differ from it in one bit. */
+static void try_other_weights(uint32_t slot, int free)
+{
+    uint32_t at = sheet_at(slot) - 1, is = mem[at];
+    const uint32_t others[] = {is + 1, is - 1, 0, 0xFFFFFFFF, is + 1000, is + 500000, 14000000 - is, 2 * is, 1};
+    for (size_t i = 0; i < sizeof others / sizeof *others; i++) {
+        mem[at] = others[i];
+        judge_memory(free || others[i] == is);
+    }
+    for (uint32_t bit = 0; bit < 32; bit++) {
+        mem[at] = is ^ (uint32_t)1 << bit;
+        judge_memory(free);
+    }
+    mem[at] = is;
+}
+
+/* Entered hulls and held drafts are judged, each by its own sheet; what is free is not. */
+static void try_spoilt(uint32_t hulls, uint32_t drafts)
+{
+    build(hulls, drafts);
+    lend_good_things();
+    judge_memory(1);
+    for (uint32_t slot = 0; slot < SLOTS; slot++)
+        try_other_weights(slot, slot < WB_HULLS ? slot >= hulls : slot - WB_HULLS >= drafts);
+}
+
+/* A word changed, and the weight left as it is. */
+static void spoil_alone(uint32_t word, uint32_t to)
+{
+    uint32_t is = mem[word];
+    mem[word] = to;
+    judge_memory(0);
+    mem[word] = is;
+}
+
+/* The bare boat and both numbers of each line are in the weight; where the sum is the same, so is the weight. */
+static void try_other_sheet(uint32_t slot)
+{
+    uint32_t sheet = sheet_at(slot), bare = sheet + BARE_NUMBER - 1, first = sheet + WEIGHT_IN_SHEET(1);
+    for (uint32_t line = 1; line <= WB_FITTINGS; line++) {
+        mem[sheet + WEIGHT_IN_SHEET(line)] = 7;
+        mem[sheet + WEIGHT_IN_SHEET(line) + 1] = 11;
+    }
+    mem[bare] = 200000;
+    weigh_slot(mem, slot);
+    spoil_alone(bare, 200001);
+    spoil_alone(bare, 199999);
+    for (uint32_t line = 1; line <= WB_FITTINGS; line++) {
+        spoil_alone(sheet + WEIGHT_IN_SHEET(line), 8);
+        spoil_alone(sheet + WEIGHT_IN_SHEET(line) + 1, 10);
+    }
+    mem[first] = 11;
+    mem[first + 1] = 7;
+    judge_memory(1);
+    mem[first] = 78;
+    mem[first + 1] = 1;
+    mem[bare] = 199999;
+    judge_memory(1);
+}
+
+static void try_other_sheets(void)
+{
+    build(16, 8);
+    lend_good_things();
+    for (uint32_t slot = 0; slot < SLOTS; slot++)
+        try_other_sheet(slot);
+}
+
+/* Weights of a draft and its hull, of two hulls and of two drafts, in each other's place: the sheets are not alike. */
+static void try_exchanged(void)
+{
+    static const uint32_t pairs[][2] = {{HULL_WEIGHT_AT(0), DRAFT_WEIGHT_AT(3)}, {HULL_WEIGHT_AT(0), HULL_WEIGHT_AT(1)},
+                                        {DRAFT_WEIGHT_AT(3), DRAFT_WEIGHT_AT(7)}};
+    wb_sheet light = base_hull(), heavy = base_with(1, 5050, 99);
+    enter_alone(&light);
+    enter(&heavy, 1);
+    open_hull(7, 1, 0);
+    set_line(3, 1, 2, 3);
+    lend_good_things();
+    for (size_t i = 0; i < sizeof pairs / sizeof *pairs; i++) {
+        uint32_t one = mem[pairs[i][0]], other = mem[pairs[i][1]];
+        spoil_alone(pairs[i][0], other);
+        spoil_alone(pairs[i][1], one);
+        mem[pairs[i][0]] = other;
+        spoil_alone(pairs[i][1], one);
+        mem[pairs[i][0]] = one;
+    }
+    judge_memory(1);
+}
+
+/* The base hull with a gram too much or too little: only fresh start takes it. */
+static void try_gram(uint32_t word)
+{
+    wb_sheet sheet = base_hull();
+    enter_alone(&sheet);
+    lend_good_things();
+    spoil_alone(word, 199999);
+    spoil_alone(word, 200001);
+    mem[word] = 200001;
+    expect(attempt((struct call){.kind = WEIGH}), 1, 0, 0);
+    expect(attempt((struct call){.kind = FRESH}), 0, 0, 0);
+    expect(attempt((struct call){.kind = WEIGH}), 5, 0, 0);
+}
+
+static void try_spoilt_weights(void)
+{
+    begin_part("memories that keep another weight");
+    try_spoilt(16, 8);
+    try_spoilt(5, 3);
+    try_other_sheets();
+    try_exchanged();
+    try_gram(HULL_WEIGHT_AT(0));
+    try_gram(DRAFT_WEIGHT_AT(3));
+}
+
+void try_weight_edges(void)
+{
+    try_lines();
+    try_heaviest();
+    try_replaced();
+    try_two_desks();
+    try_opened();
+    try_full_register();
+    try_spoilt_weights();
+}
