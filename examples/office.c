@@ -15,8 +15,9 @@
  * bad usage or trouble with a file. Answers and refusals go to standard output, trouble to standard error. Where a text
  * is refused, standard error says besides which line and byte are wrong, what was expected there and what there is.
  *
- * The file is the register's 2249 words, the lowest byte of each first, and nothing else. Beside it stand FILE.lock, which is empty and stays, and
- * for the length of a change FILE.new. The lock has the register's rights; where those were changed, it follows when its owner next makes a change.
+ * The file is the register's 2273 words, the lowest byte of each first, and nothing else. Beside it stand FILE.lock,
+ * which is empty and stays, and for the length of a change FILE.new. The lock has the register's rights; where those
+ * were changed, it follows when its owner next makes a change.
  *
  * A change may stand although its run ended with 2: the trouble came when the register was in its place, as when the answer could not be printed, and
  * standard error says so. Who is killed before it answers does not know whether its change was made, and has to look. The register is whole either way.
@@ -653,6 +654,16 @@ static void tell_plate_u(const struct work *w, wb_answer a)
     printf("hull %u, plate U: %u lb\n", (unsigned)w->number[0], (unsigned)a.first);
 }
 
+static wb_answer ask_weight(struct work *w)
+{
+    return wb_weight(w->words, w->count, w->number[0]);
+}
+
+static void tell_weight(const struct work *w, wb_answer a)
+{
+    printf("hull %u weighs %u gram%s\n", (unsigned)w->number[0], (unsigned)a.first, a.first == 1 ? "" : "s");
+}
+
 static wb_answer ask_write(struct work *w)
 {
     return wb_write_hull(w->words, w->count, w->number[0], w->sheet, sizeof w->sheet);
@@ -695,6 +706,7 @@ static const struct command commands[] = {
     {"plate-a", " HULL", "n", READS, ask_plate_a, tell_plate_a},
     {"plate-c", " HULL ENGINEFILE", "ne", READS, ask_plate_c, tell_plate_c},
     {"plate-u", " HULL", "n", READS, ask_plate_u, tell_plate_u},
+    {"weight", " HULL", "n", READS, ask_weight, tell_weight},
     {"write", " HULL", "n", READS, ask_write, tell_write},
 };
 
