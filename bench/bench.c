@@ -34,6 +34,7 @@ static struct {
     uint32_t full[WB_REGISTER_WORDS];   /* 16 hulls, 8 drafts */
     uint32_t spare[WB_REGISTER_WORDS];  /* 15 hulls, 7 drafts */
     uint32_t spoilt[WB_REGISTER_WORDS]; /* 16 hulls, 8 drafts, and the very last word, a count, outside its limits */
+    uint32_t off[WB_REGISTER_WORDS];    /* 16 hulls, 8 drafts, and the last draft's weight a gram off */
     uint32_t scratch[WB_REGISTER_WORDS];
     uint32_t powers[WB_ENGINE_ROWS], weights[WB_ENGINE_ROWS];
     wb_sheet sheet, longest, heavy, outside, read;
@@ -60,7 +61,13 @@ static size_t engines_len;
 /*
  * The cases: a name for it, the refusal to come, what it is, the call, what puts the memory back to where the case starts, and what the call is lent.
  * A few words are put back before each call, by both alike: some nanoseconds at most.
+ *
+ * Nearly all of a call on the register is the judging of the memory. A plate or a weight that is refused with 5, and a
+ * trial that is refused with 6, is that alone, on the memory of the accepted one: the difference is the call itself.
  */
+#define FILL_LINE_1 \
+    (lent.full[WEIGHT_AT(3, 1)] = 3334, lent.full[COUNT_AT(3, 1)] = 1, \
+     lent.full[DRAFT_WEIGHT_AT(3)] = start.full[DRAFT_WEIGHT_AT(3)])
 #define CASES(X) \
     X(fresh, 0, "", fresh, NONE, lent.scratch, LEN) \
     X(fresh_1, 1, "wrong size", fresh, NONE, lent.scratch, LEN - 1) \
@@ -75,15 +82,18 @@ static size_t engines_len;
     X(set_3, 3, "line", set_fitting, NONE, lent.full, LEN, 3, 25, 2500, 12) \
     X(set_3_heavy, 3, "product", set_fitting, NONE, lent.full, LEN, 3, 7, 250001, 2) \
     X(set_7, 7, "", set_fitting, NONE, lent.spare, LEN, 7, 7, 2500, 12) \
-    X(empty, 0, "emptied", set_fitting, (lent.full[WEIGHT_AT(3, 1)] = 3334, lent.full[COUNT_AT(3, 1)] = 1), lent.full, LEN, 3, 1, 0, 0) \
+    X(empty, 0, "emptied", set_fitting, FILL_LINE_1, lent.full, LEN, 3, 1, 0, 0) \
     X(empty_17, 17, "", set_fitting, (lent.full[WEIGHT_AT(3, 9)] = 0, lent.full[COUNT_AT(3, 9)] = 0), lent.full, LEN, 3, 9, 0, 0) \
     X(replace, 0, "", replace, NONE, lent.full, LEN, 4, text, text_len) \
     X(replace_3, 3, "last weight", replace, NONE, lent.full, LEN, 4, beyond, text_len) \
     X(trial_a, 0, "", trial_a, NONE, lent.full, LEN, 3) \
+    X(trial_a_6, 6, "", trial_a, NONE, lent.full, LEN, 8) \
     X(trial_a_12, 12, "", trial_a, NONE, lent.full, LEN, 6) \
     X(trial_c, 0, "", trial_c, NONE, lent.full, LEN, 3, ENGINES) \
+    X(trial_c_6, 6, "", trial_c, NONE, lent.full, LEN, 8, ENGINES) \
     X(trial_c_10, 10, "last row falls", trial_c, NONE, lent.full, LEN, 3, falling, ROWS, weights, ROWS) \
     X(trial_u, 0, "", trial_u, NONE, lent.full, LEN, 3) \
+    X(trial_u_6, 6, "", trial_u, NONE, lent.full, LEN, 8) \
     X(trial_u_12, 12, "", trial_u, NONE, lent.full, LEN, 6) \
     X(save, 0, "", save, (lent.full[DESK_AT(2)] = 1, lent.full[HULL_AT(9)] = lent.full[DESK_AT(2) + 2]), lent.full, LEN, 2) \
     X(save_8, 8, "", save, NONE, lent.full, LEN, 1) \
@@ -93,12 +103,17 @@ static size_t engines_len;
     X(plate_a_5, 5, "", plate_a, NONE, lent.full, LEN, 16) \
     X(plate_a_12, 12, "", plate_a, NONE, lent.full, LEN, 15) \
     X(plate_c, 0, "", plate_c, NONE, lent.full, LEN, 11, ENGINES) \
+    X(plate_c_5, 5, "", plate_c, NONE, lent.full, LEN, 16, ENGINES) \
     X(plate_c_11, 11, "", plate_c, NONE, lent.full, LEN, 11, powers, 4, weights, 4) \
     X(plate_c_1, 1, "last word spoilt", plate_c, NONE, lent.spoilt, LEN, 11, ENGINES) \
     X(plate_u, 0, "", plate_u, NONE, lent.full, LEN, 11) \
     X(plate_u_in, 0, "inboard", plate_u, NONE, lent.full, LEN, 13) \
     X(plate_u_5, 5, "", plate_u, NONE, lent.full, LEN, 16) \
     X(plate_u_12, 12, "", plate_u, NONE, lent.full, LEN, 15) \
+    X(weight, 0, "", weight, NONE, lent.full, LEN, 11) \
+    X(weight_5, 5, "", weight, NONE, lent.full, LEN, 16) \
+    X(weight_1, 1, "last word spoilt", weight, NONE, lent.spoilt, LEN, 11) \
+    X(weight_1_off, 1, "last weight off", weight, NONE, lent.off, LEN, 11) \
     X(write, 0, "310 bytes", write_hull, NONE, lent.full, LEN, 11, OUT) \
     X(write_long, 0, "658 bytes", write_hull, NONE, lent.full, LEN, 14, OUT) \
     X(write_16, 16, "", write_hull, NONE, lent.full, LEN, 11, lent.out, text_len - 1) \
@@ -283,6 +298,8 @@ static void prepare(void)
     lent.full[HULL_AT(3)]++; /* saved since desk 1 opened it */
     memcpy(lent.spoilt, lent.full, sizeof lent.full);
     lent.spoilt[LEN - 1] = 100;
+    memcpy(lent.off, lent.full, sizeof lent.full);
+    lent.off[DRAFT_WEIGHT_AT(7)]++;
     memcpy(&start, &lent, sizeof lent);
 }
 
