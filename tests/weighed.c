@@ -6,11 +6,16 @@
 
 #include <string.h>
 
-/* By the names that the header has for a sheet's numbers, not by places of our own. */
-uint64_t grams_by(const uint32_t *words)
+wb_sheet sheet_by(const uint32_t *words)
 {
     wb_sheet sheet = {0};
     memcpy(numbers_of(&sheet) + 1, words, sizeof sheet - 4);
+    return sheet;
+}
+
+static uint64_t grams_in(const uint32_t *mem, uint32_t slot)
+{
+    wb_sheet sheet = sheet_by(mem + sheet_at(slot));
     return grams_of(&sheet);
 }
 
@@ -28,12 +33,12 @@ static int in_use(const uint32_t *mem, uint32_t slot)
 int weights_right(const uint32_t *mem)
 {
     for (uint32_t slot = 0; slot < SLOTS; slot++)
-        if (in_use(mem, slot) && mem[sheet_at(slot) - 1] != grams_by(mem + sheet_at(slot)))
+        if (in_use(mem, slot) && mem[sheet_at(slot) - 1] != grams_in(mem, slot))
             return 0;
     return 1;
 }
 
 void weigh_slot(uint32_t *mem, uint32_t slot)
 {
-    mem[sheet_at(slot) - 1] = (uint32_t)grams_by(mem + sheet_at(slot));
+    mem[sheet_at(slot) - 1] = (uint32_t)grams_in(mem, slot);
 }

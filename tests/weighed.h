@@ -4,8 +4,8 @@
 
 #include "willowblink.h"
 
-/* By the words of one sheet, whatever they are. */
-uint64_t grams_by(const uint32_t *words);
+/* The words of a sheet by their names in the header, so that nothing here goes by places of our own. */
+wb_sheet sheet_by(const uint32_t *words);
 
 /* Whether every weight that a memory keeps, of its entered hulls and its held drafts, is that of its sheet. */
 int weights_right(const uint32_t *mem);

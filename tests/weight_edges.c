@@ -10,8 +10,6 @@
 #include "steps.h"
 #include "weighed.h"
 
-#include <string.h>
-
 static uint32_t *const mem = lent[MEMORY].words;
 
 /* ---- steps ---- */
@@ -96,24 +94,29 @@ static void try_line(uint32_t line)
     insist_draft(3, 200000);
 }
 
-/* From each of some fittings to each other, on a line beside full ones. */
+/* The same of a sheet that the test keeps along. */
+static void set_beside(wb_sheet *sheet, uint32_t line, wb_fitting to)
+{
+    set_line(3, line, to.weight, to.count);
+    sheet->fitting[line - 1] = to;
+    insist_draft(3, (uint32_t)grams_of(sheet));
+}
+
+/* From each of some fittings to each other, on one line after the other, beside full ones. */
 static void try_moves(void)
 {
     static const wb_fitting fittings[] = {{1, 1}, {5050, 99}, {500000, 1}, {250000, 2},
                                           {120, 12}, {12, 99}, {166666, 3}, {1, 99}};
     wb_sheet sheet = base_hull();
-    for (uint32_t line = 0; line < WB_FITTINGS; line++)
-        sheet.fitting[line] = (wb_fitting){100 + line, 1 + line};
+    uint32_t line = 1;
+    for (uint32_t i = 0; i < WB_FITTINGS; i++)
+        sheet.fitting[i] = (wb_fitting){100 + i, 1 + i};
     enter_alone(&sheet);
     for (size_t i = 0; i < sizeof fittings / sizeof *fittings; i++)
         for (size_t j = 0; j < sizeof fittings / sizeof *fittings; j++) {
-            uint32_t line = 1 + (uint32_t)(8 * i + j) % WB_FITTINGS;
-            set_line(3, line, fittings[i].weight, fittings[i].count);
-            sheet.fitting[line - 1] = fittings[i];
-            insist_draft(3, (uint32_t)grams_of(&sheet));
-            set_line(3, line, fittings[j].weight, fittings[j].count);
-            sheet.fitting[line - 1] = fittings[j];
-            insist_draft(3, (uint32_t)grams_of(&sheet));
+            set_beside(&sheet, line, fittings[i]);
+            set_beside(&sheet, line, fittings[j]);
+            line = line % WB_FITTINGS + 1;
         }
 }
 
@@ -288,22 +291,122 @@ static void try_full_register(void)
     }
 }
 
+/* ---- a ledger of differences ---- */
+
+/* Two hulls and three desks, by their sheets as the test knows them from the answers alone. */
+enum { LEDGER_HULLS = 2, LEDGER_DESKS = 3 };
+static wb_sheet hulls[LEDGER_HULLS];
+static int64_t ledger[LEDGER_HULLS]; /* what a hull weighed when entered, and the difference that each save made */
+static struct {
+    wb_sheet sheet;
+    uint32_t hull;
+    int64_t opened;
+} drafts[LEDGER_DESKS];
+
+static void open_in_ledger(uint32_t desk, uint32_t hull)
+{
+    if (attempt((struct call){.kind = OPEN, .desk = desk, .hull = hull}).refusal)
+        return;
+    drafts[desk].sheet = hulls[hull];
+    drafts[desk].hull = hull;
+    drafts[desk].opened = (int64_t)grams_of(&hulls[hull]);
+}
+
+static void set_in_ledger(uint32_t desk, uint32_t line)
+{
+    wb_fitting fitting = one_in(3) ? (wb_fitting){0, 0} : random_fitting();
+    if (!attempt((struct call){SET_FITTING, desk, 0, line, fitting.weight, fitting.count}).refusal)
+        drafts[desk].sheet.fitting[line - 1] = fitting;
+}
+
+static void replace_in_ledger(uint32_t desk)
+{
+    wb_sheet sheet = random_sheet();
+    lend_text_of(&sheet);
+    if (!attempt((struct call){.kind = REPLACE, .desk = desk}).refusal)
+        drafts[desk].sheet = sheet;
+}
+
+static void save_in_ledger(uint32_t desk)
+{
+    uint32_t hull = drafts[desk].hull;
+    if (attempt((struct call){.kind = SAVE, .desk = desk}).refusal)
+        return;
+    ledger[hull] += (int64_t)grams_of(&drafts[desk].sheet) - drafts[desk].opened;
+    hulls[hull] = drafts[desk].sheet;
+}
+
+static void step_in_ledger(void)
+{
+    uint32_t desk = random_between(0, LEDGER_DESKS - 1);
+    switch (random_between(0, 8)) {
+    case 0:
+    case 1:
+        open_in_ledger(desk, random_between(0, LEDGER_HULLS - 1));
+        break;
+    case 2:
+        replace_in_ledger(desk);
+        break;
+    case 3:
+        save_in_ledger(desk);
+        break;
+    default:
+        set_in_ledger(desk, random_between(1, WB_FITTINGS));
+    }
+}
+
+/* A hull's weight is what it was when entered and the difference that each accepted save made, in their order. */
+static void try_ledger(void)
+{
+    begin_part("weights by a ledger of saves");
+    start_fresh();
+    for (uint32_t hull = 0; hull < LEDGER_HULLS; hull++) {
+        hulls[hull] = random_sheet();
+        enter(&hulls[hull], hull);
+        ledger[hull] = (int64_t)grams_of(&hulls[hull]);
+    }
+    for (int step = 0; step < 3000; step++) {
+        step_in_ledger();
+        expect_weight(0, (uint32_t)ledger[0]);
+        expect_weight(1, (uint32_t)ledger[1]);
+    }
+}
+
 /* ---- memories that keep another weight ---- */
+
+/* A weight in the place of a slot's own; one that is free may be anything. */
+static void try_weight(uint32_t slot, int free, uint32_t weight)
+{
+    uint32_t at = sheet_at(slot) - 1, is = mem[at];
+    mem[at] = weight;
+    judge_memory(free || weight == is);
+    mem[at] = is;
+}
 
 /* Other weights than that of a sheet: beside it, far from it, and those that differ from it in one bit. */
 static void try_other_weights(uint32_t slot, int free)
 {
-    uint32_t at = sheet_at(slot) - 1, is = mem[at];
+    uint32_t is = mem[sheet_at(slot) - 1];
     const uint32_t others[] = {is + 1, is - 1, 0, 0xFFFFFFFF, is + 1000, is + 500000, 14000000 - is, 2 * is, 1};
-    for (size_t i = 0; i < sizeof others / sizeof *others; i++) {
-        mem[at] = others[i];
-        judge_memory(free || others[i] == is);
-    }
-    for (uint32_t bit = 0; bit < 32; bit++) {
-        mem[at] = is ^ (uint32_t)1 << bit;
-        judge_memory(free);
-    }
-    mem[at] = is;
+    for (size_t i = 0; i < sizeof others / sizeof *others; i++)
+        try_weight(slot, free, others[i]);
+    for (uint32_t bit = 0; bit < 32; bit++)
+        try_weight(slot, free, is ^ (uint32_t)1 << bit);
+}
+
+/* What wrong sums give: the bare boat or the fittings alone, tanks or machinery too, one piece a line, a line less. */
+static void try_wrong_sums(uint32_t slot, int free)
+{
+    wb_sheet sheet = sheet_by(mem + sheet_at(slot));
+    const wb_fitting *first = &sheet.fitting[0], *last = &sheet.fitting[WB_FITTINGS - 1];
+    uint32_t is = mem[sheet_at(slot) - 1], pieces = sheet.bare;
+    for (int i = 0; i < WB_FITTINGS; i++)
+        pieces += sheet.fitting[i].weight;
+    const uint32_t sums[] = {sheet.bare, is - sheet.bare, is + sheet.fuel, is + sheet.machinery,
+                             is + sheet.fuel + sheet.machinery, pieces, is - first->weight * first->count,
+                             is - last->weight * last->count};
+    for (size_t i = 0; i < sizeof sums / sizeof *sums; i++)
+        try_weight(slot, free, sums[i]);
 }
 
 /* Entered hulls and held drafts are judged, each by its own sheet; what is free is not. */
@@ -312,8 +415,11 @@ static void try_spoilt(uint32_t hulls, uint32_t drafts)
     build(hulls, drafts);
     lend_good_things();
     judge_memory(1);
-    for (uint32_t slot = 0; slot < SLOTS; slot++)
-        try_other_weights(slot, slot < WB_HULLS ? slot >= hulls : slot - WB_HULLS >= drafts);
+    for (uint32_t slot = 0; slot < SLOTS; slot++) {
+        int free = slot < WB_HULLS ? slot >= hulls : slot - WB_HULLS >= drafts;
+        try_other_weights(slot, free);
+        try_wrong_sums(slot, free);
+    }
 }
 
 /* A word changed, and the weight left as it is. */
@@ -413,5 +519,6 @@ void try_weight_edges(void)
     try_two_desks();
     try_opened();
     try_full_register();
+    try_ledger();
     try_spoilt_weights();
 }
