@@ -52,18 +52,6 @@ static void enter(const wb_sheet *sheet, uint32_t hull)
     expect(attempt((struct call){.kind = NEW_HULL}), 0, hull, 0);
 }
 
-static void expect_trials(uint32_t desk, uint32_t kilograms, uint32_t watts, uint32_t pounds)
-{
-    expect(attempt((struct call){.kind = TRIAL_A, .desk = desk}), 0, kilograms, watts);
-    expect(attempt((struct call){.kind = TRIAL_U, .desk = desk}), 0, pounds, 0);
-}
-
-static void expect_plates(uint32_t hull, uint32_t kilograms, uint32_t watts, uint32_t pounds)
-{
-    expect(attempt((struct call){.kind = PLATE_A, .hull = hull}), 0, kilograms, watts);
-    expect(attempt((struct call){.kind = PLATE_U, .hull = hull}), 0, pounds, 0);
-}
-
 /* The base hull, which weighs 200000 g, with this on a line. */
 static wb_sheet base_with(uint32_t line, uint32_t weight, uint32_t count)
 {
@@ -215,22 +203,61 @@ static void try_replaced(void)
     expect_weight(0, 200006);
 }
 
-/* Two desks have one hull open. What the one saves is the hull's, and the other keeps a weight of its own. */
+/* Plates A, C and U of the base hull, tested for five, at 200000 g and at 699950 g. */
+static const struct plates {
+    uint32_t load_a, load_c, persons, pounds;
+} light_plates = {327, 326, 3, 720}, heavy_plates = {227, 226, 2, 499};
+
+static void expect_trials(uint32_t desk, struct plates plates)
+{
+    expect(attempt((struct call){.kind = TRIAL_A, .desk = desk}), 0, plates.load_a, 20000);
+    expect(attempt((struct call){.kind = TRIAL_C, .desk = desk}), 0, plates.load_c, plates.persons);
+    expect(attempt((struct call){.kind = TRIAL_U, .desk = desk}), 0, plates.pounds, 0);
+}
+
+static void expect_plates(uint32_t hull, struct plates plates)
+{
+    expect(attempt((struct call){.kind = PLATE_A, .hull = hull}), 0, plates.load_a, 20000);
+    expect(attempt((struct call){.kind = PLATE_C, .hull = hull}), 0, plates.load_c, plates.persons);
+    expect(attempt((struct call){.kind = PLATE_U, .hull = hull}), 0, plates.pounds, 0);
+}
+
+/* Two desks have a hull open, beside another. What the one saves is the hull's, and the other keeps its own weight. */
 static void try_two_desks(void)
 {
+    static const uint32_t powers[] = {1500, 20000}, weights[] = {20000, 60000};
     wb_sheet sheet = base_hull();
     begin_part("weights at two desks");
+    lend_rows(powers, weights, 2);
+    sheet.tested = 5;
+    enter_alone(&sheet);
+    enter(&sheet, 1);
+    open_hull(1, 1, 0);
+    open_hull(2, 1, 0);
+    set_line(1, 1, 5050, 99);
+    expect_trials(1, heavy_plates);
+    expect_trials(2, light_plates);
+    expect_plates(1, light_plates);
+    save_draft(1, 1);
+    expect_plates(0, light_plates);
+    expect_plates(1, heavy_plates);
+    expect_trials(2, light_plates);
+    expect_trials(3, light_plates);
+    expect(attempt((struct call){.kind = SAVE, .desk = 2}), 8, 0, 0);
+    insist_draft(2, 200000);
+    expect_weight(0, 200000);
+    expect_weight(1, 699950);
+}
+
+/* A draft that is refused its save keeps its weight; opened again it has the hull's, and dropped it leaves it there. */
+static void try_stale_draft(void)
+{
+    wb_sheet sheet = base_hull();
+    begin_part("weights of a draft that is too late");
     enter_alone(&sheet);
     open_hull(1, 0, 0);
     set_line(1, 1, 5050, 99);
-    expect_trials(1, 227, 20000, 499);
-    expect_trials(3, 327, 20000, 720);
-    expect_plates(0, 327, 20000, 720);
     save_draft(1, 1);
-    expect_weight(0, 699950);
-    expect_plates(0, 227, 20000, 499);
-    insist_draft(3, 200000);
-    expect_trials(3, 327, 20000, 720);
     set_line(3, 2, 2, 3);
     insist_draft(3, 200006);
     expect(attempt((struct call){.kind = SAVE, .desk = 3}), 8, 0, 0);
@@ -517,6 +544,7 @@ void try_weight_edges(void)
     try_heaviest();
     try_replaced();
     try_two_desks();
+    try_stale_draft();
     try_opened();
     try_full_register();
     try_ledger();
