@@ -186,6 +186,7 @@ static void try_last_edits(void)
     expect(attempt((struct call){.kind = SET_FITTING, .desk = 4, .line = 1, .weight = 1, .count = 1}), 0, 0, 0);
     expect(attempt((struct call){.kind = SAVE, .desk = 4}), 9, 0, 0);
     expect(attempt((struct call){.kind = SAVE, .desk = 4}), 9, 0, 0);
+    expect(attempt((struct call){.kind = WEIGH, .hull = 1}), 0, mem[HULL_WEIGHT_AT(1)], 0);
     expect(attempt((struct call){.kind = DROP, .desk = 4}), 0, 0, 0);
     expect(attempt((struct call){.kind = SAVE, .desk = 4}), 7, 0, 0);
     expect(attempt((struct call){.kind = SAVE, .desk = 5}), 8, 0, 0);
@@ -211,6 +212,30 @@ static void try_ended_drafts(void)
     before[HULL_SHEET_AT(1) + WEIGHT_IN_SHEET(24)] = 5050;
     before[HULL_SHEET_AT(1) + WEIGHT_IN_SHEET(24) + 1] = 99;
     insist(memcmp(before, mem, sizeof before) == 0, "save changed something else than the hull's slot and the desk's mark");
+}
+
+/* An accepted call writes words from one place on and before another, a new hull the count too, and leaves the rest. */
+static void expect_left(struct call call, uint32_t first, uint32_t from, uint32_t to)
+{
+    static uint32_t before[WB_REGISTER_WORDS];
+    memcpy(before, mem, sizeof before);
+    expect(attempt(call), 0, first, 0);
+    memcpy(before + from, mem + from, (to - from) * sizeof *mem);
+    before[0] += call.kind == NEW_HULL;
+    insist(memcmp(before, mem, sizeof before) == 0, "the call changed a word besides those that it is said to");
+}
+
+/* The slots beside are those of hulls and drafts, and free ones that hold anything. */
+static void try_left_words(void)
+{
+    begin_part("words that are left");
+    build(3, 2);
+    lend_good_things();
+    expect_left((struct call){.kind = NEW_HULL}, 3, HULL_AT(3), HULL_AT(4));
+    expect_left((struct call){.kind = OPEN, .desk = 0, .hull = 2}, 3, DESK_AT(0), DESK_AT(1));
+    expect_left((struct call){.kind = OPEN, .desk = 5, .hull = 1}, 3, DESK_AT(5), DESK_AT(6));
+    expect_left((struct call){.kind = REPLACE, .desk = 1}, 0, DRAFT_WEIGHT_AT(1), DESK_AT(2));
+    expect_left((struct call){.kind = REPLACE, .desk = 5}, 0, DRAFT_WEIGHT_AT(5), DESK_AT(6));
 }
 
 /* ---- the order of refusals ---- */
@@ -604,6 +629,7 @@ void try_register_edges(void)
     try_far_lengths();
     try_last_edits();
     try_ended_drafts();
+    try_left_words();
     try_order();
     try_high_numbers();
     try_texts();

@@ -249,6 +249,47 @@ static void try_two_desks(void)
     expect_weight(1, 699950);
 }
 
+static void expect_first(enum kind kind, uint32_t first)
+{
+    wb_answer answer = attempt((struct call){.kind = kind, .desk = 3});
+    expect(answer, 0, first, answer.second);
+}
+
+/*
+ * Plates of the heaviest boats, by so many grams less than 14000000. The highest sheet holds 50000000 g of water, and
+ * its tanks and machinery weigh 500000 g each: A and C mark a kilogram for 5000 g, U a pound for 2267.96185.
+ */
+static void try_heaviest_plates(uint32_t less, uint32_t edit)
+{
+    uint32_t load_a = 7000 + (less + 2500) / 5000, load_c = 7000 + less / 5000;
+    uint32_t pounds = (uint32_t)((35500000 + (uint64_t)less) * 100000 / (5 * (uint64_t)45359237));
+    set_line(3, 24, 500000 - less, 1);
+    insist_draft(3, 14000000 - less);
+    expect_first(TRIAL_A, load_a);
+    expect_first(TRIAL_C, load_c);
+    expect_first(TRIAL_U, pounds);
+    save_draft(3, edit);
+    expect_weight(0, 14000000 - less);
+    expect_first(PLATE_A, load_a);
+    expect_first(PLATE_C, load_c);
+    expect_first(PLATE_U, pounds);
+    open_hull(3, 0, edit);
+}
+
+static void try_heaviest_boats(void)
+{
+    static const uint32_t lesses[] = {0, 1, 406, 407, 2499, 2500, 4999, 5000, 7499, 7500, 499999};
+    wb_sheet sheet = highest_sheet();
+    uint32_t edit = 0;
+    begin_part("plates of the heaviest boats");
+    lend_good_things();
+    enter_alone(&sheet);
+    for (size_t i = 0; i < sizeof lesses / sizeof *lesses; i++)
+        try_heaviest_plates(lesses[i], ++edit);
+    for (uint32_t less = 0; less < 25000; less += 499)
+        try_heaviest_plates(less, ++edit);
+}
+
 /* A draft that is refused its save keeps its weight; opened again it has the hull's, and dropped it leaves it there. */
 static void try_stale_draft(void)
 {
@@ -545,6 +586,7 @@ void try_weight_edges(void)
     try_replaced();
     try_two_desks();
     try_stale_draft();
+    try_heaviest_boats();
     try_opened();
     try_full_register();
     try_ledger();
