@@ -34,7 +34,7 @@ static struct {
     uint32_t full[WB_REGISTER_WORDS];   /* 16 hulls, 8 drafts */
     uint32_t spare[WB_REGISTER_WORDS];  /* 15 hulls, 7 drafts */
     uint32_t spoilt[WB_REGISTER_WORDS]; /* 16 hulls, 8 drafts, and the very last word, a count, outside its limits */
-    uint32_t off[WB_REGISTER_WORDS];    /* 16 hulls, 8 drafts, and the last draft's weight a gram off */
+    uint32_t off[WB_REGISTER_WORDS];    /* 16 hulls, 8 drafts, and the last hull's weight a gram off */
     uint32_t scratch[WB_REGISTER_WORDS];
     uint32_t powers[WB_ENGINE_ROWS], weights[WB_ENGINE_ROWS];
     wb_sheet sheet, longest, heavy, outside, read;
@@ -64,6 +64,8 @@ static size_t engines_len;
  *
  * Nearly all of a call on the register is the judging of the memory. A plate or a weight that is refused with 5, and a
  * trial that is refused with 6, is that alone, on the memory of the accepted one: the difference is the call itself.
+ * Of the two refused with 1, the last word is late where the desks are judged after the hulls, as in plain C, and the
+ * last hull's weight where they are judged before.
  */
 #define FILL_LINE_1 \
     (lent.full[WEIGHT_AT(3, 1)] = 3334, lent.full[COUNT_AT(3, 1)] = 1, \
@@ -113,7 +115,7 @@ static size_t engines_len;
     X(weight, 0, "", weight, NONE, lent.full, LEN, 11) \
     X(weight_5, 5, "", weight, NONE, lent.full, LEN, 16) \
     X(weight_1, 1, "last word spoilt", weight, NONE, lent.spoilt, LEN, 11) \
-    X(weight_1_off, 1, "last weight off", weight, NONE, lent.off, LEN, 11) \
+    X(weight_1_off, 1, "last hull off", weight, NONE, lent.off, LEN, 11) \
     X(write, 0, "310 bytes", write_hull, NONE, lent.full, LEN, 11, OUT) \
     X(write_long, 0, "658 bytes", write_hull, NONE, lent.full, LEN, 14, OUT) \
     X(write_16, 16, "", write_hull, NONE, lent.full, LEN, 11, lent.out, text_len - 1) \
@@ -299,7 +301,7 @@ static void prepare(void)
     memcpy(lent.spoilt, lent.full, sizeof lent.full);
     lent.spoilt[LEN - 1] = 100;
     memcpy(lent.off, lent.full, sizeof lent.full);
-    lent.off[DRAFT_WEIGHT_AT(7)]++;
+    lent.off[HULL_WEIGHT_AT(15)]++;
     memcpy(&start, &lent, sizeof lent);
 }
 
