@@ -1,4 +1,5 @@
--- 02 (ix): put and take off, the calls that were withdrawn, as they were. What each did, setting the line does, in
+-- 02 (ix): put and take off, the calls that were withdrawn, as they were; their changes move the boat's weight, as
+-- 02 (vii), which names them still, asks of both. What each did, setting the line does, in
 -- every memory, refusals and all: put of anything but weight 0 with count 0, which it refused, and take off of every
 -- line.
 use mathlib.Core.Path.{_≡_, refl}
