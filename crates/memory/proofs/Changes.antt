@@ -4,7 +4,7 @@ use mathlib.Core.List.{List, [], _∷_}
 use Prim.Native.Nat.{ℕ, _+_, _<_}
 use native.Mathlib.Omega.{arith}
 use lib.ListN.{length, getD, length-replicate}
-use lib.Seq.{sets, getD-set-same}
+use lib.Seq.{sets, getD-set-same, getD-set-other}
 use Rattle.sheet.specs.Places.{sheetWords}
 use Rattle.capacity.specs.Weights.{boatM}
 use Rattle.memory.specs.Layout.{mostHulls, desks, registerWords, Sized, hullSlot, countAt, hullAt, heldAt}
@@ -52,6 +52,12 @@ entered-changes m s h l e =
       others = λ i k q. kept-hull both i k (λ j u v. (λ x y. omega arith, λ x y. q (omega arith)));
       drafts = λ d k. kept-draft both d k (λ j u v. (λ x y. omega arith, λ x y. omega arith));
     }
+
+-- ---- a draft's end: of all words its desk's mark is set
+
+pub dropped-one : (m : List ℕ) (d k : ℕ) → (k ≡ heldAt d → ⊥) → getD (dropped m d) k 0 ≡ getD m k 0
+unfolding dropped
+dropped-one m d k n = getD-set-other m (heldAt d) k _ 0 n
 
 -- ---- a hull's slot and then a desk's
 
