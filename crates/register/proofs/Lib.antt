@@ -6,6 +6,7 @@ pub mod Unformed  -- calls in memories that are not well formed, computed
 pub mod Answers  -- every call at its ends, and which refusal comes first, computed
 pub mod SetFigures  -- a fitting line set and emptied, computed
 pub mod WeightFigures  -- the boat's weight, computed
+pub mod HeldWeight  -- plates go by the weight that is held, whatever the memory
 pub mod Refusals  -- what calls share
 pub mod Own  -- what only one call asks
 pub mod SetFitting  -- what setting a fitting line does, by its numbers
