@@ -2,6 +2,7 @@
 #define _DEFAULT_SOURCE
 #include "compare.h"
 
+#include "layout.h"
 #include "material.h"
 #include "offices.h"
 #include "painted.h"
@@ -417,6 +418,42 @@ static void judge_weights(uint32_t refusal)
                "the memory was not refused and keeps a weight that is not that of its sheet");
 }
 
+/* The words that an accepted call is said to write: those from one place on and before another, and one besides. */
+struct words {
+    uint32_t from, to, besides;
+};
+
+static struct words words_written(struct call call, const uint32_t *mem)
+{
+    uint32_t desk = call.desk;
+    switch (call.kind) {
+    case NEW_HULL:
+        return (struct words){HULL_AT(mem[0]), HULL_AT(mem[0] + 1), 0};
+    case OPEN:
+        return (struct words){DESK_AT(desk), DESK_AT(desk + 1), DESK_AT(desk)};
+    case SET_FITTING:
+        return (struct words){WEIGHT_AT(desk, call.line), COUNT_AT(desk, call.line) + 1, DRAFT_WEIGHT_AT(desk)};
+    case REPLACE:
+        return (struct words){DRAFT_WEIGHT_AT(desk), DESK_AT(desk + 1), DRAFT_WEIGHT_AT(desk)};
+    case SAVE:
+        return (struct words){HULL_AT(mem[DESK_AT(desk) + 1]), HULL_AT(mem[DESK_AT(desk) + 1] + 1), DESK_AT(desk)};
+    default:
+        return (struct words){DESK_AT(desk), DESK_AT(desk) + 1, DESK_AT(desk)}; /* drop */
+    }
+}
+
+/* After a fresh start every word is 0; after another call those that it is not said to write are what they were. */
+static void judge_words(struct call call)
+{
+    const uint32_t *before = lent[MEMORY].words, *after = (const uint32_t *)(void *)places[LIBRARY][MEMORY].start;
+    struct words written = words_written(call, before);
+    for (uint32_t word = 0; word < WB_REGISTER_WORDS; word++)
+        if (call.kind == FRESH)
+            insist(after[word] == 0, "a word of a fresh register is not 0");
+        else if (word != written.besides && (word < written.from || word >= written.to))
+            insist(after[word] == before[word], "the call changed a word besides those that it is said to");
+}
+
 static wb_answer call_both(unsigned long reads, unsigned long uses)
 {
     int sealed = one_in(8); /* then the library could not even write back the same */
@@ -448,6 +485,8 @@ wb_answer attempt(struct call call)
     compare_buffers(writes, reads | writes, answer.refusal != 0);
     if ((reads | writes) & BIT(MEMORY))
         judge_weights(answer.refusal);
+    if (writes & BIT(MEMORY) && answer.refusal == 0)
+        judge_words(call);
     insist(answer.refusal < REFUSALS && kinds[call.kind].answers & BIT(answer.refusal), "a refusal that the header does not name for this call");
     seen[call.kind][answer.refusal]++;
     if (answer.refusal == 0)

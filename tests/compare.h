@@ -30,8 +30,9 @@ struct call {
 };
 
 /*
- * Makes a call on what is lent. Ends the program with a report at the first difference, and where a memory that is not
- * refused keeps a weight that is not that of its sheet.
+ * Makes a call on what is lent. Ends the program with a report at the first difference, where a memory that is not
+ * refused keeps a weight that is not that of its sheet, and where a word was changed that the call is not said to
+ * write.
  */
 wb_answer attempt(struct call call);
 

@@ -10,6 +10,8 @@
 #include "steps.h"
 #include "weighed.h"
 
+#include <string.h>
+
 static uint32_t *const mem = lent[MEMORY].words;
 
 /* ---- steps ---- */
@@ -167,6 +169,27 @@ static void try_heaviest(void)
     expect_weight(4, 2);
 }
 
+/* From the lightest boat to the heaviest and back, as far as a weight can move, by one sheet in another's place. */
+static void try_farthest(void)
+{
+    wb_sheet lightest = base_hull(), heaviest_boat = highest_sheet();
+    begin_part("the farthest that a weight can move");
+    lightest.bare = 1;
+    enter_alone(&lightest);
+    for (uint32_t edit = 1; edit <= 4; edit++) {
+        uint32_t grams = edit % 2 ? 14000000 : 1;
+        replace_draft(3, edit % 2 ? &heaviest_boat : &lightest);
+        insist_draft(3, grams);
+        save_draft(3, edit);
+        expect_weight(0, grams);
+        open_hull(3, 0, edit);
+        insist_draft(3, grams);
+    }
+    heaviest_boat.bare--;
+    replace_draft(3, &heaviest_boat);
+    insist_draft(3, 13999999);
+}
+
 /* A sheet in place of a draft, heavier or lighter than it, as heavy or the same; then it is saved. */
 static void try_replaced(void)
 {
@@ -199,6 +222,8 @@ static void try_replaced(void)
     insist_draft(3, 150000); /* tanks and machinery are not in it */
     lend_text("HULL\t0\n");
     expect(attempt((struct call){.kind = REPLACE, .desk = 3}), 2, 2, 1);
+    lend_text("HULL\t16\n");
+    expect(attempt((struct call){.kind = REPLACE, .desk = 3}), 3, 1, 6);
     insist_draft(3, 150000);
     expect_weight(0, 200006);
 }
@@ -222,14 +247,21 @@ static void expect_plates(uint32_t hull, struct plates plates)
     expect(attempt((struct call){.kind = PLATE_U, .hull = hull}), 0, plates.pounds, 0);
 }
 
-/* Two desks have a hull open, beside another. What the one saves is the hull's, and the other keeps its own weight. */
-static void try_two_desks(void)
+/* The base hull as these plates are of it, and its engine, of 60000 g. */
+static wb_sheet tested_hull(void)
 {
     static const uint32_t powers[] = {1500, 20000}, weights[] = {20000, 60000};
     wb_sheet sheet = base_hull();
-    begin_part("weights at two desks");
     lend_rows(powers, weights, 2);
     sheet.tested = 5;
+    return sheet;
+}
+
+/* Two desks have a hull open, beside another. What the one saves is the hull's, and the other keeps its own weight. */
+static void try_two_desks(void)
+{
+    wb_sheet sheet = tested_hull();
+    begin_part("weights at two desks");
     enter_alone(&sheet);
     enter(&sheet, 1);
     open_hull(1, 1, 0);
@@ -247,6 +279,47 @@ static void try_two_desks(void)
     insist_draft(2, 200000);
     expect_weight(0, 200000);
     expect_weight(1, 699950);
+}
+
+/* With pieces of 5000 g on it, each of which takes a kilogram off: 326666 2/3 g are a fifth of what it carries bare. */
+static struct plates plates_with(uint32_t pieces)
+{
+    uint32_t load = 326 - pieces, thirds = 980000 - 3000 * pieces;
+    uint32_t pounds = (uint32_t)((uint64_t)thirds * 100000 / (3 * (uint64_t)45359237));
+    return (struct plates){load + 1, load, (load - 60) / 75, pounds};
+}
+
+/* Sixteen hulls of 1, 2, .. such pieces, and at each desk a draft that has 20 or more besides: each has its own. */
+static void expect_every_slot(uint32_t first)
+{
+    for (uint32_t hull = 0; hull < WB_HULLS; hull++) {
+        expect_plates(hull, plates_with(1 + hull));
+        expect_weight(hull, 205000 + 5000 * hull);
+    }
+    for (uint32_t desk = 0; desk < WB_DESKS; desk++) {
+        expect_trials(desk, plates_with(21 + first + 2 * desk));
+        insist_draft(desk, 305000 + 5000 * (first + 2 * desk));
+    }
+}
+
+/* The drafts are of eight hulls from the first on; then of hulls that were saved as often as can be. */
+static void try_every_slot(uint32_t first)
+{
+    wb_sheet sheet = tested_hull();
+    begin_part("plates and weights at every hull and desk");
+    start_fresh();
+    for (uint32_t hull = 0; hull < WB_HULLS; hull++) {
+        sheet.fitting[0] = (wb_fitting){5000, 1 + hull};
+        enter(&sheet, hull);
+    }
+    for (uint32_t desk = 0; desk < WB_DESKS; desk++) {
+        open_hull(desk, first + desk, 0);
+        set_line(desk, 2, 5000, 20 + desk);
+    }
+    expect_every_slot(first);
+    for (uint32_t hull = 0; hull < WB_HULLS; hull++)
+        mem[HULL_AT(hull)] = 65535;
+    expect_every_slot(first);
 }
 
 static void expect_first(enum kind kind, uint32_t first)
@@ -288,6 +361,29 @@ static void try_heaviest_boats(void)
         try_heaviest_plates(lesses[i], ++edit);
     for (uint32_t less = 0; less < 25000; less += 499)
         try_heaviest_plates(less, ++edit);
+}
+
+/* The heaviest boat, with so much less water that a gram off the boat marks one more. */
+static void try_last_gram(enum kind trial, enum kind plate, uint32_t water, uint32_t load)
+{
+    wb_sheet sheet = highest_sheet();
+    sheet.aft -= water;
+    enter_alone(&sheet);
+    expect_first(trial, load);
+    set_line(3, 24, 499999, 1);
+    expect_first(trial, load + 1);
+    expect_first(plate, load);
+    save_draft(3, 1);
+    expect_first(plate, load + 1);
+}
+
+static void try_last_grams(void)
+{
+    begin_part("plates of the heaviest boat, to the gram");
+    lend_good_things();
+    try_last_gram(TRIAL_A, PLATE_A, 2501, 6999);
+    try_last_gram(TRIAL_C, PLATE_C, 1, 6999);
+    try_last_gram(TRIAL_U, PLATE_U, 1862, 15651);
 }
 
 /* A draft that is refused its save keeps its weight; opened again it has the hull's, and dropped it leaves it there. */
@@ -357,6 +453,71 @@ static void try_full_register(void)
         for (uint32_t each = 0; each < WB_HULLS; each++)
             expect_weight(each, 200000 + (10 + each) * (1 + each) + (each <= hull ? 7000 : 0));
     }
+}
+
+/* Every hull at every desk: opened over another hull's draft, replaced, saved, opened again, and a line of it set. */
+static void try_hull_at_desk(uint32_t hull, uint32_t desk, uint32_t *grams)
+{
+    uint32_t turn = WB_HULLS * desk + hull;
+    wb_sheet sheet = base_with(1 + turn % WB_FITTINGS, 1 + turn, 3);
+    open_hull(desk, hull, desk);
+    insist_draft(desk, grams[hull]);
+    replace_draft(desk, &sheet);
+    grams[hull] = 200000 + 3 * (1 + turn);
+    insist_draft(desk, grams[hull]);
+    save_draft(desk, desk + 1);
+    for (uint32_t each = 0; each < WB_HULLS; each++)
+        expect_weight(each, grams[each]);
+    open_hull(desk, hull, desk + 1);
+    set_line(desk, 1 + (turn + 1) % WB_FITTINGS, 100, 7);
+    insist_draft(desk, grams[hull] + 700);
+}
+
+static void try_hulls_at_desks(void)
+{
+    wb_sheet sheet = base_hull();
+    uint32_t grams[WB_HULLS];
+    begin_part("weights of every hull at every desk");
+    start_fresh();
+    for (uint32_t hull = 0; hull < WB_HULLS; hull++) {
+        enter(&sheet, hull);
+        grams[hull] = 200000;
+    }
+    for (uint32_t desk = 0; desk < WB_DESKS; desk++)
+        for (uint32_t hull = 0; hull < WB_HULLS; hull++)
+            try_hull_at_desk(hull, desk, grams);
+}
+
+/* A line set and saved, and opened again. */
+static void save_line(uint32_t weight, uint32_t edit)
+{
+    set_line(3, 1, weight, 1);
+    save_draft(3, edit);
+    expect_weight(0, 200000 + weight);
+    open_hull(3, 0, edit);
+    insist_draft(3, 200000 + weight);
+}
+
+/* The weight follows each of many saves, and the last that a hull can have; after that drafts still have theirs. */
+static void try_many_saves(void)
+{
+    wb_sheet sheet = base_hull();
+    begin_part("weights over many saves");
+    enter_alone(&sheet);
+    for (uint32_t edit = 1; edit <= 600; edit++)
+        save_line(1 + edit * 977 % 499979, edit);
+    mem[HULL_AT(0)] = 65534;
+    open_hull(3, 0, 65534);
+    save_line(1234, 65535);
+    set_line(3, 1, 5050, 99);
+    insist_draft(3, 699950);
+    expect(attempt((struct call){.kind = SAVE, .desk = 3}), 9, 0, 0);
+    insist_draft(3, 699950);
+    replace_draft(3, &sheet);
+    insist_draft(3, 200000);
+    expect_weight(0, 201234);
+    open_hull(3, 0, 65535);
+    insist_draft(3, 201234);
 }
 
 /* ---- a ledger of differences ---- */
@@ -455,7 +616,8 @@ static void try_weight(uint32_t slot, int free, uint32_t weight)
 static void try_other_weights(uint32_t slot, int free)
 {
     uint32_t is = mem[sheet_at(slot) - 1];
-    const uint32_t others[] = {is + 1, is - 1, 0, 0xFFFFFFFF, is + 1000, is + 500000, 14000000 - is, 2 * is, 1};
+    const uint32_t others[] = {is + 1, is - 1, 0, 0xFFFFFFFF, is + 1000, is + 500000, 14000000 - is, 2 * is, 1,
+                               13999999, 14000000, 14000001, is + 14000000};
     for (size_t i = 0; i < sizeof others / sizeof *others; i++)
         try_weight(slot, free, others[i]);
     for (uint32_t bit = 0; bit < 32; bit++)
@@ -477,16 +639,58 @@ static void try_wrong_sums(uint32_t slot, int free)
         try_weight(slot, free, sums[i]);
 }
 
-/* Entered hulls and held drafts are judged, each by its own sheet; what is free is not. */
+/*
+ * Entered hulls and held drafts are judged, each by its own sheet; what is free is not. The first hull was not saved
+ * yet, the last as often as can be, and the last draft is of it.
+ */
 static void try_spoilt(uint32_t hulls, uint32_t drafts)
 {
     build(hulls, drafts);
     lend_good_things();
+    mem[HULL_AT(0)] = 0;
+    mem[HULL_AT(hulls - 1)] = 65535;
+    mem[DESK_AT(drafts - 1) + 1] = hulls - 1;
     judge_memory(1);
     for (uint32_t slot = 0; slot < SLOTS; slot++) {
         int free = slot < WB_HULLS ? slot >= hulls : slot - WB_HULLS >= drafts;
         try_other_weights(slot, free);
         try_wrong_sums(slot, free);
+    }
+}
+
+/* A sheet in every slot, with its weight in figures: others are refused, and beside the limits too. */
+static void try_spoilt_beside(wb_sheet sheet, uint32_t grams)
+{
+    build(16, 8);
+    lend_good_things();
+    for (uint32_t slot = 0; slot < SLOTS; slot++) {
+        memcpy(mem + sheet_at(slot), numbers_of(&sheet) + 1, sizeof sheet - 4);
+        mem[sheet_at(slot) - 1] = grams;
+    }
+    judge_memory(1);
+    for (uint32_t hull = 0; hull < WB_HULLS; hull++)
+        expect_weight(hull, grams);
+    for (uint32_t slot = 0; slot < SLOTS; slot++)
+        try_other_weights(slot, 0);
+}
+
+static void try_spoilt_edges(void)
+{
+    wb_sheet sheet = base_hull();
+    sheet.bare = 1;
+    try_spoilt_beside(sheet, 1);
+    try_spoilt_beside(highest_sheet(), 14000000);
+}
+
+/* However many hulls there are, the weight of each is judged, and that of each draft. */
+static void try_spoilt_numbers(void)
+{
+    for (uint32_t hulls = 1; hulls <= WB_HULLS; hulls++) {
+        uint32_t drafts = hulls % (WB_DESKS + 1);
+        build(hulls, drafts);
+        lend_good_things();
+        for (uint32_t slot = 0; slot < SLOTS; slot++)
+            try_weight(slot, slot < WB_HULLS ? slot >= hulls : slot - WB_HULLS >= drafts, mem[sheet_at(slot) - 1] + 1);
     }
 }
 
@@ -564,6 +768,9 @@ static void try_gram(uint32_t word)
     spoil_alone(word, 200001);
     mem[word] = 200001;
     expect(attempt((struct call){.kind = WEIGH}), 1, 0, 0);
+    lend_text(""); /* the memory is judged before the text */
+    expect(attempt((struct call){.kind = NEW_HULL}), 1, 0, 0);
+    expect(attempt((struct call){.kind = REPLACE, .desk = 3}), 1, 0, 0);
     expect(attempt((struct call){.kind = FRESH}), 0, 0, 0);
     expect(attempt((struct call){.kind = WEIGH}), 5, 0, 0);
 }
@@ -573,6 +780,8 @@ static void try_spoilt_weights(void)
     begin_part("memories that keep another weight");
     try_spoilt(16, 8);
     try_spoilt(5, 3);
+    try_spoilt_edges();
+    try_spoilt_numbers();
     try_other_sheets();
     try_exchanged();
     try_gram(HULL_WEIGHT_AT(0));
@@ -583,12 +792,18 @@ void try_weight_edges(void)
 {
     try_lines();
     try_heaviest();
+    try_farthest();
     try_replaced();
     try_two_desks();
+    try_every_slot(0);
+    try_every_slot(8);
     try_stale_draft();
     try_heaviest_boats();
+    try_last_grams();
     try_opened();
     try_full_register();
+    try_hulls_at_desks();
+    try_many_saves();
     try_ledger();
     try_spoilt_weights();
 }
