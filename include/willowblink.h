@@ -148,7 +148,7 @@ typedef struct wb_sheet {
  * and all fittings, each line its weight times its count; tanks, fuel and machinery are not in it. A call that writes a
  * sheet or a line of one writes the weight too. It is in no text and in no wb_sheet. Where a weight that is kept is not
  * that of its sheet, every call but fresh start refuses the memory with 1; in the words of hulls not entered and of
- * desks without a draft anything may stand.
+ * desks without a draft, but for the word that says so, anything may stand.
  */
 
 /*
