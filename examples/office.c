@@ -74,7 +74,7 @@ static void trouble(const char *what, const char *path)
 /* ---- refusals ---- */
 
 static const char *const refusals[] = {
-    [WB_BAD_MEMORY] = "this is no register, or one that was spoilt",
+    [WB_BAD_MEMORY] = "this is no register, or one of another version, or one that was spoilt",
     [WB_BROKEN_LINE] = "the text breaks the line rules",
     [WB_OUTSIDE_LIMITS] = "a number, or a fitting's weight times its count, is outside its limits",
     [WB_FULL] = "sixteen hulls are entered, and there is no room for another",
