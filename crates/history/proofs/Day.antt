@@ -74,7 +74,7 @@ day =
     ∷ (ask 0 (plate kindU) ⇒ says (Count 718)) ∷ weighs 203334
     -- desk 0 is behind, and opens anew; meanwhile desk 3 opens too
     ∷ (save 0 ⇒ says (Refused 8)) ∷ (openHull 0 0 ⇒ says (Count 1)) ∷ (openHull 3 0 ⇒ says (Count 1))
-    ∷ (work 0 (setFitting 1 0 0) ⇒ says (Refused 17)) ∷ (work 0 (setFitting 25 0 0) ⇒ says (Refused 3)) ∷ trialC
+    ∷ (work 0 (setFitting 1 0 0) ⇒ says (Refused 17)) ∷ (work 0 (setFitting 25 7 1) ⇒ says (Refused 3)) ∷ trialC
     ∷ writing ∷ (work 0 (setFitting 2 0 0) ⇒ says Done) ∷ (save 0 ⇒ says (Count 2))
     -- desk 3 is behind, and gives up
     ∷ (save 3 ⇒ says (Refused 8)) ∷ (dropDraft 3 ⇒ says Done) ∷ (save 3 ⇒ says (Refused 7))
@@ -97,7 +97,7 @@ serial-day =
     ∷ writing
     -- desk 0's second draft; its first is left out
     ∷ (openHull 0 0 ⇒ says (Count 1)) ∷ (work 0 (setFitting 1 0 0) ⇒ says (Refused 17))
-    ∷ (work 0 (setFitting 25 0 0) ⇒ says (Refused 3)) ∷ trialC
+    ∷ (work 0 (setFitting 25 7 1) ⇒ says (Refused 3)) ∷ trialC
     ∷ (work 0 (setFitting 2 0 0) ⇒ says Done) ∷ (save 0 ⇒ says (Count 2))
     ∷ faulty ∷ (ask 1 (plate kindA) ⇒ says (Refused 5)) ∷ (ask 0 (plate kindA) ⇒ says (Plate 327 20000))
     ∷ (ask 1 weigh ⇒ says (Refused 5)) ∷ weighs 200000 ∷ weighs 200000

@@ -104,7 +104,7 @@ day =
     ∷ (work 0 (setFitting 2 250001 2) must Refused 3) ∷ (work 0 (setFitting 2 1667 2) must Done)
     ∷ (tries 0 kindA must Plate 326 20000)
     ∷ (marks 0 kindA must Plate 327 20000) ∷ (tries 0 byC must Plate 325 3) ∷ (tries 0 kindU must Count 718)
-    ∷ (marks 0 kindU must Count 720) ∷ (ask 0 weigh must Count 200000)
+    ∷ (marks 0 kindU must Count 720) ∷ (ask 0 weigh must Count 200000) ∷ (ask 1 weigh must Count 203334)
     ∷ (work 0 (setFitting 1 0 0) must Refused 17) ∷ (save 0 must Count 1)
     ∷ (marks 0 kindA must Plate 326 20000) ∷ (ask 0 weigh must Count 203334) ∷ (ask 2 weigh must Refused 5)
     -- desk 7's draft is behind; opened anew it is the saved sheet, whose fitting line is emptied
