@@ -6,7 +6,7 @@ ghost use mathlib.Core.List.{_∷_};
 ghost use lib.ListN.{length};
 ghost use Rattle.sheet.specs.Places.{sheetWords};
 ghost use Rattle.memory.specs.Layout.{mostHulls, hullWeight, hullSheet, draftHull, draftWeight, draftSheet};
-ghost use Rattle.memory.specs.Asked.{AtDesk};
+ghost use Rattle.memory.specs.Asked.{AtHull, AtDesk};
 ghost use Rattle.capacity.specs.Kinds.{kindA, kindC, kindU};
 ghost use Rattle.register.specs.Refusals.{hullRefusal, deskRefusal, roomRefusal, openRefusal, setOwn, saveOwn};
 ghost use Rattle.register.specs.Calls.{setFitting, replace, tryPlate, plate, weigh, write, newHull, openHull, work};
@@ -64,9 +64,10 @@ fn desk_refusal(mem: &[u32], desk: u32) -> u32
 
 // ---- the weights and sheets that the calls read, once nothing refuses them
 
-// What a hull's boat weighs.
+// What a hull's boat weighs. Nothing is asked of the memory but its size, so that only the word that is held will do;
+// and so below.
 fn hull_weight(mem: &[u32], hull: u32) -> u32
-    requires { ⌜ hullRefusal (now mem) hull ≡ 0 ⌝ }
+    requires { ⌜ AtHull (now mem) hull ⌝ }
     ensures { λ r. ⌜ r ≡ hullWeight (now (mem .entry)) hull ⌝ }
 {
     keeping::hull_weight(mem, hull as usize)
@@ -82,7 +83,7 @@ fn hull_sheet(mem: &[u32], hull: u32) -> &[u32]
 
 // What the boat of a desk's draft weighs.
 fn draft_weight(mem: &[u32], desk: u32) -> u32
-    requires { ⌜ deskRefusal (now mem) desk ≡ 0 ⌝ }
+    requires { ⌜ AtDesk (now mem) desk ⌝ }
     ensures { λ r. ⌜ r ≡ draftWeight (now (mem .entry)) desk ⌝ }
 {
     keeping::draft_weight(mem, desk as usize)

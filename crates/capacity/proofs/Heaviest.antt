@@ -8,7 +8,7 @@ use Rattle.text.specs.Limit.{allHold}
 use Rattle.sheet.specs.Sheet.{okOn, fitsOk, wordsOk}
 use Rattle.capacity.specs.Words.{fuel, machinery}
 use Rattle.capacity.specs.Weights.{addedUp, boatM}
-use Rattle.capacity.specs.Highs.{boatMost}
+use Rattle.capacity.specs.Highs.{boatMost, heaviest}
 use Rattle.capacity.specs.Samples.{words}
 use Rattle.capacity.proofs.Boats.{pieced, alike, laden}
 
@@ -17,8 +17,8 @@ heavy : List ℕ
 heavy = replicate 37 0 ++ (2000000 ∷ 500000 ∷ 500000 ∷ 0 ∷ 0 ∷ 1 ∷ 0 ∷ alike 24 500000 1)
 
 heaviest-right :
-    _≡_ {A = List ℕ} (boatM heavy ∷ boatMost ∷ (fuel heavy + machinery heavy) ∷ [])
-    (14000000 ∷ 14000000 ∷ 1000000 ∷ [])
+    _≡_ {A = List ℕ} (boatM heavy ∷ boatMost ∷ (fuel heavy + machinery heavy) ∷ heaviest ∷ [])
+    (14000000 ∷ 14000000 ∷ 1000000 ∷ 4299967295 ∷ [])
 unfolding heavy alike boatM addedUp
 heaviest-right = refl
 

@@ -69,7 +69,7 @@ base-by :
     × (by kindU (massed 1 1491 200000 0 0) (200000 ∷ 200400 ∷ 200401 ∷ []) ≡ Count 1080 ∷ Count 1080 ∷ Count 1079 ∷ [])
 unfolding pieced seated load massed words stationProduct volumeN netZ exactX markedC rising rowsRight rowFor lacksRow
     engineWeight liveLoad persons lacksTests plateC inboardX loadX markedA formulaWatts powerA plateA ruleU markedU
-    plateU
+    plateU boatM addedUp
 base-by = (refl, refl, refl, refl, refl)
 
 -- the same of an inboard; plate U by its fifth, and by its seventh where it has much machinery
@@ -84,7 +84,7 @@ inboard-by :
     ≡ Count 508 ∷ Count 508 ∷ Count 507 ∷ Count 571 ∷ Refused 12 ∷ [])
 unfolding inboard massed words stationProduct volumeN netZ exactX markedC rising rowsRight rowFor lacksRow
     engineWeight liveLoad persons lacksTests plateC inboardX loadX markedA formulaWatts powerA plateA ruleU markedU
-    plateU
+    plateU boatM addedUp
 inboard-by = (refl, refl, refl, refl)
 
 -- ---- the plates by a right weight are the sheet's

@@ -137,11 +137,13 @@ unfolding upFrom
 places-right = (refl, refl, refl, refl, refl, refl, refl, refl)
 
 -- the weight and the words about fitting lines 1 and 2 of desk 7's draft: line 2 set to three pieces, line 1 emptied
--- while line 2 is empty and while it is not
+-- while line 2 is empty and while it is not, and while another weight is held, which moves by the same difference
 fitted-right :
     map (λ (o : List ℕ). getD o 2180 0 ∷ take 6 (drop 2224 o))
-    (full ∷ fitted full 7 2 1111 3 ∷ fitted full 7 1 0 0 ∷ fitted (fitted full 7 2 1111 3) 7 1 0 0 ∷ [])
+    (full ∷ fitted full 7 2 1111 3 ∷ fitted full 7 1 0 0 ∷ fitted (fitted full 7 2 1111 3) 7 1 0 0
+    ∷ fitted (set full 2180 5000) 7 1 0 0 ∷ [])
     ≡ (203334 ∷ 3 ∷ 3334 ∷ 1 ∷ 0 ∷ 0 ∷ 0 ∷ []) ∷ (206667 ∷ 3 ∷ 3334 ∷ 1 ∷ 1111 ∷ 3 ∷ 0 ∷ [])
-    ∷ (200000 ∷ 3 ∷ 0 ∷ 0 ∷ 0 ∷ 0 ∷ 0 ∷ []) ∷ (203333 ∷ 3 ∷ 0 ∷ 0 ∷ 1111 ∷ 3 ∷ 0 ∷ []) ∷ []
-unfolding full sheet hulls draft idle fitted
+    ∷ (200000 ∷ 3 ∷ 0 ∷ 0 ∷ 0 ∷ 0 ∷ 0 ∷ []) ∷ (203333 ∷ 3 ∷ 0 ∷ 0 ∷ 1111 ∷ 3 ∷ 0 ∷ [])
+    ∷ (1666 ∷ 3 ∷ 0 ∷ 0 ∷ 0 ∷ 0 ∷ 0 ∷ []) ∷ []
+unfolding full sheet hulls draft idle fitted boatM addedUp
 fitted-right = refl

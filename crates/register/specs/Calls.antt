@@ -63,7 +63,7 @@ shared m (ask h q) = hullRefusal m h
 
 -- ---- what it then answers
 
--- work on a draft whose sheet is s and whose boat weighs w; the weight is the one that is held, and so below
+-- work on a draft whose sheet is s and whose boat weighs w, both as the register holds them; and so below
 abbrev pub workAnswer : Work → ℕ → List ℕ → Answer
 workAnswer (setFitting line weight count) w s = orRefused (setOwn s line weight count) Done
 workAnswer (replace t) w s = onText t Done

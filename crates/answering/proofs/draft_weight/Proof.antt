@@ -1,5 +1,4 @@
 -- `draft_weight` meets its contract.
-use Rattle.answering.proofs.Sheets.{at-desk}
 use borrow.Author.Needs.{needs}
 use Rattle.answering.proofs.draft_weight.Statement.{statement}
 use Rattle.answering.proofs.draft_weight.Tie as tie
@@ -7,4 +6,4 @@ use Rattle.answering.proofs.draft_weight.Tie as tie
 pub draft-weight-spec : {M : Type 1} → statement M
 draft-weight-spec =
     tie.close
-    (tie.spec (λ c κs. at-desk (c .before .pre)) (λ c. search needs))
+    (tie.spec (λ c κs. c .before .pre) (λ c. search needs))

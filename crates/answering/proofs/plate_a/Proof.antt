@@ -1,12 +1,16 @@
 -- `plate_a` meets its contract.
-use Rattle.answering.proofs.Sheets.{hull-ok}
+use Rattle.answering.proofs.Sheets.{at-hull, hull-ok}
 use Rattle.answering.proofs.Settling.{answer-refused, answer-given}
+use mathlib.Core.Path.{sym, _∙_}
 use borrow.Author.Needs.{needs}
 use Rattle.answering.proofs.plate_a.Statement.{statement}
 use Rattle.answering.proofs.plate_a.Tie as tie
 
 returns : tie.Need-returns
 returns c = answer-refused (c .before .hull-refusal .ensures) _ (c .if1 .taken)
+
+hull-weight-requires : tie.Need-hull-weight-requires
+hull-weight-requires c κs = at-hull (sym (c .before .hull-refusal .ensures) ∙ c .if1 .left)
 
 plate-a-requires : tie.Need-plate-a-requires
 plate-a-requires c κs =
@@ -21,4 +25,4 @@ returns-2 c =
 pub plate-a-spec : {M : Type 1} → statement M
 plate-a-spec =
     tie.close
-    (tie.spec (λ c κs. search needs) returns (λ c κs. search needs) (λ c κs. search needs) plate-a-requires returns-2)
+    (tie.spec (λ c κs. search needs) returns hull-weight-requires (λ c κs. search needs) plate-a-requires returns-2)

@@ -1,12 +1,16 @@
 -- `plate_c` meets its contract.
-use Rattle.answering.proofs.Sheets.{hull-ok}
+use Rattle.answering.proofs.Sheets.{at-hull, hull-ok}
 use Rattle.answering.proofs.Settling.{answer-refused, answer-given}
+use mathlib.Core.Path.{sym, _∙_}
 use borrow.Author.Needs.{needs}
 use Rattle.answering.proofs.plate_c.Statement.{statement}
 use Rattle.answering.proofs.plate_c.Tie as tie
 
 returns : tie.Need-returns
 returns c = answer-refused (c .before .hull-refusal .ensures) _ (c .if1 .taken)
+
+hull-weight-requires : tie.Need-hull-weight-requires
+hull-weight-requires c κs = at-hull (sym (c .before .hull-refusal .ensures) ∙ c .if1 .left)
 
 plate-c-requires : tie.Need-plate-c-requires
 plate-c-requires c κs =
@@ -21,4 +25,4 @@ returns-2 c =
 pub plate-c-spec : {M : Type 1} → statement M
 plate-c-spec =
     tie.close
-    (tie.spec (λ c κs. search needs) returns (λ c κs. search needs) (λ c κs. search needs) plate-c-requires returns-2)
+    (tie.spec (λ c κs. search needs) returns hull-weight-requires (λ c κs. search needs) plate-c-requires returns-2)

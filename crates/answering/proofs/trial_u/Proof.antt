@@ -1,12 +1,16 @@
 -- `trial_u` meets its contract.
-use Rattle.answering.proofs.Sheets.{draft-ok}
+use Rattle.answering.proofs.Sheets.{at-desk, draft-ok}
 use Rattle.answering.proofs.Settling.{answer-refused, answer-given}
+use mathlib.Core.Path.{sym, _∙_}
 use borrow.Author.Needs.{needs}
 use Rattle.answering.proofs.trial_u.Statement.{statement}
 use Rattle.answering.proofs.trial_u.Tie as tie
 
 returns : tie.Need-returns
 returns c = answer-refused (c .before .desk-refusal .ensures) _ (c .if1 .taken)
+
+draft-weight-requires : tie.Need-draft-weight-requires
+draft-weight-requires c κs = at-desk (sym (c .before .desk-refusal .ensures) ∙ c .if1 .left)
 
 plate-u-requires : tie.Need-plate-u-requires
 plate-u-requires c κs =
@@ -21,4 +25,4 @@ returns-2 c =
 pub trial-u-spec : {M : Type 1} → statement M
 trial-u-spec =
     tie.close
-    (tie.spec (λ c κs. search needs) returns (λ c κs. search needs) (λ c κs. search needs) plate-u-requires returns-2)
+    (tie.spec (λ c κs. search needs) returns draft-weight-requires (λ c κs. search needs) plate-u-requires returns-2)

@@ -1,5 +1,6 @@
 -- `weight` meets its contract.
 use Rattle.answers.specs.declared.Answer.the-variants.{Count}
+use Rattle.answering.proofs.Sheets.{at-hull}
 use Rattle.answering.proofs.Settling.{answer-refused, answer-given}
 use mathlib.Core.Path.{ap, sym, _∙_}
 use borrow.Author.Needs.{needs}
@@ -10,7 +11,7 @@ returns : tie.Need-returns
 returns c = answer-refused (c .before .hull-refusal .ensures) _ (c .if1 .taken)
 
 hull-weight-requires : tie.Need-hull-weight-requires
-hull-weight-requires c κs = sym (c .before .hull-refusal .ensures) ∙ c .if1 .left
+hull-weight-requires c κs = at-hull (sym (c .before .hull-refusal .ensures) ∙ c .if1 .left)
 
 returns-2 : tie.Need-returns-2
 returns-2 c =
