@@ -1,5 +1,7 @@
 // Every call on the register, in lent memory. Each is total: it refuses by 01's numbers, in 01's order, and a refusal
 // leaves the memory as it stood.
+#![tactic(auto)]
+
 ghost use Rattle.std.specs.Prelude.{◌<◌, ◌≡◌, ◌∷◌, length};
 ghost use Rattle.sheet.specs.Places.{sheet_words};
 ghost use Rattle.memory.specs.Layout.{most_hulls, hull_weight, hull_sheet, draft_hull, draft_weight, draft_sheet};

@@ -1,5 +1,6 @@
 // What a call answers: the refusals by name and number, the answer inside the house, and the answer as C reads it.
 // Definitions in specs/, laws in proofs/.
+#![tactic(auto)]
 
 // The refusals: the one table for the code. A test holds it to the definitions' (specs/Refusals.antt), the header's and
 // the man page's.

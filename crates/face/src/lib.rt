@@ -1,5 +1,7 @@
 // The C face: every call that the office's server makes, under the names of include/willowblink.h. A lent slice is a
 // pointer and a length in C.
+#![tactic(auto)]
+
 ghost use Rattle.std.specs.Prelude.{◌≡◌, length};
 ghost use Rattle.answers.specs.Settled.{Settled};
 ghost use Rattle.sheet.specs.SheetText.{read_sheet};

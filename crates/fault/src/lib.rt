@@ -1,1 +1,2 @@
 // Where a text of any form goes wrong: definitions in specs/, laws in proofs/. No code.
+#![tactic(auto)]

@@ -1,5 +1,7 @@
 // Plates A, C and U, worked from the words of a sheet that is within the limits and from a weight that is taken for M,
 // the boat with its fittings: the plate is by that weight, whatever it is. printing and answering call them.
+#![tactic(auto)]
+
 ghost use Rattle.std.specs.Prelude.{◌≡◌, true};
 ghost use Rattle.sheet.specs.Sheet.{words_ok};
 ghost use Rattle.capacity.specs.PlateC.{plate_c};

@@ -1,4 +1,6 @@
 // What every crate stands on: laws of Booleans and of stores into lists, and the one loop that copies numbers.
+#![tactic(auto)]
+
 ghost use Rattle.std.specs.Prelude.{◌≡◌, ◌≤◌, length};
 ghost use Rattle.ground.specs.Lists.{put_first};
 

@@ -1,5 +1,7 @@
 // Whether the register's memory is well formed: the check that every call on the register makes first. It reads the
 // memory once, slot by slot, without copies.
+#![tactic(auto)]
+
 ghost use Rattle.std.specs.Prelude.{◌≡◌, length};
 ghost use Rattle.sheet.specs.Places.{sheet_words};
 ghost use Rattle.capacity.specs.Weights.{weighed_ok};

@@ -1,5 +1,7 @@
 // The register's memory, lent as words: the words of each slot by name, and the changes that calls make. Callers see
 // first that it is well formed (crate judging).
+#![tactic(auto)]
+
 ghost use Rattle.std.specs.Prelude.{◌≡◌, ◌+◌, ◌≤◌, ◌<◌, ◌∷◌, length, get_or, replicate};
 ghost use Rattle.std.proofs.lemmas.List.Edits.{sets};
 ghost use Rattle.sheet.specs.Places.{sheet_words};

@@ -1,6 +1,8 @@
 // Whether the numbers of a sheet are within their limits, and what its boat weighs: the quick check that the register
 // and the writer make. Words of alike limits are judged together, by the greatest of them, and fittings line by line,
 // each weighed as it is judged.
+#![tactic(auto)]
+
 ghost use Rattle.std.specs.Prelude.{◌≡◌, cond, ◌+◌, ◌*◌, ◌≤◌, ◌<◌, length};
 ghost use Rattle.sheet.specs.Lines.{fittings};
 ghost use Rattle.sheet.specs.Sheet.{fit_ok, fits_ok, words_ok, sheet_ok};

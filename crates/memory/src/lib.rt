@@ -1,5 +1,7 @@
 // What the register's memory is, when it is well formed and how calls change it: definitions in specs/, laws in
 // proofs/, and the layout's numbers for the code, which is the crates judging and keeping.
+#![tactic(auto)]
+
 use sheet::SHEET_WORDS;
 
 pub const MOST_HULLS: usize = 16;

@@ -1,5 +1,7 @@
 // The plate program: a sheet and engine lines come on standard input, and plates A and C go to standard output. What is
 // printed is the crate printing's to say; here the bytes are only carried to it and from it.
+#![tactic(auto)]
+
 ghost use Rattle.std.specs.Prelude.{◌≡◌, ◌≤◌, length, take};
 ghost use Rattle.io.specs.Counts.{IsPrefixLen};
 ghost use Rattle.printout.specs.Printed.{printed};

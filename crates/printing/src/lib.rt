@@ -1,4 +1,6 @@
 // What the plate program does, on bytes: from its input to what it prints.
+#![tactic(auto)]
+
 ghost use Rattle.std.specs.Prelude.{◌≡◌, true, ◌≤◌, length};
 ghost use Rattle.text.specs.Line.{Laid};
 ghost use Rattle.answers.specs.Settled.{Settled};

@@ -1,4 +1,6 @@
 // Reads a sheet, and engine rows, from a text.
+#![tactic(auto)]
+
 mod engines;
 mod rows;
 mod sheets;

@@ -1,6 +1,8 @@
 // Runs the samples of 01 that have no star: its printed sheet, case 5's persons and case 8's powers. The proofs have
 // them too; here they are run. Each is a whole input of the plate program, shown as a label and what is printed of it;
 // the file stdout has what 01 says. Of the figures that 01 leaves unsaid, the comments below tell how they follow.
+#![tactic(auto)]
+
 ghost use Rattle.std.specs.Prelude.{◌≤◌, length};
 ghost use Rattle.io.specs.Counts.{IsPrefixLen};
 

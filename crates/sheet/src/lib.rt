@@ -1,5 +1,7 @@
 // What a sheet and engine rows are, and their one text: definitions in specs/, laws in proofs/, and the types and
 // numbers that the code names. The code is the crates measuring, reading and writing.
+#![tactic(auto)]
+
 use text::{CAPPED, Limit, OR_NONE, PLAIN};
 
 // ---- where each number stands among the words of a sheet: each place follows from the one before

@@ -1,5 +1,7 @@
 // Bytes to numbers and back: the field finder, the number reader and writer, and one reader and one writer for every
 // line; and the line and byte at which a text is wrong.
+#![tactic(auto)]
+
 mod bytes;
 mod cuts;
 mod limits;

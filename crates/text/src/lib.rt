@@ -1,5 +1,6 @@
 // What a line of text is: definitions in specs/, laws in proofs/, and the types and numbers that the code names. The
 // code is the crate spelling.
+#![tactic(auto)]
 
 // What a number of a line may be: its least and greatest value, and a rule.
 pub type Limit = [u32; 3];

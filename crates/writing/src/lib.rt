@@ -1,4 +1,6 @@
 // Writes a sheet as its one text.
+#![tactic(auto)]
+
 ghost use Rattle.std.specs.Prelude.{◌≡◌, [], ◌∷◌, ◌+◌, ◌*◌, ◌≤◌, length, drop};
 ghost use Rattle.text.specs.Line.{Laid, line_text};
 ghost use Rattle.answers.specs.Settled.{Settled};
