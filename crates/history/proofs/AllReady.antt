@@ -22,9 +22,9 @@ use Rattle.history.specs.History.{block, role}
 use Rattle.history.proofs.Tools.{at_or, self, none≢some, some_inj}
 use Rattle.history.proofs.Model.{Draft, State, refusal, opens, edited}
 use Rattle.history.proofs.ModelStep.{fresh, state_of, events_of}
-use Rattle.history.proofs.Rules.{Idle, no_desk_lem, no_draft_lem, Refuses, no_room, open_unknown, open_high}
+use Rattle.history.proofs.Rules.{Idle, desk_unknown, draft_missing, Refuses, no_room, open_unknown, open_high}
 use Rattle.history.proofs.Rules.{work_idle, save_idle, save_spent, save_stale, drop_idle, ask_unknown}
-use Rattle.history.proofs.Rules.{Way, new_enters, new_unread, open_done, work_done_lem, save_done, drop_done}
+use Rattle.history.proofs.Rules.{Way, new_enters, new_unread, open_done, work_taken, save_done, drop_done}
 use Rattle.history.proofs.Rules.{ask_done, refused}
 use Rattle.history.proofs.SomeRule.{by_ways}
 use Rattle.history.proofs.Shown.{shown_holds}
@@ -38,8 +38,8 @@ Drafts s past = (d : ℕ) (x : Draft) → s.draft d ≡ some x → Ready s.regis
 
 -- a desk that is refused for want of a draft has none
 pub idle_none : {s : State} {d n : ℕ} (past : List Event) → Idle s d n → Drafts s past → s.draft d ≡ none
-idle_none past (no_draft_lem p q) f = q
-idle_none {s} {d} past (no_desk_lem p) f = go (s.draft d) refl
+idle_none past (draft_missing p q) f = q
+idle_none {s} {d} past (desk_unknown p) f = go (s.draft d) refl
   where
     go : (o : Option Draft) → s.draft d ≡ o → s.draft d ≡ none
     go none e = e
@@ -99,7 +99,7 @@ module _ (s : State) (past : List Event) (f : Drafts s past) (long : Long s) whe
       (λ x e. let u : opens s.register h ≡ x = some_inj (rw self at e) in
       rw (self, block, ← u) (opened_ready s.register g h p q))
       (λ d n x e. rw (n, block) (f d x (rw n at e)))
-  ready_step (work_done_lem {d = g} {w} y p q) =
+  ready_step (work_taken {d = g} {w} y p q) =
       at_or g _
       (λ x e. let u : edited w y ≡ x = some_inj (rw self at e) in rw (self, block, ← u)
       (worked_ready (f g y q) w (long g y p q)))

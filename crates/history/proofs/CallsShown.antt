@@ -23,7 +23,7 @@ use Rattle.register.proofs.Effects.{leaves_refused, leaves_accepted, leaves_same
 use Rattle.register.proofs.Effects.{new_changes, open_changes, save_changes, drop_changes}
 use Rattle.history.specs.Replies.{Reply, reply, next}
 use Rattle.history.proofs.Model.{Draft, State, ask_says, opens, at_desk, after_entry, after_save, edits_of}
-use Rattle.history.proofs.Rules.{Idle, no_desk_lem, no_draft_lem}
+use Rattle.history.proofs.Rules.{Idle, desk_unknown, draft_missing}
 use Rattle.history.proofs.Tools.{at_or, self}
 use Rattle.history.proofs.Shown.{Shows, holds_none, same_hull_in, same_draft_in, desk_shows, shown_few}
 use Rattle.history.proofs.Shown.{shown_number, shown_sheet, shown_weight, shown_holds, shown_hull}
@@ -76,8 +76,8 @@ module _ {m : List ℕ} {s : State} (S : Shows m s) where
   holds_desk {d} p q = sym (desk_holds m d S.ok p refl (shown_holds S p q).some)
 
   pub idle_desk : {d n : ℕ} (a : Answer) → Idle s d n → or_refused (desk_refusal m d) a ≡ Refused n
-  idle_desk {d} a (no_desk_lem p) = rw (← desk_high m d S.ok p) refl
-  idle_desk {d} a (no_draft_lem p q) = rw (← desk_idle m d S.ok p refl (holds_none m d (S.drafts d p ∙ q))) refl
+  idle_desk {d} a (desk_unknown p) = rw (← desk_high m d S.ok p) refl
+  idle_desk {d} a (draft_missing p q) = rw (← desk_idle m d S.ok p refl (holds_none m d (S.drafts d p ∙ q))) refl
 
   pub room : s.register.entered < most_hulls → room_refusal m ≡ 0
   room p = sym (room_left m S.ok refl (rw S.counts p))

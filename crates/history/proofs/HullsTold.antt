@@ -21,7 +21,7 @@ use Rattle.history.proofs.Moves.{Made}
 use Rattle.history.proofs.Model.{Draft, Register, State, refusal, enter, store}
 use Rattle.history.proofs.ModelStep.{fresh, state_of, events_of}
 use Rattle.history.proofs.Rules.{Refuses}
-use Rattle.history.proofs.Rules.{Way, new_enters, new_unread, open_done, work_done_lem, save_done, drop_done}
+use Rattle.history.proofs.Rules.{Way, new_enters, new_unread, open_done, work_taken, save_done, drop_done}
 use Rattle.history.proofs.Rules.{ask_done, refused}
 use Rattle.history.proofs.SomeRule.{by_ways}
 use Rattle.history.proofs.AllReady.{Drafts, drafts}
@@ -98,7 +98,7 @@ module _ {s : State} {past : List Event} (f : TellsHulls s.register past) (z : T
     told_step (new_enters {t} r p e) = entered_told f t
     told_step (new_unread n line byte p e) = same f _ (λ h. refl)
     told_step (open_done p q) = same f _ (λ h. refl)
-    told_step (work_done_lem y p q) = same f _ (λ h. refl)
+    told_step (work_taken y p q) = same f _ (λ h. refl)
     told_step (save_done {d} y p q u l) =
         let o = drawn (block d past) (opening d past) y (sym (z.drafts d) ∙ q) in
         let hull : o.from.hull ≡ y.hull = ap (λ (x : Draft). x.hull) o.draft in

@@ -26,7 +26,7 @@ on_draft s c f (some x) = f x
 abbrev pub on_desk : State → ℕ → Call → (Draft → Outcome) → Outcome
 on_desk s d c f = cond (ltb d desks) (on_draft s c f (s.draft d)) (refuse s c no_desk)
 
-abbrev save_of : State → ℕ → Draft → Outcome
+abbrev pub save_of : State → ℕ → Draft → Outcome
 save_of s d x =
     cond (eqb (edits_of s x) x.opening)
     (cond (eqb (edits_of s x) most_edits) (refuse s (save d) edits_spent)

@@ -20,7 +20,7 @@ use Rattle.history.specs.Runs.{Event, ◌⇒◌, call}
 use Rattle.history.proofs.WholeBlock.{saveless}
 use Rattle.history.proofs.Model.{Draft, Register, State, Outcome, work_says, store, opens, edited}
 use Rattle.history.proofs.ModelStep.{state_of, events_of}
-use Rattle.history.proofs.Rules.{Way, way_taken, open_done, work_done_lem}
+use Rattle.history.proofs.Rules.{Way, way_taken, open_done, work_taken}
 use Rattle.history.proofs.Moves.{Made, made_opened, made_worked}
 use Rattle.history.proofs.Tools.{self}
 
@@ -128,7 +128,7 @@ module _ {R : Register} {d : ℕ} {x : Draft} {b : List Event} (r : Ready R d x 
     where
       more : (cs : List Call) → Replays d x b cs → Replays d (edited w x) ((work d w ⇒ work_says w x.sheet) ∷ b) cs
       more cs o =
-          let rule : Way (state_of (map call b ++ cs)) (work d w) _ _ = work_done_lem x r.desk o.draft in
+          let rule : Way (state_of (map call b ++ cs)) (work d w) _ _ = work_taken x r.desk o.draft in
           let is = state_by (map call b ++ cs) rule in
           record {
             replies = rw (events_by (map call b ++ cs) rule, o.replies);

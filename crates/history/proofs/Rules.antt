@@ -14,13 +14,13 @@ use Rattle.memory.specs.Formed.{most_edits}
 use Rattle.register.specs.Calls.{Work, Ask, Call, new_hull, open_hull, work, save, drop_draft, ask}
 use Rattle.history.specs.Replies.{Reply, says}
 use Rattle.history.proofs.Model.{Draft, State, work_says, ask_says, refusal, refuse, at_desk, after_entry, opens}
-use Rattle.history.proofs.Model.{Outcome, edited, after_save, edits_of}
-use Rattle.history.proofs.ModelStep.{on_desk, step}
+use Rattle.history.proofs.Model.{Outcome, gives, edited, after_save, edits_of}
+use Rattle.history.proofs.ModelStep.{on_desk, save_of, step}
 
 -- desk d holds no draft: there is no such desk, or none is open
 pub data Idle (s : State) (d : ℕ) : ℕ → Type 0 where
-  no_desk_lem : desks ≤ d → Idle s d no_desk
-  no_draft_lem : d < desks → s.draft d ≡ none → Idle s d no_draft
+  desk_unknown : desks ≤ d → Idle s d no_desk
+  draft_missing : d < desks → s.draft d ≡ none → Idle s d no_draft
 
 -- the state refuses the call with that number
 pub data Refuses (s : State) : Call → ℕ → Type 0 where
@@ -56,7 +56,7 @@ pub data Way (s : State) : Call → State → Reply → Type 0 where
       → d < desks
       → h < s.register.entered
       → Way s (open_hull d h) (at_desk s d (some (opens s.register h))) (says (Count (s.register.hull h).edits))
-  work_done_lem : {d : ℕ} {w : Work} (x : Draft)
+  work_taken : {d : ℕ} {w : Work} (x : Draft)
       → d < desks
       → s.draft d ≡ some x
       → Way s (work d w) (at_desk s d (some (edited w x))) (work_says w x.sheet)
@@ -72,19 +72,22 @@ pub data Way (s : State) : Call → State → Reply → Type 0 where
 
 -- each rule is what the step computes
 idle_refused : (s : State) {d n : ℕ} (c : Call) (f : Draft → Outcome) → Idle s d n → on_desk s d c f ≡ refuse s c n
-idle_refused s c f (no_desk_lem p) = rw (le-ltb _ _ p)
-idle_refused s c f (no_draft_lem p q) = rw (lt-ltb _ _ p, q)
+idle_refused s c f (desk_unknown p) = rw (le-ltb _ _ p)
+idle_refused s c f (draft_missing p q) = rw (lt-ltb _ _ p, q)
 
 refusal_taken : (s : State) {c : Call} {n : ℕ} → Refuses s c n → step s c ≡ refuse s c n
 unfolding step
 refusal_taken s (no_room p) = rw (le-ltb _ _ p)
 refusal_taken s (open_unknown p q) = rw (lt-ltb _ _ p, le-ltb _ _ q)
 refusal_taken s (open_high p) = rw (le-ltb _ _ p)
-refusal_taken s (work_idle p) = idle_refused s _ _ p
-refusal_taken s (save_idle p) = idle_refused s _ _ p
+refusal_taken s (work_idle {d = d} {w = w} p) =
+    idle_refused s (work d w)
+    (λ (x : Draft). record { state = at_desk s d (some (edited w x)); reply = work_says w x.sheet }) p
+refusal_taken s (save_idle {d = d} p) = idle_refused s (save d) (save_of s d) p
 refusal_taken s (save_spent x p q e n) = rw (lt-ltb _ _ p, q, eq-eqb _ _ n, eq-eqb _ _ e)
 refusal_taken s (save_stale x p q e) = rw (lt-ltb _ _ p, q, ne_eqb _ _ e)
-refusal_taken s (drop_idle p) = idle_refused s _ _ p
+refusal_taken s (drop_idle {d = d} p) =
+    idle_refused s (drop_draft d) (λ (x : Draft). gives (at_desk s d none) Done) p
 refusal_taken s (ask_unknown p) = rw (le-ltb _ _ p)
 
 pub way_taken : (s : State) {c : Call} {t : State} {r : Reply}
@@ -94,7 +97,7 @@ unfolding step
 way_taken s (new_enters r p e) = rw (lt-ltb _ _ p, e)
 way_taken s (new_unread n line byte p e) = rw (lt-ltb _ _ p, e)
 way_taken s (open_done p q) = rw (lt-ltb _ _ p, lt-ltb _ _ q)
-way_taken s (work_done_lem x p q) = rw (lt-ltb _ _ p, q)
+way_taken s (work_taken x p q) = rw (lt-ltb _ _ p, q)
 way_taken s (save_done x p q e n) = rw (lt-ltb _ _ p, q, ne_eqb _ _ n, eq-eqb _ _ e)
 way_taken s (drop_done x p q) = rw (lt-ltb _ _ p, q)
 way_taken s (ask_done p) = rw (lt-ltb _ _ p)

@@ -19,7 +19,7 @@ use Rattle.history.proofs.Model.{State, edits_of}
 use Rattle.history.proofs.ModelStep.{step, state_of, events_of}
 use Rattle.history.proofs.Rules.{Refuses, no_room, open_unknown, open_high}
 use Rattle.history.proofs.Rules.{work_idle, save_idle, save_spent, save_stale, drop_idle, ask_unknown}
-use Rattle.history.proofs.Rules.{Way, new_enters, new_unread, open_done, work_done_lem, save_done, drop_done}
+use Rattle.history.proofs.Rules.{Way, new_enters, new_unread, open_done, work_taken, save_done, drop_done}
 use Rattle.history.proofs.Rules.{ask_done, refused}
 use Rattle.history.proofs.SomeRule.{by_ways}
 use Rattle.history.proofs.Shown.{Shows, fresh_shows, shown_few, shown_number, shown_holds}
@@ -54,7 +54,7 @@ module _ {m : List ℕ} {s : State} (S : Shows m s) where
       let z = sym (open_there m d h S.ok p (rw S.counts q)) in
       done S (open_hull d h) (Count (s.register.hull h).edits) (rw (z, shown_number S (shown_few S q)) refl) refl
       (opens_shown S d h q z)
-  tied_step (work_done_lem {w} x p q) = works S (shown_holds S p q) w (holds_desk S p q)
+  tied_step (work_taken {w} x p q) = works S (shown_holds S p q) w (holds_desk S p q)
   tied_step (save_done {d} x p q e n) =
       let number = (shown_holds S p q).number in
       done S (save d) (Count (suc (edits_of s x)))

@@ -13,7 +13,7 @@ use Rattle.history.specs.History.{spot, serial}
 use Rattle.history.proofs.Model.{Draft, Register, State, ask_says, refusal, store}
 use Rattle.history.proofs.ModelStep.{state_of, events_of}
 use Rattle.history.proofs.Rules.{Refuses, no_room, ask_unknown}
-use Rattle.history.proofs.Rules.{Way, new_enters, new_unread, open_done, work_done_lem, save_done, drop_done}
+use Rattle.history.proofs.Rules.{Way, new_enters, new_unread, open_done, work_taken, save_done, drop_done}
 use Rattle.history.proofs.Rules.{ask_done, refused}
 use Rattle.history.proofs.SomeRule.{by_ways}
 use Rattle.history.proofs.Replay.{state_by, events_by, Replays, Ready}
@@ -98,7 +98,7 @@ module _ (kept : Ask → Bool) where
   serial_step s past (new_unread n line byte p e) f g =
       rw (← g.register) (one_more g (new_unread n line byte (rw g.register p) e) refl)
   serial_step s past (open_done p q) f g = g
-  serial_step s past (work_done_lem y p q) f g = g
+  serial_step s past (work_taken y p q) f g = g
   serial_step s past (save_done {d} y p q u l) f g = saves_runs (f d y q) u l g
   serial_step s past (drop_done y p q) f g = g
   serial_step s past (ask_done {h} {q} p) f g = kept_or_not past h q _ g (asks_runs g h q p)

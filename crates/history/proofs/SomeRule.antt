@@ -12,9 +12,9 @@ use Rattle.register.specs.Calls.{Call, new_hull, open_hull, work, save, drop_dra
 use Rattle.history.specs.Replies.{Reply}
 use Rattle.history.proofs.Model.{Draft, State, edits_of}
 use Rattle.history.proofs.ModelStep.{step}
-use Rattle.history.proofs.Rules.{Idle, no_desk_lem, no_draft_lem, Refuses, no_room, open_unknown, open_high}
+use Rattle.history.proofs.Rules.{Idle, desk_unknown, draft_missing, Refuses, no_room, open_unknown, open_high}
 use Rattle.history.proofs.Rules.{work_idle, save_idle, save_spent, save_stale, drop_idle, ask_unknown}
-use Rattle.history.proofs.Rules.{Way, new_enters, new_unread, open_done, work_done_lem, save_done, drop_done}
+use Rattle.history.proofs.Rules.{Way, new_enters, new_unread, open_done, work_taken, save_done, drop_done}
 use Rattle.history.proofs.Rules.{ask_done, refused}
 use Rattle.history.proofs.Rules.{way_taken}
 
@@ -39,10 +39,10 @@ module _ {s : State} where
       → ((x : Draft) → d < desks → s.draft d ≡ some x → Fits s c)
       → Fits s c
   find_draft d {c} idle f =
-      by_less d desks (λ p. go p (s.draft d) refl) (λ p. fitted (refused (idle _ (no_desk_lem p))))
+      by_less d desks (λ p. go p (s.draft d) refl) (λ p. fitted (refused (idle _ (desk_unknown p))))
     where
       go : d < desks → (o : Option Draft) → s.draft d ≡ o → Fits s c
-      go p none e = fitted (refused (idle _ (no_draft_lem p e)))
+      go p none e = fitted (refused (idle _ (draft_missing p e)))
       go p (some x) e = f x p e
 
 some_way : (s : State) (c : Call) → Fits s c
@@ -52,7 +52,7 @@ some_way s (open_hull d h) =
     by_less d desks
     (λ p. by_less h s.register.entered (λ q. fitted (open_done p q)) (λ q. fitted (refused (open_unknown p q))))
     (λ p. fitted (refused (open_high p)))
-some_way s (work d w) = find_draft d (λ n p. work_idle p) (λ x p q. fitted (work_done_lem x p q))
+some_way s (work d w) = find_draft d (λ n p. work_idle p) (λ x p q. fitted (work_taken x p q))
 some_way s (save d) =
     find_draft d (λ n p. save_idle p)
     (λ x p q.

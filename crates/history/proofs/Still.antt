@@ -17,7 +17,7 @@ use Rattle.history.specs.Told.{Opening, opening, saves_of}
 use Rattle.history.proofs.WholeBlock.{Whole, block_whole}
 use Rattle.history.proofs.Model.{Register, State}
 use Rattle.history.proofs.ModelStep.{step, state_of, events_of}
-use Rattle.history.proofs.Rules.{Way, new_enters, new_unread, open_done, work_done_lem, save_done, drop_done}
+use Rattle.history.proofs.Rules.{Way, new_enters, new_unread, open_done, work_taken, save_done, drop_done}
 use Rattle.history.proofs.Rules.{ask_done, refused}
 use Rattle.history.proofs.SomeRule.{by_ways}
 use Rattle.history.proofs.Serial.{calls_append}
@@ -42,7 +42,7 @@ grow_step {s} h l (new_enters r p e) =
     record { more = omega arith; edits = rw n (le_refl _); same = rw n (λ q. refl) }
 grow_step {s} h l (new_unread n line byte p e) = stays h s.register
 grow_step {s} h l (open_done p q) = stays h s.register
-grow_step {s} h l (work_done_lem y p q) = stays h s.register
+grow_step {s} h l (work_taken y p q) = stays h s.register
 grow_step {s} h l (save_done y p q u n) =
     by_equal h y.hull
     (λ e.

@@ -18,7 +18,7 @@ use Rattle.history.proofs.Tools.{at_or, self}
 use Rattle.history.proofs.Model.{Draft, State, refusal, at_desk, after_save}
 use Rattle.history.proofs.ModelStep.{fresh, state_of, events_of}
 use Rattle.history.proofs.Rules.{Refuses, work_idle}
-use Rattle.history.proofs.Rules.{Way, new_enters, new_unread, open_done, work_done_lem, save_done, drop_done}
+use Rattle.history.proofs.Rules.{Way, new_enters, new_unread, open_done, work_taken, save_done, drop_done}
 use Rattle.history.proofs.Rules.{ask_done, refused}
 use Rattle.history.proofs.SomeRule.{by_ways}
 use Rattle.history.proofs.AllReady.{Drafts, drafts, idle_none}
@@ -110,7 +110,7 @@ module _ {s : State} {past : List Event} (f : Tells s past) where
       one_desk g _ (λ h. refl)
       (rw (self, block, opening) (drawn_opened s past g h (says (Count (s.register.hull h).edits)) w (f.edits h)))
       (λ d n. rw (n, block, opening))
-  tells_step w (work_done_lem {d = g} {w = x} y p q) z =
+  tells_step w (work_taken {d = g} {w = x} y p q) z =
       one_desk g _ (λ h. refl)
       (rw (self, block, opening) (sym (drawn_worked (block g past) (opening g past) y g x (sym (f.drafts g) ∙ q))))
       (λ d n. rw (n, block, opening))
