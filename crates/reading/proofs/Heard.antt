@@ -6,7 +6,6 @@ use native.Mathlib.Omega.{arith}
 use lib.ListN.{length}
 use Rattle.text.specs.declared.TextRead.TheVariants.{Whole, Wrong}
 use Rattle.form.specs.Outcome.{Verdict, right, wrong}
-use Rattle.sheet.specs.TextCalls.{read_into}
 use Rattle.reading.specs.Filled.{told_as, Heard}
 
 module _ {A : Type 0} (count : A → ℕ) where

@@ -1,0 +1,13 @@
+-- `read_columns` meets its contract.
+use Rattle.reading.proofs.EnginesCall.{heard_long, heard_wrong, heard_whole}
+use Rattle.reading.proofs.engines.read_columns.Goals as goal
+
+pub returns-then-text-gt-MOST_TEXT : goal.returns-then-text-gt-MOST_TEXT
+returns-then-text-gt-MOST_TEXT c = heard_long c.args.text.now _ _ c.if-text-gt-MOST_TEXT.true
+
+pub returns-in-NoRows : goal.returns-in-NoRows
+returns-in-NoRows c =
+    rw c.wrong_at.ensures (heard_wrong c.args.text.now c.if-text-gt-MOST_TEXT.false c.in-NoRows.ensures)
+
+pub returns-in-Rows : goal.returns-in-Rows
+returns-in-Rows c = heard_whole c.args.text.now c.if-text-gt-MOST_TEXT.false c.in-Rows.ensures

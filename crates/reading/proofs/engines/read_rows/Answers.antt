@@ -1,0 +1,33 @@
+-- `read_rows` meets its contract.
+use Rattle.reading.proofs.EnginesLoop.{start, full}
+use Rattle.reading.proofs.EnginesTurn.{Turn, fault, bounds, last, step}
+use native.Mathlib.Omega.{arith}
+use Rattle.reading.proofs.engines.read_rows.Goals as goal
+use Rattle.reading.proofs.engines.read_rows.Goals.{After-read_row}
+
+turn : (c : After-read_row)
+    → Turn c.args.text.now c.args.powers.now c.args.weights.now c.loop-rows.powers c.loop-rows.weights
+    c.loop-rows.rows c.loop-rows.at c.loop-rows.next c.read_row.result
+turn c = record { state = c.loop-rows.invariant; few = c.loop-rows-test.true; row = c.read_row.ensures }
+
+pub loop-rows-init : goal.loop-rows-init
+loop-rows-init c = start _ _ _
+
+pub returns-in-NoRow : goal.returns-in-NoRow
+returns-in-NoRow c = fault (turn (goal.at.returns-in-NoRow c).After-read_row) c.in-NoRow.is
+
+pub overflow_add-next : goal.overflow_add-next
+overflow_add-next c =
+    omega (arith, bounds (turn (goal.at.overflow_add-next c).After-read_row) c.in-Numbers.is)
+
+pub returns-then-at-text : goal.returns-then-at-text
+returns-then-at-text c =
+    let here = turn (goal.at.returns-then-at-text c).After-read_row in
+    last here c.in-Numbers.is c.requires.0 c.requires.1 c.if-at-text.true
+
+pub loop-rows-preserved : goal.loop-rows-preserved
+loop-rows-preserved c =
+    step (turn (goal.at.loop-rows-preserved c).After-read_row) c.in-Numbers.is c.if-at-text.false
+
+pub returns : goal.returns
+returns c = full c.loop-rows.invariant c.loop-rows-test.false

@@ -1,0 +1,13 @@
+-- `read_words` meets its contract.
+use Rattle.reading.proofs.SheetCall.{heard_long, heard_wrong, heard_whole}
+use Rattle.reading.proofs.sheets.read_words.Goals as goal
+
+pub returns-then-text-gt-MOST_TEXT : goal.returns-then-text-gt-MOST_TEXT
+returns-then-text-gt-MOST_TEXT c = heard_long c.args.text.now _ c.if-text-gt-MOST_TEXT.true
+
+pub returns-in-Fault : goal.returns-in-Fault
+returns-in-Fault c =
+    rw c.wrong_at.ensures (heard_wrong c.args.text.now c.if-text-gt-MOST_TEXT.false c.in-Fault.ensures)
+
+pub returns-in-Taken : goal.returns-in-Taken
+returns-in-Taken c = heard_whole c.args.text.now c.if-text-gt-MOST_TEXT.false c.in-Taken.ensures
