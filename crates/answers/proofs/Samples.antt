@@ -1,6 +1,6 @@
 -- The refusals by their numbers, and each answer figure by figure, computed: no name and no figure can move unseen.
 use mathlib.Core.Path.{◌≡◌, refl}
-use mathlib.Core.List.{List, [], ◌∷◌, map}
+use mathlib.Core.List.{[], ◌∷◌, map}
 use Prim.Native.Nat.{ℕ}
 use Rattle.answers.specs.declared.Answer.TheVariants.{Refused, RefusedAt, Done, Count, Plate}
 use Rattle.answers.specs.Refusals.{bad_memory, broken_line, outside_limits, full, no_hull, no_desk, no_draft}

@@ -12,7 +12,6 @@ use Rattle.history.specs.Told.{Opening, opening, saves_of, redo}
 use Rattle.history.proofs.Tools.{none≢some, some_inj}
 use Rattle.history.proofs.Model.{Draft, State, work_says, opens, edited}
 use Rattle.history.proofs.ModelStep.{state_of}
-use Rattle.history.proofs.AllReady.{drafts}
 
 -- ---- what is told
 

@@ -14,9 +14,9 @@ use Rattle.register.specs.Calls.{Call, open_hull}
 use Rattle.history.specs.Replies.{Reply, accepted}
 use Rattle.history.specs.Runs.{Event, ◌⇒◌, call}
 use Rattle.history.specs.Told.{Opening, opening, saves_of}
-use Rattle.history.proofs.WholeBlock.{Whole, block_whole}
+use Rattle.history.proofs.WholeBlock.{block_whole}
 use Rattle.history.proofs.Model.{Register, State}
-use Rattle.history.proofs.ModelStep.{step, state_of, events_of}
+use Rattle.history.proofs.ModelStep.{state_of, events_of}
 use Rattle.history.proofs.Rules.{Way, new_enters, new_unread, open_done, work_taken, save_done, drop_done}
 use Rattle.history.proofs.Rules.{ask_done, refused}
 use Rattle.history.proofs.SomeRule.{by_ways}

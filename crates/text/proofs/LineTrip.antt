@@ -3,7 +3,7 @@
 use mathlib.Core.Path.{◌≡◌, refl}
 use mathlib.Core.Bool.{true}
 use mathlib.Core.List.{List, ◌++◌, append_assoc}
-use Prim.Native.Nat.{ℕ, ◌+◌}
+use Prim.Native.Nat.{ℕ}
 use lib.ListN.{length, drop, length-append}
 use lib.Seq.{drop-append_seam}
 use Rattle.text.specs.declared.LineRead.TheVariants.{Taken, Fault}
