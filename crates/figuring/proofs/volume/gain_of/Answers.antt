@@ -1,4 +1,5 @@
 -- `gain_of` meets its contract.
+use mathlib.Core.Path.{◌≡◌}
 use Rattle.capacity.specs.Volume.{volume_n}
 use Rattle.sheet.proofs.Words.{words_length}
 use Rattle.capacity.proofs.Within.{stations_within}
@@ -24,8 +25,12 @@ volume_of-requires c = search stations_within
 pub bounds-sheet-34 : goal.bounds-sheet-34
 bounds-sheet-34 c = omega (arith, words_length)
 
+-- what it returns is the sheet's gain, which fits
 pub overflow_add-result : goal.overflow_add-result
-overflow_add-result c = omega (arith, returns c, gain_most_lem)
+unfolding volume_n
+overflow_add-result c =
+    let whole : c.volume_of.result ≡ volume_n c.args.sheet.now = cc in
+    omega (arith, gain_most_lem)
 
 pub returns : goal.returns
 unfolding volume_n

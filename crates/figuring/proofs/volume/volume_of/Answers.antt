@@ -27,4 +27,14 @@ overflow_add-total-3 c = omega (arith, product_most_lem)
 -- what it returns is N, and N fits
 pub overflow_mul-result : goal.overflow_mul-result
 overflow_mul-result c =
-    record { fits = rw (returns c) (lt_of_le_of_lt (stations_most _ _ c.requires) (lit< tt)) }
+    record {
+      fits =
+        rw (
+          c.wide.ensures.0,
+          c.station_product-total.ensures,
+          c.station_product.ensures,
+          c.station_product-2.ensures,
+          c.station_product-total-2.ensures,
+        )
+        (lt_of_le_of_lt (stations_most _ _ c.requires) (lit< tt));
+    }
