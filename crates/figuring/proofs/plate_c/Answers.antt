@@ -1,16 +1,11 @@
 -- `plate_c` meets its contract.
-use Prim.Native.Nat.{◌*◌, ◌≤◌}
+use Prim.Native.Nat.{◌*◌}
 use lib.IntN.{sub_ℕ}
 use Rattle.capacity.proofs.Most.{c_most}
 use Rattle.capacity.proofs.Persons.{persons_most}
 use Rattle.capacity.proofs.Answers.{c_rows, c_unloaded, c_unreached, c_untested, c_empty, c_marks}
 use native.Mathlib.Omega.{arith}
 use Rattle.figuring.proofs.plate_c.Goals as goal
-use Rattle.figuring.proofs.plate_c.Goals.{After-marked_c-load}
-
-load-most : (c : After-marked_c-load) → c.marked_c-load.result ≤ 20000
-load-most c =
-    omega (arith, c_most _ c.requires c.args.weight)
 
 pub returns-then-load-eq0 : goal.returns-then-load-eq0
 returns-then-load-eq0 c = search c_unloaded
@@ -19,20 +14,19 @@ pub returns-then-lacks_row : goal.returns-then-lacks_row
 returns-then-lacks_row c = search c_unreached
 
 pub overflow_mul-load : goal.overflow_mul-load
-overflow_mul-load c = omega (arith, load-most (goal.at.overflow_mul-load c).After-marked_c-load)
+overflow_mul-load c = omega (arith, c_most _ c.requires c.args.weight)
 
 pub returns-then-lacks_tests : goal.returns-then-lacks_tests
 returns-then-lacks_tests c = search c_untested
 
 pub overflow_mul-load-then-rows_right : goal.overflow_mul-load-then-rows_right
-overflow_mul-load-then-rows_right c = omega (arith, load-most (goal.at.overflow_mul-load-then-rows_right c).After-marked_c-load)
+overflow_mul-load-then-rows_right c = omega (arith, c_most _ c.requires c.args.weight)
 
 pub returns-then-persons-eq0 : goal.returns-then-persons-eq0
 returns-then-persons-eq0 c = search c_empty
 
 pub overflow_cast-result : goal.overflow_cast-result
-overflow_cast-result c =
-    omega (arith, load-most (goal.at.overflow_cast-result c).After-marked_c-load)
+overflow_cast-result c = omega (arith, c_most _ c.requires c.args.weight)
 
 pub overflow_cast-result-then-rows_right : goal.overflow_cast-result-then-rows_right
 overflow_cast-result-then-rows_right c =

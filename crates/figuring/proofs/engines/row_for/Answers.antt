@@ -1,5 +1,4 @@
 -- `row_for` meets its contract.
-use Prim.Native.Nat.{◌-◌}
 use Rattle.capacity.proofs.Engines.{row_here, row_further, row_past}
 use native.Mathlib.Omega.{arith}
 use Rattle.figuring.proofs.engines.row_for.Goals as goal

@@ -30,7 +30,8 @@ pub pounds_of-requires-else-sheet-eq1-2 : goal.pounds_of-requires-else-sheet-eq1
 pounds_of-requires-else-sheet-eq1-2 c = (search rules, omega (arith, weight_most))
 
 pub returns-then-sheet-gt-TWO_HORSES : goal.returns-then-sheet-gt-TWO_HORSES
-returns-then-sheet-gt-TWO_HORSES c = cc (marked_fifth _ _ (eq-eqb _ _ c.if-sheet-eq1.true) c.if-sheet-gt-TWO_HORSES.true)
+returns-then-sheet-gt-TWO_HORSES c =
+    cc (marked_fifth _ _ (eq-eqb _ _ c.if-sheet-eq1.true) c.if-sheet-gt-TWO_HORSES.true)
 
 pub returns-else-sheet-gt-TWO_HORSES : goal.returns-else-sheet-gt-TWO_HORSES
 returns-else-sheet-gt-TWO_HORSES c =

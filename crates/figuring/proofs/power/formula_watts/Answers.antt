@@ -14,11 +14,12 @@ use Rattle.figuring.proofs.power.formula_watts.Goals.{else-sheet-eq1-via-then-sh
 use Rattle.figuring.proofs.power.formula_watts.Goals.{else-sheet-eq1-via-else-sheet-eq1}
 
 -- not by the formula of remote steering
-otherwise : (c : Joined-else-sheet-eq1) → (eqb (remote c.args.sheet.now) 1 && leb 500 (transom_height c.args.sheet.now)) ≡ false
+otherwise : (c : Joined-else-sheet-eq1) →
+    (eqb (remote c.args.sheet.now) 1 && leb 500 (transom_height c.args.sheet.now)) ≡ false
 otherwise c =
     elim c.else-sheet-eq1.branch [
       | else-sheet-eq1-via-then-sheet-eq1+else-sheet-ge500 w ↦
-        second_fails (eqb (remote c.args.sheet.now) 1) (lt-leb 500 _ w.if-sheet-ge500.false)
+          second_fails (eqb (remote c.args.sheet.now) 1) (lt-leb 500 _ w.if-sheet-ge500.false)
       | else-sheet-eq1-via-else-sheet-eq1 w ↦ first_fails _ (ne_eqb _ _ w.if-sheet-eq1.false)
     ]
 
@@ -54,9 +55,11 @@ returns-then-sheet-ge500 c =
 pub returns-then-sheet-eq1-2 : goal.returns-then-sheet-eq1-2
 returns-then-sheet-eq1-2 c =
     c.raised_watts-then-sheet-eq1-2.ensures
-    ∙ by_flat _ c.requires.factor (otherwise (goal.at.returns-then-sheet-eq1-2 c).Joined-else-sheet-eq1) (eq-eqb _ _ c.if-sheet-eq1-2.true)
+    ∙ by_flat _ c.requires.factor (otherwise (goal.at.returns-then-sheet-eq1-2 c).Joined-else-sheet-eq1)
+    (eq-eqb _ _ c.if-sheet-eq1-2.true)
 
 pub returns-else-sheet-eq1-2 : goal.returns-else-sheet-eq1-2
 returns-else-sheet-eq1-2 c =
     c.raised_watts-else-sheet-eq1-2.ensures
-    ∙ by_chine _ c.requires.factor (otherwise (goal.at.returns-else-sheet-eq1-2 c).Joined-else-sheet-eq1) (ne_eqb _ _ c.if-sheet-eq1-2.false)
+    ∙ by_chine _ c.requires.factor (otherwise (goal.at.returns-else-sheet-eq1-2 c).Joined-else-sheet-eq1)
+    (ne_eqb _ _ c.if-sheet-eq1-2.false)

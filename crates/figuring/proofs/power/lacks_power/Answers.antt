@@ -1,18 +1,9 @@
 -- `lacks_power` meets its contract.
-use mathlib.Core.Path.{◌≡◌}
-use Prim.Native.Nat.{◌*◌}
-use Rattle.capacity.specs.PlateA.{factor_p}
 use Rattle.capacity.proofs.Power.{factor_is, first_row}
 use borrow.Author.Tests.{eq-eqb}
 use Rattle.sheet.proofs.Words.{words_length}
 use native.Mathlib.Omega.{arith}
 use Rattle.figuring.proofs.power.lacks_power.Goals as goal
-use Rattle.figuring.proofs.power.lacks_power.Goals.{After-wide-2}
-
-factor : (c : After-wide-2) → c.wide.result * c.wide-2.result ≡ factor_p c.args.sheet.now
-factor c =
-    factor_is c.args.sheet.now c.wide.ensures.0
-    c.wide-2.ensures.0
 
 pub bounds-sheet-0 : goal.bounds-sheet-0
 bounds-sheet-0 c = omega (arith, words_length)
@@ -25,5 +16,5 @@ bounds-sheet-40 c = omega (arith, words_length)
 
 pub returns-then-sheet-eq1-2 : goal.returns-then-sheet-eq1-2
 returns-then-sheet-eq1-2 c =
-    first_row c.args.sheet.now (factor (goal.at.returns-then-sheet-eq1-2 c).After-wide-2) (eq-eqb _ _ c.if-sheet-eq1.true)
-    (eq-eqb _ _ c.if-sheet-eq1-2.true)
+    first_row c.args.sheet.now (factor_is c.args.sheet.now c.wide.ensures.0 c.wide-2.ensures.0)
+    (eq-eqb _ _ c.if-sheet-eq1.true) (eq-eqb _ _ c.if-sheet-eq1-2.true)

@@ -1,18 +1,10 @@
 -- `power_a` meets its contract.
-use mathlib.Core.Path.{◌≡◌, refl, ◌∙◌}
-use Prim.Native.Nat.{◌*◌}
-use Rattle.capacity.specs.PlateA.{factor_p}
+use mathlib.Core.Path.{refl, ◌∙◌}
 use Rattle.capacity.proofs.Power.{factor_is, no_outboard, by_formula, by_row}
 use borrow.Author.Tests.{eq-eqb, ne_eqb}
 use Rattle.sheet.proofs.Words.{words_length}
 use native.Mathlib.Omega.{arith}
 use Rattle.figuring.proofs.power.power_a.Goals as goal
-use Rattle.figuring.proofs.power.power_a.Goals.{After-wide-2}
-
-factor : (c : After-wide-2) → c.wide.result * c.wide-2.result ≡ factor_p c.args.sheet.now
-factor c =
-    factor_is c.args.sheet.now c.wide.ensures.0
-    c.wide-2.ensures.0
 
 pub bounds-sheet-0 : goal.bounds-sheet-0
 bounds-sheet-0 c = omega (arith, words_length)
@@ -29,10 +21,10 @@ returns-then-sheet-eq0 c = no_outboard _ (eq-eqb _ _ c.if-sheet-eq0.true)
 pub returns-then-p-gt-TABLE_END : goal.returns-then-p-gt-TABLE_END
 returns-then-p-gt-TABLE_END c =
     c.formula_watts.ensures
-    ∙ by_formula _ (factor (goal.at.returns-then-p-gt-TABLE_END c).After-wide-2) (ne_eqb _ _ c.if-sheet-eq0.false)
+    ∙ by_formula _ (factor_is c.args.sheet.now c.wide.ensures.0 c.wide-2.ensures.0) (ne_eqb _ _ c.if-sheet-eq0.false)
     c.if-p-gt-TABLE_END.true
 
 pub returns-else-p-gt-TABLE_END : goal.returns-else-p-gt-TABLE_END
 returns-else-p-gt-TABLE_END c =
-    c.row_watts.ensures ∙ by_row _ (factor (goal.at.returns-else-p-gt-TABLE_END c).After-wide-2)
+    c.row_watts.ensures ∙ by_row _ (factor_is c.args.sheet.now c.wide.ensures.0 c.wide-2.ensures.0)
     (ne_eqb _ _ c.if-sheet-eq0.false) c.if-p-gt-TABLE_END.false refl

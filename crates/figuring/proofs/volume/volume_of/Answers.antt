@@ -29,12 +29,12 @@ pub overflow_mul-result : goal.overflow_mul-result
 overflow_mul-result c =
     record {
       fits =
-        rw (
-          c.wide.ensures.0,
-          c.station_product-total.ensures,
-          c.station_product.ensures,
-          c.station_product-2.ensures,
-          c.station_product-total-2.ensures,
-        )
-        (lt_of_le_of_lt (stations_most _ _ c.requires) (lit< tt));
+          rw (
+            c.wide.ensures.0,
+            c.station_product-total.ensures,
+            c.station_product.ensures,
+            c.station_product-2.ensures,
+            c.station_product-total-2.ensures,
+          )
+          (lt_of_le_of_lt (stations_most _ _ c.requires) (lit< tt));
     }
