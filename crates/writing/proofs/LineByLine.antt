@@ -8,9 +8,11 @@ use lib.Seq.{drop-drop}
 use Rattle.text.specs.Line.{Line, Laid, line_text}
 use Rattle.text.proofs.Laid.{laid_none, laid_more, laid_length}
 use Rattle.sheet.specs.Lines.{lines}
+use Rattle.sheet.specs.Places.{fittings_at, text_words}
+use Rattle.sheet.specs.Sheet.{limit_rows}
 use Rattle.sheet.specs.SheetText.{sheet_text}
 use Rattle.sheet.proofs.Writing.{text_on, text_whole, text_line}
-use Rattle.writing.specs.Pieces.{LaidBefore}
+use Rattle.writing.specs.Pieces.{line_from, Due, LaidBefore}
 
 -- ls are still to be written, from the place `at` on, of the numbers from the place `from` on
 pub record Ahead (ls : List Line) (s o₀ o : List ℕ) (from at : ℕ) : Type 0 where
@@ -38,6 +40,18 @@ module _ {l : Line} {ls : List Line} {s o₀ o : List ℕ} {from at : ℕ} (p : 
       let x : List ℕ = line_text l (drop from s) in
       let n = length-append p.so (x ++ rest) in
       omega (arith, p.laid.end, laid_length p.laid, p.fits, ap length entered, length-append x rest)
+
+  -- it is due, where the limits and the words are as many as asked and its own are those from..to
+  pub due : {rows : List (List ℕ)} {tag : List ℕ} {to : ℕ}
+      → rows ≡ limit_rows
+      → length s ≡ text_words
+      → line_from tag from to ≡ l
+      → from ≤ to
+      → to ≤ 1 + fittings_at
+      → Due tag rows s from to o at
+  due t n e h k =
+      let same = ap (λ (m : Line). length (line_text m (drop from s))) e in
+      record { table = t; many = n; order = h; end = k; room = omega (arith, same, line_room) }
 
   pub step : {r : ℕ} {o₁ : List ℕ} → Laid (line_text l (drop from s)) o at r o₁
       → Ahead ls s o₀ o₁ (from + length l.limits) r
