@@ -1,11 +1,11 @@
 -- The changes to the memory, as the code makes them word after word.
 use mathlib.Core.Path.{◌≡◌, refl, sym, ap, ◌∙◌}
 use mathlib.Core.Logic.{inl, inr}
-use mathlib.Core.List.{List, [], ◌∷◌}
+use mathlib.Core.List.{List, [], ◌∷◌, ◌++◌, append-nil}
 use Prim.Native.Nat.{ℕ, suc, ◌+◌, ◌-◌, ◌≤◌, ◌<◌}
 use native.Mathlib.Omega.{arith}
-use lib.ListN.{length, get_or, set, take, drop, length-take, length-drop}
-use lib.Seq.{sets, take_all}
+use lib.ListN.{length, get_or, set, take, drop, replicate, length-take, length-drop}
+use lib.Seq.{sets, take_all, drop-length}
 use Rattle.ground.proofs.Stores.{put_back, part_sets, rest_part, sets_start}
 use Rattle.ground.specs.Lists.{put_first}
 use Rattle.capacity.specs.Weights.{boat_m}
@@ -16,6 +16,11 @@ use Rattle.memory.specs.Asked.{ToCopy}
 use Rattle.memory.specs.Updates.{entered, opened, replaced, dropped, saved}
 use Rattle.memory.proofs.Parts.{Outside, word_outside, sets_before, part_length, part_word, write_more}
 use Rattle.memory.proofs.Slots.{hull_run, draft_run}
+
+-- ---- every word 0
+
+pub cleared_whole : (m : List ℕ) {i : ℕ} → i ≡ length m → replicate i 0 ++ drop i m ≡ replicate (length m) 0
+cleared_whole m q = rw (q, drop-length m) (append-nil (replicate (length m) 0))
 
 -- ---- a weighed sheet copied within the memory
 
@@ -91,6 +96,10 @@ opened_as m d h z l e =
     let r : draft_weight_at d ≡ held_at d + length words = omega arith in
     rw (e, p, q, r, hull_run m h z l)
     (sets_before m (held_at d) words (hull_weight m h ∷ hull_sheet m h))
+
+-- the edit number that a save answers
+pub saved_edit : (m : List ℕ) (d : ℕ) {i : ℕ} → i ≡ draft_hull m d → edit m i + 1 ≡ edit m (draft_hull m d) + 1
+saved_edit m d q = rw q refl
 
 pub saved_as :
     (m : List ℕ) (d : ℕ) {i : ℕ} {o : List ℕ}

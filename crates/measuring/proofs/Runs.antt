@@ -17,6 +17,13 @@ limits_alike : (n : ℕ) (row : List ℕ) → limits_of (replicate n row) ≡ re
 limits_alike zero row = refl
 limits_alike (suc n) row = ap (λ (ls : List Limit). limit_of row ∷ ls) (limits_alike n row)
 
+pub run_low : {rows : List (List ℕ)}
+    → rows ≡ word_rows
+    → {at end : ℕ}
+    → AlikePart at end
+    → from_zero (limit_of (get_or rows at [])) ≡ true
+run_low e r = rw e r.low
+
 pub run_judged : {rows : List (List ℕ)}
     → rows ≡ word_rows
     → (ws : List ℕ)

@@ -1,5 +1,5 @@
 -- The fittings, written one after another.
-use mathlib.Core.Path.{◌≡◌, sym, ap, ◌∙◌}
+use mathlib.Core.Path.{◌≡◌, refl, sym, ap, ◌∙◌}
 use mathlib.Core.Bool.{false}
 use mathlib.Core.List.{List, [], ◌∷◌, ◌++◌, append-nil, append_assoc}
 use Prim.Native.Nat.{ℕ, suc, ◌+◌, ◌*◌, ◌≤◌, ◌<◌}
@@ -12,7 +12,7 @@ use Rattle.text.specs.Limit.{ranging}
 use Rattle.text.specs.Line.{Line, Laid, numbers_text, line_text}
 use Rattle.ground.proofs.Booleans.{by_test}
 use Rattle.ground.proofs.Stores.{drop_more}
-use Rattle.text.proofs.Laid.{laid_more, laid_length}
+use Rattle.text.proofs.Laid.{laid_none, laid_more, laid_length}
 use Rattle.sheet.specs.Lines.{fittings, fit_line}
 use Rattle.sheet.proofs.Writing.{fits_none, fits_empty, fits_line}
 use Rattle.writing.specs.Pieces.{fits_text}
@@ -47,6 +47,9 @@ pub record State (s o₀ o : List ℕ) (i at : ℕ) : Type 0 where
   pub so : List ℕ
   pub laid : Laid so o₀ 0 at o
   pub so_far : fits_text 1 s ≡ so ++ fits_text (i + 1) (drop (2 * i) s)
+
+pub start : (s o : List ℕ) → State s o o 0 0
+start s o = record { so = []; laid = laid_none o 0; so_far = refl }
 
 module _ {s o₀ o : List ℕ} {i at : ℕ} (p : State s o₀ o i at) (n : length s ≡ 2 * fittings) where
   pub done : fittings ≤ i → Laid (fits_text 1 s) o₀ 0 at o

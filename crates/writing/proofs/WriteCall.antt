@@ -1,16 +1,17 @@
 -- What the code that writes a whole sheet leaves, and what the call answers.
 use mathlib.Core.Path.{◌≡◌, sym, ap, ◌∙◌}
-use mathlib.Core.Bool.{true}
+use mathlib.Core.Bool.{true, false}
 use mathlib.Core.List.{List, [], ◌++◌}
-use Prim.Native.Nat.{ℕ, ◌+◌, ◌-◌, ◌*◌, ◌≤◌}
+use Prim.Native.Nat.{ℕ, ◌+◌, ◌-◌, ◌*◌, ◌≤◌, ◌<◌}
 use native.Mathlib.Omega.{arith}
-use borrow.Author.Tests.{le-leb}
+use borrow.Author.Tests.{le-leb, lt-leb}
 use lib.ListN.{length, take, drop, length-append, length-drop}
 use lib.Seq.{sets, take_at}
 use Rattle.text.specs.Line.{Laid, numbers_text, line_text}
 use Rattle.ground.proofs.Stores.{put_back, rest_part, sets_start}
 use Rattle.text.proofs.Laid.{laid_start, laid_more, laid_part, laid_length, laid_rest}
-use Rattle.answers.specs.declared.Answer.TheVariants.{Count}
+use Rattle.answers.specs.declared.Answer.TheVariants.{Refused, Count}
+use Rattle.answers.specs.Refusals.{outside_limits, no_room}
 use Rattle.answers.specs.Settled.{Settled}
 use Rattle.sheet.specs.Lines.{fittings, end_line}
 use Rattle.sheet.specs.Sheet.{sheet_ok}
@@ -44,6 +45,9 @@ module _ (s : List ℕ) {o₀ o₁ : List ℕ} {mid : ℕ}
 
   -- there is room for the fittings after them, and for END after those
   module _ (n : length s ≡ text_words) (r : length (sheet_text s) ≤ length o₀) where
+    pub lines_in : mid ≤ length o₁
+    lines_in = omega (arith, lengths, laid_length p.laid)
+
     pub fits_many : length (take (length s - fits_from) (drop fits_from s)) ≡ 2 * fittings
     fits_many = ap length (rest_part s fits_from) ∙ length-drop fits_from s ∙ rw n
 
@@ -76,6 +80,10 @@ module _ (s : List ℕ) {o₀ o₁ : List ℕ} {mid : ℕ}
 
 -- ---- the call
 
+pub settled_outside : (s o : List ℕ) → sheet_ok s ≡ false
+    → Settled (write_answer s (length o)) (write_into s o) (Refused outside_limits) o
+settled_outside s o e = record { answered = rw e; kept = rw e }
+
 -- the text of a sheet within the limits is the first len of the bytes bs
 pub record Written (s : List ℕ) (len : ℕ) (bs : List ℕ) : Type 0 where
   pub ok : sheet_ok s ≡ true
@@ -101,6 +109,11 @@ written {s} {zeros} {bs} {len} e p r =
     }
 
 module _ (o : List ℕ) {s bs : List ℕ} {len : ℕ} (p : Written s len bs) where
+  pub settled_short : length o < len → Settled (write_answer s (length o)) (write_into s o) (Refused no_room) o
+  settled_short h =
+      let n = lt-leb (length (sheet_text s)) (length o) (omega (arith, p.counted)) in
+      record { answered = rw (p.ok, n); kept = rw (p.ok, n) }
+
   pub settled_written : {o₁ : List ℕ} → len ≤ length o
       → o₁ ≡ sets o 0 (take len bs)
       → Settled (write_answer s (length o)) (write_into s o) (Count len) o₁
