@@ -3,13 +3,14 @@
 #![tactic(auto)]
 
 ghost use Rattle.std.specs.Prelude.{◌≡◌, ◌≤◌, length, take};
-ghost use Rattle.io.specs.Counts.{IsPrefixLen};
+ghost use Rattle.std.specs.Counts.{IsPrefixLen};
 ghost use Rattle.printout.specs.Printed.{printed};
 ghost use Rattle.plate.specs.Input.{bytes_of};
 
 use answers::Answer;
-use libc::{STDIN_FILENO, STDOUT_FILENO};
 use printing::MOST_PRINTED;
+use std::io::Read;
+use std::process::ExitCode;
 
 // One byte more than may be judged, so that an input that is too long is seen to be so.
 const ROOM: usize = 8193;
@@ -21,26 +22,27 @@ enum Reading {
     Failed,
 }
 
-// Reads once; no bytes are the input's end. A failure is said here, before another call can change what errno tells.
-fn read_once(room: &mut [u8]) -> Reading
+// Reads once; no bytes are the input's end. A failure is said here.
+fn read_once<R: Read>(rt: &impl Eprint, input: &mut R, room: &mut [u8]) -> Reading
     ensures { bytes_of result ≤ length room.new }
 {
-    let got = libc::read(STDIN_FILENO, room);
-    if got < 0 {
-        os::fail(b"standard input");
-        return Reading::Failed;
+    match input.read(room) {
+        Ok(count) => Reading::Bytes(count),
+        Err(error) => {
+            let _ = eprintln!(rt; "standard input: {error}");
+            Reading::Failed
+        }
     }
-    Reading::Bytes(io::count(got, room))
 }
 
 // Fills room from its start, until it is full or the input ends. A pipe hands over what it has, if only a byte: a short
 // piece is not the end.
-fn read_input(room: &mut [u8]) -> Reading
+fn read_input<R: Read>(rt: &impl Eprint, input: &mut R, room: &mut [u8]) -> Reading
     ensures { bytes_of result ≤ length room.new }
 {
     let mut end = 0;
     while end < room.len() {
-        let Reading::Bytes(count) = read_once(&mut room[end..]) else {
+        let Reading::Bytes(count) = read_once(rt, input, &mut room[end..]) else {
             return Reading::Failed;
         };
         if count == 0 {
@@ -52,23 +54,21 @@ fn read_input(room: &mut [u8]) -> Reading
 }
 
 // Reads a piece that nobody will judge.
-fn pass_piece() -> Reading {
-    let mut piece = io::buffer();
-    read_once(&mut piece)
+fn pass_piece<R: Read>(rt: &impl Eprint, input: &mut R) -> Reading {
+    let mut piece = [0u8; 4096];
+    read_once(rt, input, &mut piece)
 }
 
 // Reads on to the input's end, so that its writer is not cut off, and answers whether no read failed. A proved loop has
-// to end, and nothing says that an input does: the turns are counted down from a number that no run uses up.
-fn pass_rest() -> bool {
-    let mut turns = u64::MAX;
-    while turns > 0 {
-        let Reading::Bytes(count) = pass_piece() else {
+// to end, and nothing says that an input does: the turns are counted, up to a number that no run comes to.
+fn pass_rest<R: Read>(rt: &impl Eprint, input: &mut R) -> bool {
+    for _ in 0..u64::MAX {
+        let Reading::Bytes(count) = pass_piece(rt, input) else {
             return false;
         };
         if count == 0 {
             return true;
         }
-        turns -= 1;
     }
     true
 }
@@ -85,24 +85,33 @@ fn lay(input: &[u8], out: &mut [u8; MOST_PRINTED]) -> usize
     count as usize
 }
 
-// Writes what is printed of an input.
-fn print(input: &[u8]) {
+// Writes what is printed of an input, and answers whether that did not fail; a failure is said.
+fn print(rt: &(impl Print + Eprint), input: &[u8]) -> bool {
     let mut out = [0u8; MOST_PRINTED];
     let len = lay(input, &mut out);
-    if !io::write_all(STDOUT_FILENO, &out[..len]) {
-        os::fail(b"standard output");
+    match Print::write_all(rt, &out[..len]) {
+        Ok(()) => true,
+        Err(error) => {
+            let _ = eprintln!(rt; "standard output: {error}");
+            false
+        }
     }
 }
 
 // Reads the input to its end, and prints what is to be printed of it. After a failed read, which has been said, nothing
 // is printed.
-fn main() {
+fn main(rt: HostRuntime) -> ExitCode {
+    let mut input = rt.stdin();
     let mut room = [0u8; ROOM];
-    let Reading::Bytes(end) = read_input(&mut room) else {
-        return;
+    let Reading::Bytes(end) = read_input(&rt, &mut input, &mut room) else {
+        return ExitCode::FAILURE;
     };
-    if end == ROOM && !pass_rest() {
-        return;
+    if end == ROOM && !pass_rest(&rt, &mut input) {
+        return ExitCode::FAILURE;
     }
-    print(&room[..end]);
+    if print(&rt, &room[..end]) {
+        ExitCode::SUCCESS
+    } else {
+        ExitCode::FAILURE
+    }
 }

@@ -4,11 +4,11 @@
 #![tactic(auto)]
 
 ghost use Rattle.std.specs.Prelude.{◌≤◌, length};
-ghost use Rattle.io.specs.Counts.{IsPrefixLen};
+ghost use Rattle.std.specs.Counts.{IsPrefixLen};
 
 use answers::Answer;
-use libc::STDOUT_FILENO;
 use printing::MOST_PRINTED;
+use std::io;
 
 // Lays piece in page from a place on, if there is room for it, and answers the place after it.
 fn add(piece: &[u8], page: &mut [u8], at: usize) -> usize
@@ -23,52 +23,54 @@ fn add(piece: &[u8], page: &mut [u8], at: usize) -> usize
 }
 
 // Prints what the plate program prints of an input.
-fn print(input: &[u8]) {
+fn print(rt: &impl Print, input: &[u8]) -> io::Result<()> {
     let mut out = [0u8; MOST_PRINTED];
     let Answer::Count(count) = printing::print_plates(input, &mut out) else {
-        return;
+        return Ok(());
     };
-    let len = io::count(count as isize, &out);
-    io::write_all(STDOUT_FILENO, &out[..len]);
+    let len = out.len().min(count as usize);
+    Print::write_all(rt, &out[..len])
 }
 
 // Prints a label, then what is printed of the base hull with this FORM line and these lines from MASS to the last FIT.
-fn show(label: &[u8], form: &[u8], loads: &[u8]) {
+fn show(rt: &impl Print, label: &[u8], form: &[u8], loads: &[u8]) -> io::Result<()> {
     let stations = b"STN\tQ\t1000\t500\t500\t500\t500\t500\t500\n\
         STN\tR\t1000\t500\t500\t500\t500\t500\t500\n\
         STN\tS\t1000\t500\t500\t500\t500\t500\t500\n\
         STN\tT\t1000\t500\t500\t500\t500\t500\t500\n\
         VOL\t0\t0\t0\n";
     let engines = b"END\nENG\t10000\t45000\nENG\t20000\t60000\n";
-    let mut page = io::buffer();
+    let mut page = [0u8; 4096];
     let mut at = add(b"HULL\t0\n", &mut page, 0);
     at = add(form, &mut page, at);
     at = add(stations, &mut page, at);
     at = add(loads, &mut page, at);
     at = add(engines, &mut page, at);
-    io::write_all(STDOUT_FILENO, label);
-    print(&page[..at]);
+    Print::write_all(rt, label)?;
+    print(rt, &page[..at])
 }
 
 // Shows the printed sheet and then the cases, each under its label.
-fn main() {
+fn main(rt: HostRuntime) -> io::Result<()> {
     let remote = b"FORM\t4500\t4000\t1200\t500\t0\t1\n";
     let flat = b"FORM\t4500\t4000\t1200\t500\t1\t0\n";
     let other = b"FORM\t4500\t4000\t1200\t500\t0\t0\n";
     let base = b"MASS\t200000\t0\t0\nPWR\t1\t20000\nSEAT\t5\t-\n";
     show(
+        &rt,
         b"the printed sheet\n",
         remote,
         b"MASS\t200000\t0\t0\nPWR\t1\t20000\nSEAT\t5\t3\nFIT\t1\t3334\n",
-    );
+    )?;
     // An inboard's power is set by a trial, and marked 0.
     show(
+        &rt,
         b"case 5, inboard\n",
         remote,
         b"MASS\t200000\t20000\t50000\nPWR\t0\t20000\nSEAT\t5\t-\n",
-    );
+    )?;
     // The loads are case 1's. Of the 326 kg the row of 20000 W takes 60, and 266 kg are the weight of 3 persons.
-    show(b"case 8, remote and 500\n", remote, base);
-    show(b"case 8, flat without remote\n", flat, base);
-    show(b"case 8, other without remote\n", other, base);
+    show(&rt, b"case 8, remote and 500\n", remote, base)?;
+    show(&rt, b"case 8, flat without remote\n", flat, base)?;
+    show(&rt, b"case 8, other without remote\n", other, base)
 }
