@@ -18,18 +18,27 @@ quietly() { # COMMAND...
     rm -f "$heard"
 }
 
-# Proves and builds a program where that is still to be done, one script at a time where there is a flock: two would
-# take each other's unfinished proofs for failed. Dates it by when this began: rt leaves its date alone where only dates
-# or other crates changed, and scripts/run would take it for out of date for ever.
-build() { # NAME
+# Whether what rt built is there, and no file of the crates that it may be made of is newer.
+is_fresh() { # FILE
+    [ -f "$1" ] && [ -z "$(find crates.txt crates/*/src crates/*/specs crates/*/proofs -newer "$1" | head -n 1)" ]
+}
+
+# Has rt prove and build what a crate makes, crates/NAME/out/FILE, where that is still to be done. Dates it by when this
+# began: rt leaves its date alone where only dates or other crates changed, and it would be taken for out of date for
+# ever.
+build() { # run|lib NAME FILE
+    made=crates/$2/out/$3
+    if is_fresh "$made"; then return; fi
     begun=$(mktemp)
     built=0
-    alone=
-    if command -v flock >/dev/null 2>&1; then alone='flock crates.txt'; fi
-    # shellcheck disable=SC2086
-    { quietly $alone rt check "$1" && touch -r "$begun" "target/bin/$1"; } || built=1
+    { (cd "crates/$2" && quietly rt "$1" </dev/null) && touch -r "$begun" "$made"; } || built=1
     rm -f "$begun"
     return $built
+}
+
+# Proves and builds a program where that is still to be done. rt ci, which proves it from nothing, leaves it built too.
+build_program() { # NAME
+    build run "$1" "$1"
 }
 
 # A path as it was said where the script was called.
@@ -42,8 +51,8 @@ absolute() { # PATH
 find_archive() {
     archive=$(absolute "${ARCHIVE:-}")
     if [ -z "$archive" ]; then
-        archive=$PWD/target/staticlib/libface.a
-        quietly rt staticlib face || return 1
+        build lib face_c libface_c.a || return 1
+        archive=$PWD/crates/face_c/out/libface_c.a
     fi
     [ -f "$archive" ] || {
         echo "${0##*/}: there is no $archive" >&2
@@ -51,15 +60,11 @@ find_archive() {
     }
 }
 
-# Runs a built program as rt does: by the kit's own loader and C library, and by its emulator on a processor that is not
-# x86-64. With a COMMAND runs that instead, and gives it the words that run the program.
+# Runs a built program; with a COMMAND runs that instead, and gives it the word that runs the program.
 program() { # NAME [COMMAND...]
-    binary=target/bin/$1
+    binary=crates/$1/out/$1
     shift
-    tools=$(dirname "$(dirname "$(rt doc)")")/on/$(uname -m)/toolchain
-    emulator=$tools/bin/qemu-x86_64
-    [ -x "$emulator" ] || emulator=
-    "$@" ${emulator:+"$emulator"} "$tools/lib/ld-linux-x86-64.so.2" --library-path "$tools/lib" "$binary"
+    "$@" "$binary"
 }
 
 # Says in words what is wrong in the text on standard input, at the place that a refusal gives.
