@@ -81,4 +81,4 @@ pub record Figured (s : List ℕ) (gain : ℕ) (f : Figure) : Type 0 where
   pub grams_most : f.less_grams ≤ heaviest
   pub times_most : f.times ≤ 3
   pub some_parts : 0 < f.out_of
-  pub parts_most_lem : f.out_of ≤ 10
+  pub parts_most : f.out_of ≤ 10

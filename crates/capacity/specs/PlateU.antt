@@ -66,7 +66,7 @@ finer = 100000
 abbrev pub pound_fine : ℕ
 pound_fine = 45359237
 
--- a figure is a fraction of pounds, unreduced: 100000 × times × (Z − 180000 × lessGrams) over out_of × 180000 × 45359237
+-- a figure is a fraction of pounds, unreduced: 100000 × times × (Z − 180000 × less_grams) over out_of × 180000 × 45359237
 abbrev pub dividend_u : List ℕ → Figure → ℤ
 dividend_u s f = pos (f.times * finer) *ℤ (net_z s -ℤ pos gram *ℤ pos f.less_grams)
 

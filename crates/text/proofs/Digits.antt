@@ -18,7 +18,7 @@ use Rattle.text.proofs.Number.{length_digits_small, length_digits_more, length_d
 use Rattle.text.proofs.NumberSteps.{digit_low, digit_high, number_rest}
 use Rattle.text.proofs.NumberTrip.{read_writes, read_small}
 
--- nineDigits is the last number of nine digits
+-- `nine_digits` is the last number of nine digits
 nine : length (digits_of nine_digits) ≡ 9
 unfolding digits_of digits_in
 nine = refl
