@@ -16,7 +16,6 @@ use Rattle.text.specs.Place.{feeds}
 use Rattle.ground.proofs.Booleans.{both_hold, false_true, by_test, by_equal}
 use Rattle.text.proofs.Field.{field_stop, field_more}
 use Rattle.text.proofs.EntryTrip.{entry_field}
-use Rattle.text.proofs.LineAlone.{entry_feedless}
 use Rattle.text.proofs.Place.{feeds_other, feeds_append}
 use Rattle.sheet.specs.Renewed.{tabs}
 
@@ -44,20 +43,26 @@ tabs_append (b ∷ x) y =
     let ih = tabs_append x y in
     by_equal b tab (λ e. rw (eq-eqb b tab e, tabs) (omega arith)) (λ n. rw (ne_eqb b tab n, tabs) ih)
 
--- ---- a field has none, nor has a number as it is written
+-- ---- a field has neither
 
-field_tabless : (t : List ℕ) → tabs (field_of t) ≡ 0
-unfolding field_of tabs
-field_tabless [] = refl
-field_tabless (b ∷ t) =
-    by_test (eqb b tab || eqb b feed) (λ e. rw (field_stop b t e))
+neither : (b : ℕ) → (eqb b tab || eqb b feed) ≡ false → (b ≢ tab) × (b ≢ feed)
+neither b h =
+    by_test (eqb b tab) (λ e. absurd (true≢false (rw e at h)))
+    (λ e. (eqb-false b tab e, eqb-false b feed (rw e at h)))
+
+field_free : (t : List ℕ) → (feeds (field_of t) ≡ 0) × (tabs (field_of t) ≡ 0)
+unfolding field_of tabs feeds
+field_free [] = (refl, refl)
+field_free (b ∷ t) =
+    by_test (eqb b tab || eqb b feed) (λ e. rw (field_stop b t e) (refl, refl))
     (λ e.
-    let n = by_test (eqb b tab) (λ d. absurd (true≢false (rw d at e))) (eqb-false b tab) in
-    rw (field_more b t e) (tabs_other b (field_of t) n ∙ field_tabless t))
+    let n = neither b e in
+    let ih = field_free t in
+    rw (field_more b t e)
+    (feeds_other b (field_of t) n.1 ∙ ih.0, tabs_other b (field_of t) n.0 ∙ ih.1))
 
 pub entry_free : (l : Limit) (n : ℕ) → (feeds (entry_text l n) ≡ 0) × (tabs (entry_text l n) ≡ 0)
-entry_free l n =
-    (entry_feedless l n, rw (entry_field l n feed [] refl) at (field_tabless (entry_text l n ++ (feed ∷ []))))
+entry_free l n = rw (entry_field l n feed [] refl) at (field_free (entry_text l n ++ (feed ∷ [])))
 
 -- ---- numbers, and a line
 
