@@ -7,7 +7,7 @@ use Prim.Native.Nat.{ℕ, zero, suc, ◌≤◌, max}
 use native.Mathlib.Omega.{arith}
 use borrow.Author.Tests.{ne_eqb}
 use lib.Dec.{eqb}
-use lib.ListN.{drop}
+use lib.ListN.{get_or, drop}
 use Rattle.text.specs.Limit.{Limit, ranging, ranging_count, holds, all_hold}
 use Rattle.ground.proofs.Booleans.{both_hold, false_true}
 use Rattle.text.proofs.Bounds.{Between, ranging_between, between_ranging, Counted, count_counted, counted_count}
@@ -32,13 +32,15 @@ fit_pieces w c e h =
     let a = rw e at h in
     let p = both_hold (holds (ranging 1 fitting_high) 0 w) (holds count w c && true) a in
     let q = both_hold (holds count w c) true p.1 in
+    let z = count_counted 1 fitting_count count.rule w c (omega arith) q.0 in
     record {
       some = (ranging_between 1 fitting_high 0 w p.0).least;
-      counted = count_counted 1 fitting_count fitting_high w c (omega arith) q.0;
+      counted = record { least = z.least; most = z.most; product = omega (arith, z.product) };
     }
   where
+    -- the limit that a FIT line has for a count
     count : Limit
-    count = ranging_count 1 fitting_count fitting_high
+    count = get_or fit_line.limits 2 (ranging 0 0)
 
 -- one piece, at least, is no heavier than all
 pub piece_most : (w c : ℕ) → Pieces w c → w ≤ fitting_high

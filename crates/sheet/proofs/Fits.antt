@@ -41,7 +41,7 @@ fits_length zero (w ∷ s) h = false_true h
 fits_length (suc k) [] h = false_true h
 fits_length (suc k) (w ∷ []) h = false_true h
 fits_length (suc k) (w ∷ c ∷ s) h =
-    omega (arith, fits_length k s (both_hold (fit_ok w c) (fits_ok k s) h).1)
+    omega (arith, fits_length k s (both_hold _ (fits_ok k s) h).1)
 
 pub fits_append : (j k : ℕ) (s u : List ℕ) → fits_ok j s ≡ true → fits_ok k u ≡ true → fits_ok (j + k) (s ++ u) ≡ true
 unfolding fits_ok

@@ -104,7 +104,8 @@ ok_on_lem : (ls : List Line) (s : List ℕ) → ok_on ls s ≡ true → parts_ok
 unfolding parts_ok rows_on ok_on all_hold
 ok_on_lem [] s h =
     let ok = fits_ok_lem fittings s 0 1 h (omega arith) (omega arith) (omega arith) in
-    let f = held_part fit_part (fit_rows 1 s) (omega arith) (fits_few fittings 1 s h) ok in
+    let few = fits_few fittings 1 s h in
+    let f = held_part fit_part (fit_rows 1 s) (omega arith) (omega arith) ok in
     rw (f, single_ok end_line [] refl)
 ok_on_lem (l ∷ ls) s h =
     let n : ℕ = length l.limits in
