@@ -21,7 +21,7 @@ use Rattle.form.proofs.CountExamples.{lot_line, yard}
 use Rattle.fault.specs.Rules.{ByRules}
 use Rattle.fault.specs.Faulty.{Faulty}
 use Rattle.fault.proofs.LineSamples.{Every}
-use Rattle.fault.proofs.Made.{can_be, sayable}
+use Rattle.fault.proofs.Sayable.{can_be, sayable}
 use Rattle.fault.proofs.Theorems.{form_place}
 
 -- ---- forms of which there are texts, and such as there are none of

@@ -20,7 +20,8 @@ pub mod Rest  -- what stands after a line
 pub mod Count  -- how many lines a part may still have
 pub mod Rows  -- the rows of a part, read
 pub mod RowsRefused  -- the rows of a part, refused
-pub mod Made  -- forms of which there are texts
+pub mod Sayable  -- forms of which there are texts
+pub mod Made  -- there are texts of them
 pub mod Parts  -- the parts of a text, one after the other
 pub mod Ended  -- a broken limit stands in a field that has ended, and nothing before its end is at fault
 pub mod LineEnded  -- so of a line

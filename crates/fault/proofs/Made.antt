@@ -1,5 +1,4 @@
--- Forms of which there are texts: every part can be, from its least to its most lines, and has some kind of line where
--- one must stand. A closed form is sayable by `refl`.
+-- Of forms that are well made and sayable there are texts.
 use mathlib.Core.Path.{◌≡◌, refl, ◌∙◌}
 use mathlib.Core.Bool.{Bool, true, ◌&&◌, ◌||◌}
 use mathlib.Core.Logic.{inl, inr}
@@ -18,15 +17,9 @@ use Rattle.form.proofs.Made.{absent_none, disjoint, apart, told, parts_made}
 use Rattle.form.proofs.Trip.{told_apart}
 use Rattle.fault.specs.Rules.{Rule, OneThen, LinesThen, PartsRule}
 use Rattle.fault.proofs.Rules.{Some}
+use Rattle.fault.proofs.Sayable.{can_be, sayable}
 use Rattle.fault.proofs.OneOf.{distinct, line_kind}
 use Rattle.fault.proofs.Count.{Away, Fits, some_part}
-
-unfoldable pub can_be : Part → Bool
-can_be p = leb p.least p.most && (leb p.least 0 || ltb 0 (length p.kinds))
-
-unfoldable pub sayable : List Part → Bool
-sayable [] = true
-sayable (p ∷ ps) = can_be p && sayable ps
 
 -- ---- parts that are apart have no text that begins as a line of the kinds
 

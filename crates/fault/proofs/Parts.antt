@@ -17,7 +17,8 @@ use Rattle.form.proofs.RowsBack.{RowsBack, rows_back}
 use Rattle.fault.specs.Rules.{Just, PartsRule}
 use Rattle.fault.specs.Faulty.{Faulty}
 use Rattle.fault.specs.Reached.{Spot, RowsPassed, PartsStop, Refusal}
-use Rattle.fault.proofs.Made.{sayable, able}
+use Rattle.fault.proofs.Sayable.{sayable}
+use Rattle.fault.proofs.Made.{able}
 use Rattle.fault.proofs.Rows.{rows_goes}
 use Rattle.fault.proofs.RowsRefused.{rows_refused}
 

@@ -18,7 +18,8 @@ use Rattle.form.proofs.RowsBack.{rows_back}
 use Rattle.fault.specs.Rules.{Rule, PartThen, PartsRule}
 use Rattle.fault.proofs.Count.{Fits}
 use Rattle.fault.proofs.Rows.{rows_goes}
-use Rattle.fault.proofs.Made.{sayable, able}
+use Rattle.fault.proofs.Sayable.{sayable}
+use Rattle.fault.proofs.Made.{able}
 use Rattle.fault.proofs.Ended.{Ended, ended_led}
 use Rattle.fault.proofs.RowsEnded.{rows_ended_lem}
 

@@ -15,7 +15,7 @@ use Rattle.form.proofs.Made.{well_made}
 use Rattle.form.proofs.Verdict.{saying_right, saying_wrong, form_long, no_line}
 use Rattle.fault.specs.Rules.{ByRules}
 use Rattle.fault.specs.Faulty.{Faulty}
-use Rattle.fault.proofs.Made.{sayable}
+use Rattle.fault.proofs.Sayable.{sayable}
 use Rattle.fault.proofs.Longest.{parts_longest, parts_longest_lem}
 use Rattle.fault.proofs.Tellings.{FaultTold, fault_reworded, RulesTold, rules_reworded}
 use Rattle.fault.proofs.Verdicts as Verdicts

@@ -23,7 +23,7 @@ use Rattle.fault.specs.Rules.{ByRules}
 use Rattle.fault.specs.Faulty.{Faulty}
 use Rattle.fault.specs.Reached.{PartsStop, Refusal}
 use Rattle.fault.proofs.Rules.{one_place}
-use Rattle.fault.proofs.Made.{sayable}
+use Rattle.fault.proofs.Sayable.{sayable}
 use Rattle.fault.proofs.Parts.{parts_taken, parts_stop}
 use Rattle.fault.proofs.Ended.{Ended, ended_before}
 use Rattle.fault.proofs.PartsEnded.{parts_ended}

@@ -20,7 +20,7 @@ use Rattle.form.specs.Reading.{read_rows, read_parts, read_form}
 use Rattle.form.proofs.Letters.{line_made, kinds_made}
 use Rattle.form.proofs.Most.{kinds_most, parts_most}
 use Rattle.form.proofs.Made.{disjoint, apart, told, parts_made, well_made}
-use Rattle.fault.proofs.Made.{can_be, sayable}
+use Rattle.fault.proofs.Sayable.{can_be, sayable}
 use Rattle.fault.proofs.Verdicts.{WrongAt, wrong_settled}
 
 abbrev few : Line

@@ -19,7 +19,7 @@ use Rattle.form.proofs.Trip.{reads_written}
 use Rattle.fault.specs.Rules.{ByRules}
 use Rattle.fault.specs.Faulty.{Faulty}
 use Rattle.fault.specs.Reached.{PartsStop}
-use Rattle.fault.proofs.Made.{sayable}
+use Rattle.fault.proofs.Sayable.{sayable}
 use Rattle.fault.proofs.Ended.{Ended}
 use Rattle.fault.proofs.Tellings.{Refusing, FaultTold, fault_reworded, RulesTold, rules_reworded}
 use Rattle.fault.proofs.Theorems.{lost_at, parts_accepted, form_place, held_before, limit_place, limit_ended}

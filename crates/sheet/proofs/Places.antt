@@ -8,7 +8,7 @@ use Prim.Native.Nat.{ℕ, ◌≤◌}
 use native.Mathlib.Omega.{arith}
 use lib.ListN.{length}
 use Rattle.fault.specs.Rules.{ByRules}
-use Rattle.fault.proofs.Made.{can_be, sayable}
+use Rattle.fault.proofs.Sayable.{can_be, sayable}
 use Rattle.fault.proofs.Longest.{kinds_longest, parts_longest, parts_longest_lem}
 use Rattle.fault.proofs.Readers.{PlacesTold, places_told}
 use Rattle.sheet.specs.SheetText.{sheet_form, sheet_of, read_sheet}

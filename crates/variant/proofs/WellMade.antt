@@ -14,7 +14,7 @@ use Rattle.form.proofs.Letters.{line_made, kinds_made}
 use Rattle.form.proofs.Most.{kinds_most, parts_most}
 use Rattle.form.proofs.Made.{disjoint, apart, told, parts_made, well_made}
 use Rattle.fault.specs.Rules.{ByRules}
-use Rattle.fault.proofs.Made.{can_be, sayable}
+use Rattle.fault.proofs.Sayable.{can_be, sayable}
 use Rattle.fault.proofs.Longest.{kinds_longest, parts_longest, parts_longest_lem}
 use Rattle.fault.proofs.Readers.{PlacesTold, places_told}
 use Rattle.variant.specs.VariantText.{variant_form, read_variant}
