@@ -23,20 +23,23 @@ is_fresh() { # FILE
     [ -f "$1" ] && [ -z "$(find crates.txt crates/*/src crates/*/specs crates/*/proofs -newer "$1" | head -n 1)" ]
 }
 
-# Has rt prove and build what a crate makes, crates/NAME/out/FILE, where that is still to be done. Dates it by when this
-# began: rt leaves its date alone where only dates or other crates changed, and it would be taken for out of date for
-# ever.
+# Has rt prove and build what a crate makes, crates/NAME/out/FILE, where that is still to be done, one script at a time
+# where there is a flock: two would take each other's unfinished proofs for failed. Dates it by when this began: rt
+# leaves its date alone where only dates or other crates changed, and it would be taken for out of date for ever.
 build() { # run|lib NAME FILE
     made=crates/$2/out/$3
     if is_fresh "$made"; then return; fi
     begun=$(mktemp)
     built=0
-    { (cd "crates/$2" && quietly rt "$1" </dev/null) && touch -r "$begun" "$made"; } || built=1
+    alone=
+    if command -v flock >/dev/null 2>&1; then alone='flock ../../crates.txt'; fi
+    # shellcheck disable=SC2086
+    { (cd "crates/$2" && quietly $alone rt "$1" </dev/null) && touch -r "$begun" "$made"; } || built=1
     rm -f "$begun"
     return $built
 }
 
-# Proves and builds a program where that is still to be done. rt ci, which proves it from nothing, leaves it built too.
+# Proves and builds a program where that is still to be done. rt ci leaves it built too.
 build_program() { # NAME
     build run "$1" "$1"
 }
