@@ -6,6 +6,7 @@ usage: python3 tools/turn_edits.py COMMIT TURNED [ROOT]
 COMMIT is the last one in the older spelling, where every edit fits; TURNED the one that port.py and respell.py made.
 In a clone at COMMIT each edit is made on a copy of its own, beside the file that it names; the kit's port.py and
 respell.py turn these copies with the rest; what differs then between a copy and the file beside it is the edit today.
+(It takes some six minutes. TURNED_TREE, if set, names such a clone, turned before.)
 Sentences and names of edits stay. `left:` names an edit that needs a hand, with what differs.
 """
 import difflib
