@@ -5,8 +5,8 @@ use mathlib.Core.List.{List}
 use Prim.Native.Nat.{ℕ}
 use borrow.Author.Tests.{ne_eqb}
 use Rattle.form.specs.Outcome.{right, wrong}
-use Rattle.answers.specs.declared.Answer.{Answer}
-use Rattle.answers.specs.declared.Answer.TheVariants.{Refused, RefusedAt, Done}
+use Rattle.answers.specs.Answer.{Answer}
+use Rattle.answers.specs.Answer.{Refused, RefusedAt, Done}
 use Rattle.answers.specs.Settled.{Settled}
 use Rattle.sheet.specs.SheetText.{read_sheet}
 use Rattle.register.specs.Refusals.{or_refused, leaves, on_text}

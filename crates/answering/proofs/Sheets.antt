@@ -10,7 +10,7 @@ use lib.Seq.{take_all}
 use Rattle.text.specs.declared.TextRead.TheVariants.{Whole}
 use Rattle.sheet.specs.Places.{sheet_words}
 use Rattle.sheet.specs.SheetText.{read_sheet}
-use Rattle.answers.specs.declared.Answer.{Answer}
+use Rattle.answers.specs.Answer.{Answer}
 use Rattle.answers.specs.Settled.{Settled}
 use Rattle.sheet.specs.TextCalls.{write_answer, write_into}
 use Rattle.ground.specs.Lists.{put_first}

@@ -3,8 +3,8 @@ use mathlib.Core.Path.{◌≡◌, refl, sym, ◌∙◌}
 use mathlib.Core.Bool.{true, false}
 use mathlib.Core.Logic.{◌⊎◌, inl, inr}
 use Prim.Native.Nat.{ℕ}
-use Rattle.answers.specs.declared.Answer.{Answer}
-use Rattle.answers.specs.declared.Answer.TheVariants.{RefusedAt}
+use Rattle.answers.specs.Answer.{Answer}
+use Rattle.answers.specs.Answer.{RefusedAt}
 use Rattle.answers.specs.Values.{is_listed, is_placed}
 use Rattle.answers.specs.Settled.{Settled}
 

@@ -2,7 +2,7 @@
 use mathlib.Core.Path.{◌≡◌, refl}
 use mathlib.Core.List.{[], ◌∷◌, map}
 use Prim.Native.Nat.{ℕ}
-use Rattle.answers.specs.declared.Answer.TheVariants.{Refused, RefusedAt, Done, Count, Plate}
+use Rattle.answers.specs.Answer.{Refused, RefusedAt, Done, Count, Plate}
 use Rattle.answers.specs.Refusals.{bad_memory, broken_line, outside_limits, full, no_hull, no_desk, no_draft}
 use Rattle.answers.specs.Refusals.{edited_since, edits_spent, bad_rows, no_row, no_load, no_power, untested, no_persons}
 use Rattle.answers.specs.Refusals.{no_room, empty_line}

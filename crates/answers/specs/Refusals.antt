@@ -1,5 +1,9 @@
 -- 01, Refusal numbers: the table, each by its name, in 01's order. There are no others, and 0 stands for none.
 use Rattle.std.specs.Prelude.{ℕ}
+use Rattle.answers.specs.declared.Refusal.{Refusal}
+use Rattle.answers.specs.declared.Refusal.TheVariants.{BadMemory, BrokenLine, OutsideLimits, Full, NoHull, NoDesk, NoDraft}
+use Rattle.answers.specs.declared.Refusal.TheVariants.{EditedSince, EditsSpent, BadRows, NoRow, NoLoad, NoPower, Untested}
+use Rattle.answers.specs.declared.Refusal.TheVariants.{NoPersons, NoRoom, EmptyLine}
 
 -- ---- the register's memory, and texts
 
@@ -59,3 +63,24 @@ no_room = 16
 
 abbrev pub empty_line : ℕ
 empty_line = 17
+
+-- ---- the number of each of the code's refusals
+
+abbrev pub number : Refusal → ℕ
+number BadMemory = bad_memory
+number BrokenLine = broken_line
+number OutsideLimits = outside_limits
+number Full = full
+number NoHull = no_hull
+number NoDesk = no_desk
+number NoDraft = no_draft
+number EditedSince = edited_since
+number EditsSpent = edits_spent
+number BadRows = bad_rows
+number NoRow = no_row
+number NoLoad = no_load
+number NoPower = no_power
+number Untested = untested
+number NoPersons = no_persons
+number NoRoom = no_room
+number EmptyLine = empty_line

@@ -1,11 +1,22 @@
 -- 01, Where each language form belongs, on answers that are enums: this paper's number and values for each case, as the
 -- promises cite them. A refusal is its number and no figures; 02 (v): that of a text has its line and its byte. An
 -- accepted call has refusal 0 and its figures. Figures that are not used are 0.
-use Rattle.std.specs.Prelude.{Bool, true, false, ◌&&◌, leb}
-use Rattle.answers.specs.declared.Answer.{Answer}
-use Rattle.answers.specs.declared.Answer.TheVariants.{Refused, RefusedAt, Done, Count, Plate}
+use Rattle.std.specs.Prelude.{Bool, true, false, ◌&&◌, leb, Result, Ok, Err}
+use Rattle.answers.specs.declared.Figures.{Figures}
+use Rattle.answers.specs.declared.Figures.TheVariants as Code
+use Rattle.answers.specs.declared.Refused as Why
+use Rattle.answers.specs.declared.Refused.TheVariants as By
 use Rattle.answers.specs.declared.WbAnswer.{WbAnswer}
-use Rattle.answers.specs.Refusals.{bad_memory, empty_line}
+use Rattle.answers.specs.Answer.{Answer, Refused, RefusedAt, Done, Count, Plate}
+use Rattle.answers.specs.Refusals.{number, bad_memory, empty_line}
+
+-- what the code answers, in 01's numbers
+abbrev pub in_numbers : Result Figures Why.Refused → Answer
+in_numbers (Ok Code.Done) = Done
+in_numbers (Ok (Code.Count n)) = Count n
+in_numbers (Ok (Code.Plate load figure)) = Plate load figure
+in_numbers (Err (By.Plain r)) = Refused (number r)
+in_numbers (Err (By.InText f)) = RefusedAt (number f.refusal) f.line f.byte
 
 abbrev pub faced : Answer → WbAnswer
 faced (Refused number) = record { refusal = number; first = 0; second = 0; third = 0 }

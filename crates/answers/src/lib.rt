@@ -2,52 +2,85 @@
 // Definitions in specs/, laws in proofs/.
 #![tactic(auto)]
 
-// The refusals: the one table for the code. A test holds it to the definitions' (specs/Refusals.antt), the header's and
-// the man page's.
-pub const BAD_MEMORY: u32 = 1;
+ghost use Rattle.std.specs.Prelude.{◌≡◌};
+ghost use Rattle.answers.specs.declared.Refused.TheVariants.{Plain, InText};
+ghost use Rattle.answers.specs.Refusals.{number};
+ghost use Rattle.answers.specs.Values.{in_numbers, faced};
 
-pub const BROKEN_LINE: u32 = 2;
+// The refusals, each with 01's number: the one table for the code. A test holds it to the definitions'
+// (specs/Refusals.antt), the header's and the man page's.
+#[derive(Clone, Copy, PartialEq, Eq)]
+pub enum Refusal {
+    BadMemory = 1,
+    BrokenLine = 2,
+    OutsideLimits = 3,
+    Full = 4,
+    NoHull = 5,
+    NoDesk = 6,
+    NoDraft = 7,
+    EditedSince = 8,
+    EditsSpent = 9,
+    BadRows = 10,
+    NoRow = 11,
+    NoLoad = 12,
+    NoPower = 13,
+    Untested = 14,
+    NoPersons = 15,
+    NoRoom = 16,
+    EmptyLine = 17,
+}
 
-pub const OUTSIDE_LIMITS: u32 = 3;
+impl From<Refusal> for u32 {
+    ghost from_gives = { λ r n. n ≡ number r };
 
-pub const FULL: u32 = 4;
+    fn from(refusal: Refusal) -> u32 {
+        refusal as u32
+    }
+}
 
-pub const NO_HULL: u32 = 5;
+// What refuses a text: the refusal, with the line and the byte of the fault, both from 1, or both 0 where the text is
+// too long.
+#[derive(Clone, Copy, PartialEq, Eq)]
+pub struct TextFault {
+    pub refusal: Refusal,
+    pub line: u32,
+    pub byte: u32,
+}
 
-pub const NO_DESK: u32 = 6;
+// What refuses a call: a refusal by itself, or that of a text.
+#[derive(Clone, Copy, PartialEq, Eq)]
+pub enum Refused {
+    Plain(Refusal),
+    InText(TextFault),
+}
 
-pub const NO_DRAFT: u32 = 7;
+impl From<Refusal> for Refused {
+    ghost from_gives = { λ r e. e ≡ Plain r };
 
-pub const EDITED_SINCE: u32 = 8;
+    fn from(refusal: Refusal) -> Refused {
+        Refused::Plain(refusal)
+    }
+}
 
-pub const EDITS_SPENT: u32 = 9;
+impl From<TextFault> for Refused {
+    ghost from_gives = { λ f e. e ≡ InText f };
 
-pub const BAD_ROWS: u32 = 10;
+    fn from(fault: TextFault) -> Refused {
+        Refused::InText(fault)
+    }
+}
 
-pub const NO_ROW: u32 = 11;
-
-pub const NO_LOAD: u32 = 12;
-
-pub const NO_POWER: u32 = 13;
-
-pub const UNTESTED: u32 = 14;
-
-pub const NO_PERSONS: u32 = 15;
-
-pub const NO_ROOM: u32 = 16;
-
-pub const EMPTY_LINE: u32 = 17;
-
-// What a call answers: a refusal by its number alone, or that of a text by its number, line and byte, or that it was
-// done, or a count (of hulls, edits, bytes, rows or pounds), or a plate's load and its other figure.
-#[derive(Drop)]
-pub enum Answer {
-    Refused(u32),
-    RefusedAt(u32, u32, u32),
+// What an accepted call says: that it was done, or a count (of hulls, edits, bytes, rows or pounds), or a plate's load
+// and its other figure.
+#[derive(Clone, Copy, PartialEq, Eq)]
+pub enum Figures {
     Done,
     Count(u32),
     Plate(u32, u32),
 }
+
+// What a call answers.
+pub type Answer = Result<Figures, Refused>;
 
 // An answer as C reads it: a refusal, with a text's line and byte as figures, or refusal 0 and the figures; those
 // unused are 0.
@@ -58,4 +91,46 @@ pub struct WbAnswer {
     pub first: u32,
     pub second: u32,
     pub third: u32,
+}
+
+impl WbAnswer {
+    // Of a call that was accepted.
+    fn accepted(first: u32, second: u32) -> WbAnswer
+        ensures { result ≡ record { refusal = 0; first = first; second = second; third = 0 } }
+    {
+        WbAnswer {
+            refusal: 0,
+            first,
+            second,
+            third: 0,
+        }
+    }
+
+    // Of a call that was refused, with the place in a text or none.
+    fn refused(refusal: Refusal, line: u32, byte: u32) -> WbAnswer
+        ensures { result ≡ record { refusal = number refusal; first = line; second = byte; third = 0 } }
+    {
+        WbAnswer {
+            refusal: u32::from(refusal),
+            first: line,
+            second: byte,
+            third: 0,
+        }
+    }
+}
+
+impl From<Answer> for WbAnswer {
+    ghost from_gives = { λ a w. w ≡ faced (in_numbers a) };
+
+    fn from(answer: Answer) -> WbAnswer {
+        match answer {
+            Ok(Figures::Done) => WbAnswer::accepted(0, 0),
+            Ok(Figures::Count(n)) => WbAnswer::accepted(n, 0),
+            Ok(Figures::Plate(load, figure)) => WbAnswer::accepted(load, figure),
+            Err(Refused::Plain(refusal)) => WbAnswer::refused(refusal, 0, 0),
+            Err(Refused::InText(fault)) => {
+                WbAnswer::refused(fault.refusal, fault.line, fault.byte)
+            }
+        }
+    }
 }

@@ -5,7 +5,7 @@ use mathlib.Core.List.{List}
 use Prim.Native.Nat.{ℕ, ◌*◌}
 use lib.IntN.{sub_ℕ}
 use Rattle.ground.proofs.Booleans.{either}
-use Rattle.answers.specs.declared.Answer.TheVariants.{Refused, Count, Plate}
+use Rattle.answers.specs.Answer.{Refused, Count, Plate}
 use Rattle.answers.specs.Refusals.{bad_rows, no_row, no_load, no_power, untested, no_persons}
 use Rattle.answers.proofs.Outcomes.{OfList, Unplaced}
 use Rattle.capacity.specs.Whole.{is_below, or_zero}

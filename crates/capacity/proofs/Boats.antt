@@ -3,7 +3,7 @@ use mathlib.Core.Bool.{Bool, true, ◌&&◌}
 use mathlib.Core.List.{List, [], ◌∷◌, ◌++◌}
 use Prim.Native.Nat.{ℕ, zero, suc}
 use lib.ListN.{take, set, replicate}
-use Rattle.answers.specs.declared.Answer.{Answer}
+use Rattle.answers.specs.Answer.{Answer}
 use Rattle.sheet.specs.Sheet.{words_ok}
 use Rattle.capacity.specs.Kinds.{PlateKind, kind_a, kind_c, kind_u, plate_of}
 use Rattle.capacity.specs.Samples.{words_to, words}

@@ -1,6 +1,6 @@
 -- Cases of plate A: each figure of its rules at its value and one beside it, and its refusals two at once.
 use mathlib.Core.List.{List, [], ◌∷◌}
-use Rattle.answers.specs.declared.Answer.TheVariants.{Refused, Plate}
+use Rattle.answers.specs.Answer.{Refused, Plate}
 use Rattle.capacity.specs.Samples.{seated, load, power, inboard}
 use Rattle.capacity.proofs.Boats.{Told, on_a, massed, launch, transom, driven, bare_boat}
 

@@ -3,8 +3,8 @@ use mathlib.Core.List.{List, [], ◌∷◌}
 use Prim.Native.Nat.{ℕ}
 use lib.ListN.{replicate}
 use Rattle.text.proofs.Examples.{up_from}
-use Rattle.answers.specs.declared.Answer.{Answer}
-use Rattle.answers.specs.declared.Answer.TheVariants.{Refused, Plate}
+use Rattle.answers.specs.Answer.{Answer}
+use Rattle.answers.specs.Answer.{Refused, Plate}
 use Rattle.capacity.specs.Samples.{seated, load, power, inboard}
 use Rattle.capacity.proofs.Boats.{Told, on_c, weighing, massed, launch, transom, seats}
 

@@ -1,7 +1,7 @@
 -- Cases of fittings, each on all three plates: a line weighs the weight of one piece times how many there are.
 use mathlib.Core.List.{List, [], ◌∷◌, ◌++◌}
 use Prim.Native.Nat.{ℕ}
-use Rattle.answers.specs.declared.Answer.TheVariants.{Refused, Count, Plate}
+use Rattle.answers.specs.Answer.{Refused, Count, Plate}
 use Rattle.capacity.proofs.Boats.{Told, on_a, weighing, on_u, pieced, laden}
 
 -- the loads that plates C, A and U mark

@@ -1,7 +1,7 @@
 -- Cases of plate U: 02's figures and one beside each number of its rules.
 use mathlib.Core.List.{List, [], ◌∷◌}
 use lib.ListN.{replicate}
-use Rattle.answers.specs.declared.Answer.TheVariants.{Refused, Count}
+use Rattle.answers.specs.Answer.{Refused, Count}
 use Rattle.capacity.specs.Samples.{load, power}
 use Rattle.capacity.proofs.Boats.{Told, on_u, massed, stationed, launch}
 

@@ -11,7 +11,7 @@ use lib.ListN.{length, get_or, take, drop}
 use lib.Seq.{get_or-take}
 use Rattle.ground.proofs.Booleans.{both_hold, false_true, by_test}
 use Rattle.text.specs.Limit.{Limit, or_none, is_none, holds, all_hold}
-use Rattle.text.proofs.Limit.{within_high, holds_within, none_zero}
+use Rattle.text.proofs.Limits.{within_high, holds_within, none_zero}
 use Rattle.sheet.specs.Lines.{lines}
 use Rattle.sheet.specs.Sheet.{limits_on}
 use Rattle.sheet.specs.Places.{fittings_at}
@@ -34,11 +34,11 @@ at_most (l ∷ ls) last (n ∷ ns) e (suc k) = at_most ls n ns (both_hold (holds
 
 -- and at least its low end, but for one of which there may be none
 abbrev pub least_of : Limit → ℕ
-least_of l = cond (eqb l.rule or_none) 0 l.low
+least_of l = cond (or_none l.rule) 0 l.low
 
 holds_low : (l : Limit) (last n : ℕ) → holds l last n ≡ true → least_of l ≤ n
 holds_low l last n e =
-    by_test (eqb l.rule or_none) (λ d. rw d (omega arith))
+    by_test (or_none l.rule) (λ d. rw d (omega arith))
     (λ d. rw d (leb-true l.low n (both_hold (leb l.low n) _ (rw d at e)).0))
 
 pub at_least : (ls : List Limit) (last : ℕ) (ns : List ℕ) → all_hold ls last ns ≡ true

@@ -10,7 +10,7 @@ use Rattle.text.specs.Number.{rest_of, number_of}
 use Rattle.text.specs.Limit.{all_hold}
 use Rattle.text.specs.Line.{read_entry, read_numbers, read_line}
 use Rattle.text.proofs.Examples.{up_from}
-use Rattle.answers.specs.declared.Answer.TheVariants.{Refused}
+use Rattle.answers.specs.Answer.{Refused}
 use Rattle.form.specs.Parts.{kind_of, numbers_of}
 use Rattle.form.specs.Outcome.{right}
 use Rattle.form.specs.Reading.{read_rows, read_parts, read_form}

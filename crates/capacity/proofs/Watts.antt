@@ -9,8 +9,8 @@ use borrow.Author.Tests.{leb-true, ltb-true, ltb-false, eq-eqb, ne_eqb, eqb-true
 use lib.Dec.{eqb, leb, ltb}
 use lib.ListN.{get_or}
 use Rattle.ground.proofs.Booleans.{both_hold, either}
-use Rattle.answers.specs.declared.Answer.{Answer}
-use Rattle.answers.specs.declared.Answer.TheVariants.{Refused, RefusedAt, Done, Count, Plate}
+use Rattle.answers.specs.Answer.{Answer}
+use Rattle.answers.specs.Answer.{Refused, RefusedAt, Done, Count, Plate}
 use Rattle.answers.specs.Refusals.{no_power}
 use Rattle.capacity.specs.Whole.{is_below, or_zero}
 use Rattle.capacity.specs.Words.{transom_height, flat_bottom, remote, outboard}

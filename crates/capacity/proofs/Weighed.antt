@@ -5,8 +5,8 @@ use mathlib.Core.Bool.{Bool, true, false}
 use mathlib.Core.List.{List, [], ◌∷◌, map}
 use Prim.Native.Nat.{ℕ}
 use lib.Seq.{sets}
-use Rattle.answers.specs.declared.Answer.{Answer}
-use Rattle.answers.specs.declared.Answer.TheVariants.{Refused, Count, Plate}
+use Rattle.answers.specs.Answer.{Answer}
+use Rattle.answers.specs.Answer.{Refused, Count, Plate}
 use Rattle.text.specs.Limit.{all_hold}
 use Rattle.sheet.specs.Places.{fitting_word}
 use Rattle.sheet.specs.Sheet.{ok_on, fits_ok}

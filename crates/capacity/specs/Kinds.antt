@@ -1,7 +1,7 @@
 -- 01, Plates, and 02 (i): which plate is asked for, with what its caller gives it, and that plate. A call on the
 -- register takes a kind as data, so that its laws are said once for every plate.
 use Rattle.std.specs.Prelude.{ℕ, List}
-use Rattle.answers.specs.declared.Answer.{Answer}
+use Rattle.answers.specs.Answer.{Answer}
 use Rattle.capacity.specs.Weights.{boat_m}
 use Rattle.capacity.specs.PlateC.{plate_c}
 use Rattle.capacity.specs.PlateA.{plate_a}

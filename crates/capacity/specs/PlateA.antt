@@ -1,8 +1,8 @@
 -- 01, Plate A (003, A2, A3, 2.6.1), as 02 (ii) amends it. Load first, then power, then the two refusals, 12 before 13.
 -- 02 (vii): M is handed in, so that the load is by a weight m and a sheet s.
 use Rattle.std.specs.Prelude.{ℕ, suc, ◌+◌, ◌-◌, ◌*◌, Bool, ◌&&◌, cond, List, [], ◌∷◌, eqb, leb, ltb, get_or, ℤ, pos, ◌+ℤ◌, ◌-ℤ◌, ◌*ℤ◌}
-use Rattle.answers.specs.declared.Answer.{Answer}
-use Rattle.answers.specs.declared.Answer.TheVariants.{Refused, Plate}
+use Rattle.answers.specs.Answer.{Answer}
+use Rattle.answers.specs.Answer.{Refused, Plate}
 use Rattle.answers.specs.Refusals.{no_load, no_power}
 use Rattle.capacity.specs.Whole.{floor_div, ceil_div, is_below, or_zero}
 use Rattle.capacity.specs.Words.{hull_length, transom_width, transom_height, flat_bottom, remote, fuel, machinery}

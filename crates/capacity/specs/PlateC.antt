@@ -2,8 +2,8 @@
 -- 01's order: 10, 12, 11, 14, 15. 02 (vii): M is handed in, so that every figure is by a weight m and a sheet s.
 -- Engine rows come as two lists of numbers, powers and weights.
 use Rattle.std.specs.Prelude.{ℕ, suc, ◌+◌, ◌*◌, Bool, true, false, not, ◌&&◌, cond, List, [], ◌∷◌, eqb, leb, ltb, length, get_or, ℤ, pos, ◌-ℤ◌, ◌*ℤ◌}
-use Rattle.answers.specs.declared.Answer.{Answer}
-use Rattle.answers.specs.declared.Answer.TheVariants.{Refused, Plate}
+use Rattle.answers.specs.Answer.{Answer}
+use Rattle.answers.specs.Answer.{Refused, Plate}
 use Rattle.answers.specs.Refusals.{bad_rows, no_row, no_load, untested, no_persons}
 use Rattle.sheet.specs.Lines.{most_rows, engine_power_high, engine_weight_high}
 use Rattle.capacity.specs.Whole.{floor_div, is_below, least, or_zero}

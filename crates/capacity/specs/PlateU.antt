@@ -2,8 +2,8 @@
 -- displacement is Z, the net volume as water. Every figure
 -- is over whole numbers and may be below zero. 02 (vii): M is handed in, so that all is by a weight m and a sheet s.
 use Rattle.std.specs.Prelude.{ℕ, ◌+◌, ◌*◌, cond, List, eqb, ltb, ℤ, pos, ◌-ℤ◌, ◌*ℤ◌}
-use Rattle.answers.specs.declared.Answer.{Answer}
-use Rattle.answers.specs.declared.Answer.TheVariants.{Refused, Count}
+use Rattle.answers.specs.Answer.{Answer}
+use Rattle.answers.specs.Answer.{Refused, Count}
 use Rattle.answers.specs.Refusals.{no_load}
 use Rattle.capacity.specs.Whole.{floor_div, is_below, greatest, or_zero}
 use Rattle.capacity.specs.Words.{fuel, machinery, outboard, declared}

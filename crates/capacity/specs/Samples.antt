@@ -1,8 +1,8 @@
 -- 01, Sample sheets: the base hull, what a case changes of it and what it says. Starred cases 1 to 7, which are of a
 -- sheet.
 use Rattle.std.specs.Prelude.{Bool, false, ◌&&◌, cond, List, [], ◌∷◌, ◌++◌, ℕ, eqb, leb, ℤ, pos, negsuc, replicate}
-use Rattle.answers.specs.declared.Answer.{Answer}
-use Rattle.answers.specs.declared.Answer.TheVariants.{Refused, RefusedAt, Done, Count, Plate}
+use Rattle.answers.specs.Answer.{Answer}
+use Rattle.answers.specs.Answer.{Refused, RefusedAt, Done, Count, Plate}
 use Rattle.answers.specs.Refusals.{no_power}
 use Rattle.sheet.specs.Sheet.{words_ok}
 use Rattle.capacity.specs.Weights.{boat_m}

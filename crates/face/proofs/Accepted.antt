@@ -6,8 +6,8 @@ use mathlib.Core.List.{List}
 use Prim.Native.Nat.{ℕ}
 use lib.Dec.{leb}
 use Rattle.answers.specs.Refusals.{bad_memory, empty_line}
-use Rattle.answers.specs.declared.Answer.{Answer}
-use Rattle.answers.specs.declared.Answer.TheVariants.{Refused, RefusedAt, Done, Count, Plate}
+use Rattle.answers.specs.Answer.{Answer}
+use Rattle.answers.specs.Answer.{Refused, RefusedAt, Done, Count, Plate}
 use Rattle.sheet.specs.SheetText.{read_sheet}
 use Rattle.sheet.specs.EngineText.{read_engines}
 use Rattle.sheet.specs.TextCalls.{read_answer, write_answer, engines_answer}

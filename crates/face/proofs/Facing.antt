@@ -1,6 +1,6 @@
 -- A promise as C reads it: of the call's own answer, faced.
 use mathlib.Core.Path.{◌≡◌, ap, ◌∙◌}
-use Rattle.answers.specs.declared.Answer.{Answer}
+use Rattle.answers.specs.Answer.{Answer}
 use Rattle.answers.specs.Settled.{Settled}
 use Rattle.answers.specs.declared.WbAnswer.{WbAnswer}
 use Rattle.answers.specs.Values.{faced}

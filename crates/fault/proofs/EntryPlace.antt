@@ -10,7 +10,7 @@ use lib.Dec.{eqb}
 use lib.ListN.{length, take, drop}
 use lib.Seq.{take-length}
 use Rattle.ground.proofs.Booleans.{both_hold, by_less}
-use Rattle.text.specs.declared.NumberRead.TheVariants.{Value, Malformed}
+use Rattle.std.specs.Prelude.{Ok, Err}
 use Rattle.text.specs.Quoted.{dash}
 use Rattle.text.specs.Field.{field_of, begins}
 use Rattle.text.specs.Number.{number_of}
@@ -50,7 +50,7 @@ module _ (rule e : ℕ) (w : Ends e) (S : Rule) (some : Some S) (t : List ℕ) w
         let c : (eqb rule or_none && begins dash t) ≡ true = rw (a, ← q, b) in
         absurd (true≢false (sym c ∙ d))
 
-    pub no_number : (i : ℕ) → number_of (field_of t) ≡ Malformed i → Faulty (Then (Entry rule e) S) t i
+    pub no_number : (i : ℕ) → number_of (field_of t) ≡ Err i → Faulty (Then (Entry rule e) S) t i
     no_number i v =
         let p = number_faulty (field_of t) i v in
         let g : List ℕ = take i (field_of t) ++ p.sound.rest in
@@ -71,7 +71,7 @@ module _ (rule e : ℕ) (w : Ends e) (S : Rule) (some : Some S) (t : List ℕ) w
 
   -- ---- a number, not ended as it must be
 
-  pub number_unended : (n : ℕ) → number_of (field_of t) ≡ Value n
+  pub number_unended : (n : ℕ) → number_of (field_of t) ≡ Ok n
       → begins e (drop (length (field_of t)) t) ≡ false
       → Faulty (Then (Entry rule e) S) t (length (field_of t))
   number_unended n v b =

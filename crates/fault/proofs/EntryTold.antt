@@ -11,17 +11,17 @@ use lib.ListN.{length, drop}
 use lib.Seq.{drop-drop}
 use Rattle.answers.specs.Refusals.{broken_line, outside_limits}
 use Rattle.ground.proofs.Booleans.{both_hold, by_test}
-use Rattle.text.specs.declared.NumberRead.{NumberRead}
-use Rattle.text.specs.declared.NumberRead.TheVariants.{Value, Malformed}
-use Rattle.text.specs.declared.EntryRead.{EntryRead}
-use Rattle.text.specs.declared.EntryRead.TheVariants.{Number, Misread}
+use Rattle.text.specs.Number.{NumberRead}
+use Rattle.std.specs.Prelude.{Ok, Err}
+use Rattle.text.specs.Read.{EntryRead}
+use Rattle.text.specs.Read.{Number, Misread}
 use Rattle.text.specs.Quoted.{dash}
 use Rattle.text.specs.Field.{field_of, begins}
 use Rattle.text.specs.Number.{number_of}
 use Rattle.text.specs.Limit.{Limit, or_none, is_none, within}
 use Rattle.text.specs.Line.{judged, read_entry, entry_text}
 use Rattle.text.proofs.Field.{begins_cons, field_more, field_split}
-use Rattle.text.proofs.Limit.{within_some}
+use Rattle.text.proofs.Limits.{within_some}
 use Rattle.text.proofs.NumberSteps as Steps
 use Rattle.text.proofs.NumberTrip.{read_small, read_writes}
 use Rattle.text.proofs.EntryTrip.{Ends, ender_ends}
@@ -52,24 +52,24 @@ module _ (l : Limit) (ls : List Limit) (last e : ℕ) (t : List ℕ) (by : Ended
 
   -- ---- a `-` for none
 
-  dash_told : (eqb l.rule or_none && begins dash t) ≡ true → Told (Number 0 2)
+  dash_told : (or_none l.rule && begins dash t) ≡ true → Told (Number 0 2)
   dash_told d =
-      let r = (both_hold (eqb l.rule or_none) (begins dash t) d).0 in
+      let r = (both_hold (or_none l.rule) (begins dash t) d).0 in
       let n : is_none l 0 ≡ true = rw r in
       rw n (as_dash (eqb-true l.rule or_none r) refl)
 
-  dash_refused : (eqb l.rule or_none && begins dash t) ≡ true → begins e (drop 1 t) ≡ false → Refused broken_line 1
+  dash_refused : (or_none l.rule && begins dash t) ≡ true → begins e (drop 1 t) ≡ false → Refused broken_line 1
   dash_refused d b =
-      let x = begins_cons dash t (both_hold (eqb l.rule or_none) (begins dash t) d).1 in
+      let x = begins_cons dash t (both_hold (or_none l.rule) (begins dash t) d).1 in
       let y : f ≡ dash ∷ field_of (drop 1 t) = ap field_of x ∙ field_more dash (drop 1 t) refl in
       in_form_lem 1 (dash_unended l.rule e (ended_ends by) S some t d b) (omega (arith, ap length y))
 
   -- ---- a number
 
-  value_told : (n : ℕ) → number_of f ≡ Value n → within l last n ≡ true → Told (Number n (length f + 1))
+  value_told : (n : ℕ) → number_of f ≡ Ok n → within l last n ≡ true → Told (Number n (length f + 1))
   value_told n v i = rw (within_some l last n i) (in_digits (small_numeral n (read_small f n v)))
 
-  value_outside : (n : ℕ) → number_of f ≡ Value n → begins e (drop (length f) t) ≡ true → within l last n ≡ false
+  value_outside : (n : ℕ) → number_of f ≡ Ok n → begins e (drop (length f) t) ≡ true → within l last n ≡ false
       → Refused outside_limits 0
   value_outside n v b i =
       let x : drop (length f) t ≡ e ∷ drop (length f + 1) t =
@@ -86,11 +86,11 @@ module _ (l : Limit) (ls : List Limit) (last e : ℕ) (t : List ℕ) (by : Ended
       } in
       record { form = λ q. absurd (omega arith); limits = in_limit refl refl y }
 
-  judged_told : (r : NumberRead) → (eqb l.rule or_none && begins dash t) ≡ false → number_of f ≡ r
+  judged_told : (r : NumberRead) → (or_none l.rule && begins dash t) ≡ false → number_of f ≡ r
       → Told (judged r l last e (length f) (drop (length f) t))
-  judged_told (Malformed i) d v =
+  judged_told (Err i) d v =
       in_form_lem i (no_number l.rule e (ended_ends by) S some t d i v) (Steps.number_place f i v)
-  judged_told (Value n) d v =
+  judged_told (Ok n) d v =
       by_test (begins e (drop (length f) t))
       (λ b.
       by_test (within l last n) (λ i. rw (b, i) (value_told n v i)) (λ i. rw (b, i) (value_outside n v b i)))
@@ -102,7 +102,7 @@ module _ (l : Limit) (ls : List Limit) (last e : ℕ) (t : List ℕ) (by : Ended
   told : Told (read_entry l last e t)
   unfolding read_entry
   told =
-      by_test (eqb l.rule or_none && begins dash t)
+      by_test (or_none l.rule && begins dash t)
       (λ d.
       by_test (begins e (drop 1 t)) (λ b. rw (d, b) (dash_told d)) (λ b. rw (d, b) (dash_refused d b)))
       (λ d. rw d (judged_told (number_of f) d refl))

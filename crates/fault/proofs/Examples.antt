@@ -8,7 +8,7 @@ use Rattle.text.specs.Field.{field_of, agreed}
 use Rattle.text.specs.Number.{number_of, rest_of, digits_in, digits_of}
 use Rattle.text.specs.Line.{read_entry, read_numbers, read_line}
 use Rattle.text.proofs.LineExamples.{Case, case}
-use Rattle.text.proofs.Limit.{narrow, readable}
+use Rattle.text.proofs.Limits.{narrow, readable}
 use Rattle.text.proofs.Most.{numbers_most}
 use Rattle.form.specs.Parts.{Part, Form, some_lines, one_line, kind_of}
 use Rattle.form.specs.Outcome.{lost}

@@ -5,8 +5,8 @@ use mathlib.Core.List.{List, [], ◌∷◌, ◌++◌, append_assoc}
 use Prim.Native.Nat.{ℕ, suc, ◌+◌}
 use native.Mathlib.Omega.{arith}
 use lib.ListN.{drop, length-append}
-use Rattle.text.specs.declared.EntryRead.TheVariants.{Number, Misread}
-use Rattle.text.specs.declared.LineRead.TheVariants.{Fault}
+use Rattle.text.specs.Read.{Number, Misread}
+use Rattle.text.specs.Read.{Fault}
 use Rattle.text.specs.Quoted.{tab}
 use Rattle.text.specs.Limit.{Limit, all_hold}
 use Rattle.text.specs.Line.{ender, read_entry, entry_text}

@@ -6,8 +6,8 @@ use native.Mathlib.Nat.{add_assoc, zero-add}
 use lib.ListN.{drop}
 use lib.Seq.{drop-drop}
 use Rattle.ground.proofs.Booleans.{false_true}
-use Rattle.text.specs.declared.LineRead.{LineRead}
-use Rattle.text.specs.declared.LineRead.TheVariants.{Taken, Fault}
+use Rattle.text.specs.Read.{LineRead}
+use Rattle.text.specs.Read.{Taken, Fault}
 use Rattle.text.specs.Line.{shift_by}
 use Rattle.text.proofs.Led.{Led}
 use Rattle.fault.specs.Rules.{Rule, Then}

@@ -9,7 +9,7 @@ use borrow.Author.Tests.{eq-eqb, ne_eqb}
 use lib.ListN.{length, drop}
 use Rattle.answers.specs.Refusals.{broken_line}
 use Rattle.ground.proofs.Booleans.{false_true, by_equal}
-use Rattle.text.specs.declared.LineRead.TheVariants.{Taken, Fault}
+use Rattle.text.specs.Read.{Taken, Fault}
 use Rattle.text.specs.Field.{agreed}
 use Rattle.text.specs.Line.{Line, Reading, read_numbers, read_line}
 use Rattle.text.proofs.Field.{agreed_whole, agreed_most, agreed_take}

@@ -12,13 +12,13 @@ use lib.ListN.{length, length-append}
 use lib.Seq.{drop-append_seam, take-append-add}
 use Rattle.answers.specs.Refusals.{outside_limits}
 use Rattle.ground.proofs.Booleans.{both_hold, by_test}
-use Rattle.text.specs.declared.LineRead.TheVariants.{Taken}
+use Rattle.text.specs.Read.{Taken}
 use Rattle.text.specs.Quoted.{tab}
 use Rattle.text.specs.Field.{field_of}
 use Rattle.text.specs.Number.{eleven_digits, digits_of}
 use Rattle.text.specs.Limit.{Limit, or_none, is_none, holds, all_hold}
 use Rattle.text.specs.Line.{Line, read_line, entry_text, line_text}
-use Rattle.text.proofs.Limit.{narrow, readable, readable_narrow, holds_small}
+use Rattle.text.proofs.Limits.{narrow, readable, readable_narrow, holds_small}
 use Rattle.text.proofs.LineTrip.{line_forth}
 use Rattle.fault.specs.Rules.{Rule, Then, Field, in_digits, as_dash, Entry, FieldsThen, LineThen}
 use Rattle.fault.specs.Reached.{EndedBy, as_due, short, Outside, FieldStops, in_form, in_limit}
@@ -37,7 +37,7 @@ held_field : (l : Limit) (last n : ℕ) → ltb l.high eleven_digits ≡ true �
     → Field l.rule (entry_text l n)
 held_field l last n w h =
     by_test (is_none l n)
-    (λ e. rw e (as_dash (eqb-true l.rule or_none (both_hold (eqb l.rule or_none) (eqb n 0) e).0) refl))
+    (λ e. rw e (as_dash (eqb-true l.rule or_none (both_hold (or_none l.rule) (eqb n 0) e).0) refl))
     (λ e. rw e (in_digits (small_numeral n (holds_small l last n w h))))
 
 -- a number outside its limit, with its end, and then some text by S

@@ -11,13 +11,13 @@ use lib.ListN.{length, take, drop}
 use lib.Seq.{drop-append_seam}
 use Rattle.answers.specs.Refusals.{broken_line}
 use Rattle.ground.proofs.Booleans.{by_test, by_equal}
-use Rattle.text.specs.declared.LineRead.{LineRead}
+use Rattle.text.specs.Read.{LineRead}
 use Rattle.text.specs.Quoted.{tab, feed}
 use Rattle.text.specs.Field.{field_of, agreed}
 use Rattle.text.specs.Limit.{Limit}
 use Rattle.text.specs.Line.{Line, read_numbers, read_line}
 use Rattle.text.proofs.Field.{field_stop, field_more, agreed_self}
-use Rattle.text.proofs.Limit.{narrow, readable, readable_narrow}
+use Rattle.text.proofs.Limits.{narrow, readable, readable_narrow}
 use Rattle.text.proofs.Line.{line_tagged, line_untagged, extent, extent_shift}
 use Rattle.fault.specs.Reached.{FieldStops, in_form, in_limit, last_of, tabbed, NumbersStop}
 use Rattle.fault.specs.Reached.{LineStops, in_tag, in_numbers}

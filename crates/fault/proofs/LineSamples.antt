@@ -4,7 +4,7 @@ use mathlib.Core.Path.{◌≡◌, refl}
 use mathlib.Core.List.{List, [], ◌∷◌, map}
 use Prim.Native.Nat.{ℕ}
 use Rattle.answers.specs.Refusals.{broken_line, outside_limits}
-use Rattle.text.specs.declared.NumberRead.TheVariants.{Malformed}
+use Rattle.std.specs.Prelude.{Err}
 use Rattle.text.specs.Quoted.{bytes}
 use Rattle.text.specs.Number.{rest_of, number_of}
 use Rattle.text.specs.Line.{Line}
@@ -30,7 +30,7 @@ abbrev NoNumber : Case → Type 0
 NoNumber c = Faulty Numeral (bytes c.text) c.place
 
 no_numbers : (cs : List Case)
-    → map (λ (c : Case). number_of (bytes c.text)) cs ≡ map (λ (c : Case). Malformed c.place) cs
+    → map (λ (c : Case). number_of (bytes c.text)) cs ≡ map (λ (c : Case). Err c.place) cs
     → Every NoNumber cs
 no_numbers [] e = tt
 no_numbers (c ∷ cs) e = (number_faulty (bytes c.text) c.place (cc), no_numbers cs (cc))

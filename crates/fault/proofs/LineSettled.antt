@@ -12,9 +12,9 @@ use lib.ListN.{length, drop, length-append}
 use lib.Seq.{drop-append_seam, drop-drop}
 use Rattle.answers.specs.Refusals.{outside_limits}
 use Rattle.ground.proofs.Booleans.{both_hold}
-use Rattle.text.specs.declared.EntryRead.TheVariants.{Number, Misread}
-use Rattle.text.specs.declared.LineRead.{LineRead}
-use Rattle.text.specs.declared.LineRead.TheVariants.{Taken, Fault}
+use Rattle.text.specs.Read.{Number, Misread}
+use Rattle.text.specs.Read.{LineRead}
+use Rattle.text.specs.Read.{Taken, Fault}
 use Rattle.text.specs.Quoted.{tab, feed}
 use Rattle.text.specs.Field.{field_of, begins}
 use Rattle.text.specs.Number.{eleven_digits, digits_of}
@@ -22,7 +22,7 @@ use Rattle.text.specs.Limit.{Limit, holds, spare, all_hold}
 use Rattle.text.specs.Line.{Line, shift_by, ender, stops_short, read_entry, read_numbers, read_line, entry_text}
 use Rattle.text.proofs.Field.{field_stop, agreed_self}
 use Rattle.text.proofs.NumberTrip.{written_reads, field_digits, no_dash}
-use Rattle.text.proofs.Limit.{narrow, readable, readable_narrow, holds_small}
+use Rattle.text.proofs.Limits.{narrow, readable, readable_narrow, holds_small}
 use Rattle.text.proofs.Entry.{outside}
 use Rattle.text.proofs.EntryTrip.{entry_field, entry_forth}
 use Rattle.text.proofs.Line.{numbers_short, numbers_whole, line_tagged}

@@ -6,7 +6,7 @@ use Prim.Native.Nat.{ℕ, ◌+◌}
 use native.Mathlib.Nat.{add-zero}
 use lib.ListN.{drop}
 use Rattle.ground.proofs.Booleans.{false_true, by_test}
-use Rattle.text.specs.declared.LineRead.TheVariants.{Taken, Fault}
+use Rattle.text.specs.Read.{Taken, Fault}
 use Rattle.text.specs.Quoted.{feed}
 use Rattle.text.specs.Limit.{Limit}
 use Rattle.text.specs.Line.{ender, stops_short, read_entry, read_numbers}

@@ -7,8 +7,8 @@ use Prim.Native.Nat.{ℕ, suc}
 use native.Mathlib.Omega.{arith}
 use lib.ListN.{take}
 use Rattle.ground.proofs.Booleans.{false_true}
-use Rattle.text.specs.declared.NumberRead.{NumberRead}
-use Rattle.text.specs.declared.NumberRead.TheVariants.{Value, Malformed}
+use Rattle.text.specs.Number.{NumberRead}
+use Rattle.std.specs.Prelude.{Ok, Err}
 use Rattle.text.specs.Number.{number_of}
 use Rattle.text.proofs.NumberTrip.{read_writes, read_small, written_reads}
 use Rattle.fault.specs.Rules.{Numeral}
@@ -17,17 +17,17 @@ use Rattle.fault.proofs.Rules.{one_place}
 use Rattle.fault.proofs.Stopped.{begun_nothing, number_stops}
 
 -- a field that reads as a number is one as it is written
-pub value_numeral : (f : List ℕ) (n : ℕ) → number_of f ≡ Value n → Numeral f
+pub value_numeral : (f : List ℕ) (n : ℕ) → number_of f ≡ Ok n → Numeral f
 value_numeral f n v = record { value = n; few = omega (arith, read_small f n v); written = read_writes f n v }
 
 -- and one that is refused is none
-numeral_reads : (f : List ℕ) (at : ℕ) → number_of f ≡ Malformed at → Numeral f → ⊥
+numeral_reads : (f : List ℕ) (at : ℕ) → number_of f ≡ Err at → Numeral f → ⊥
 numeral_reads f at e q =
-    let v : number_of f ≡ Value q.value = rw q.written (written_reads q.value q.few) in
+    let v : number_of f ≡ Ok q.value = rw q.written (written_reads q.value q.few) in
     false_true (cc)
 
 -- the place is at fault
-pub number_faulty : (f : List ℕ) (at : ℕ) → number_of f ≡ Malformed at → Faulty Numeral f at
+pub number_faulty : (f : List ℕ) (at : ℕ) → number_of f ≡ Err at → Faulty Numeral f at
 unfolding number_of
 number_faulty [] at e =
     let y : 0 ≡ at = cc in
@@ -47,9 +47,9 @@ number_faulty (b ∷ s) at e =
     }
 
 -- and no other
-pub number_place : (f : List ℕ) (i : ℕ) → (number_of f ≡ Malformed i) ↔ Faulty Numeral f i
+pub number_place : (f : List ℕ) (i : ℕ) → (number_of f ≡ Err i) ↔ Faulty Numeral f i
 number_place f i = (number_faulty f i, told (number_of f) refl)
   where
-    told : (r : NumberRead) → number_of f ≡ r → Faulty Numeral f i → number_of f ≡ Malformed i
-    told (Malformed j) e p = e ∙ ap Malformed (one_place (number_faulty f j e) p)
-    told (Value n) e p = absurd (p.wrong (value_numeral f n e))
+    told : (r : NumberRead) → number_of f ≡ r → Faulty Numeral f i → number_of f ≡ Err i
+    told (Err j) e p = e ∙ ap Err (one_place (number_faulty f j e) p)
+    told (Ok n) e p = absurd (p.wrong (value_numeral f n e))

@@ -12,7 +12,7 @@ use lib.Dec.{eqb, ltb}
 use lib.ListN.{length, get_or}
 use Rattle.text.specs.Line.{Line}
 use Rattle.ground.proofs.Booleans.{both_hold, by_test}
-use Rattle.text.proofs.Limit.{readable}
+use Rattle.text.proofs.Limits.{readable}
 use Rattle.form.specs.Parts.{letter_of, kind_of}
 use Rattle.form.specs.Reading.{kind_at}
 use Rattle.form.proofs.Letters.{absent, line_made, kinds_made}

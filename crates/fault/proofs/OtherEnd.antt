@@ -9,10 +9,10 @@ use lib.Dec.{eqb}
 use lib.ListN.{length, drop}
 use Rattle.answers.specs.Refusals.{broken_line, outside_limits}
 use Rattle.ground.proofs.Booleans.{both_hold, by_test}
-use Rattle.text.specs.declared.NumberRead.{NumberRead}
-use Rattle.text.specs.declared.NumberRead.TheVariants.{Value, Malformed}
-use Rattle.text.specs.declared.EntryRead.{EntryRead}
-use Rattle.text.specs.declared.EntryRead.TheVariants.{Number, Misread}
+use Rattle.text.specs.Number.{NumberRead}
+use Rattle.std.specs.Prelude.{Ok, Err}
+use Rattle.text.specs.Read.{EntryRead}
+use Rattle.text.specs.Read.{Number, Misread}
 use Rattle.text.specs.Quoted.{dash}
 use Rattle.text.specs.Field.{field_of, begins}
 use Rattle.text.specs.Number.{number_of}
@@ -63,22 +63,22 @@ module _ (l : Limit) (last e o : ℕ) (t : List ℕ) (w : Ends o) (b : begins o 
   outside_none k (as_number m v) = let z : ◌≡◌ {A = ℕ} 0 1 = cc in absurd (omega arith)
   outside_none k (broken v) = let z : outside_limits ≡ broken_line = cc in absurd (omega arith)
 
-  dash_misses : (eqb l.rule or_none && begins dash t) ≡ true → Misses (read_entry l last e t)
+  dash_misses : (or_none l.rule && begins dash t) ≡ true → Misses (read_entry l last e t)
   dash_misses d =
       let g : Text.Dashed l last e t = record { dashed = d } in
-      let c = dash_other o t w (both_hold (eqb l.rule or_none) (begins dash t) d).1 b in
+      let c = dash_other o t w (both_hold (or_none l.rule) (begins dash t) d).1 b in
       let q = Text.dash_unended {e = o} (record { dashed = d }) c in
       by_test (begins e (drop 1 t)) (λ a. rw (Text.dash_ended g a) (at_number 1 0 2 (omega arith) q))
       (λ a. rw (Text.dash_unended g a) (at_place 1 q))
 
-  field_misses : (r : NumberRead) → (eqb l.rule or_none && begins dash t) ≡ false → number_of (field_of t) ≡ r
+  field_misses : (r : NumberRead) → (or_none l.rule && begins dash t) ≡ false → number_of (field_of t) ≡ r
       → Misses (read_entry l last e t)
-  field_misses (Malformed i) d v =
+  field_misses (Err i) d v =
       let q = Text.no_number {e = o} (record { undashed = d; field = refl; read = v }) in
       rw (Text.no_number {e = e} (record { undashed = d; field = refl; read = v })) (at_place i q)
-  field_misses (Value n) d v =
+  field_misses (Ok n) d v =
       let f : List ℕ = field_of t in
-      let g : Text.Entered l last e t f (Value n) = record { undashed = d; field = refl; read = v } in
+      let g : Text.Entered l last e t f (Ok n) = record { undashed = d; field = refl; read = v } in
       let q = Text.unended {e = o} (record { undashed = d; field = refl; read = v }) b in
       by_test (begins e (drop (length f) t))
       (λ a.
@@ -88,5 +88,5 @@ module _ (l : Limit) (last e o : ℕ) (t : List ℕ) (w : Ends o) (b : begins o 
 
   pub missed : (k : ℕ) → Comes (read_entry l last e t) k → Missed l last o t k
   missed =
-      by_test (eqb l.rule or_none && begins dash t) dash_misses
+      by_test (or_none l.rule && begins dash t) dash_misses
       (λ d. field_misses (number_of (field_of t)) d refl)

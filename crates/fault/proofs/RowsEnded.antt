@@ -8,9 +8,9 @@ use native.Mathlib.Omega.{arith}
 use lib.Dec.{eqb}
 use lib.ListN.{drop}
 use Rattle.answers.specs.Refusals.{broken_line, outside_limits}
-use Rattle.text.specs.declared.LineRead.TheVariants.{Taken, Fault}
+use Rattle.text.specs.Read.{Taken, Fault}
 use Rattle.text.specs.Line.{Line, read_line, line_text}
-use Rattle.text.proofs.Limit.{readable}
+use Rattle.text.proofs.Limits.{readable}
 use Rattle.text.proofs.LineTrip.{line_back}
 use Rattle.form.specs.Parts.{Part, Row, Rows, letter_of, raised, next_after}
 use Rattle.form.specs.Outcome.{Found, lost}

@@ -8,8 +8,8 @@ use native.Mathlib.Omega.{arith}
 use lib.ListN.{length, drop}
 use Rattle.answers.specs.Refusals.{broken_line}
 use Rattle.ground.proofs.Booleans.{by_less}
-use Rattle.text.specs.declared.LineRead.{LineRead}
-use Rattle.text.specs.declared.LineRead.TheVariants.{Taken, Fault}
+use Rattle.text.specs.Read.{LineRead}
+use Rattle.text.specs.Read.{Taken, Fault}
 use Rattle.text.specs.Line.{Line, read_line}
 use Rattle.text.proofs.Line.{extent}
 use Rattle.form.specs.Parts.{Part, Row, Rows, raised, next_after}

@@ -10,7 +10,7 @@ use borrow.Author.Tests.{eqb-false}
 use lib.Dec.{eqb}
 use lib.ListN.{length, drop, length-append}
 use Rattle.answers.specs.Refusals.{broken_line}
-use Rattle.text.specs.declared.LineRead.TheVariants.{Fault}
+use Rattle.text.specs.Read.{Fault}
 use Rattle.text.specs.Line.{Line, read_line}
 use Rattle.form.specs.Parts.{Part, Row, Rows, letter_of, kind_of, raised, next_after}
 use Rattle.form.specs.Outcome.{Found, lost}

@@ -11,7 +11,7 @@ use lib.ListN.{length, length-append}
 use lib.Seq.{drop-append_seam}
 use Rattle.answers.specs.Refusals.{outside_limits}
 use Rattle.ground.proofs.Booleans.{both_hold}
-use Rattle.text.specs.declared.LineRead.TheVariants.{Fault}
+use Rattle.text.specs.Read.{Fault}
 use Rattle.text.specs.Line.{Line, read_line, line_text}
 use Rattle.form.specs.Parts.{Part, Row, Rows, kind_of, raised, next_after}
 use Rattle.form.specs.Outcome.{Found, took, lost, ahead}

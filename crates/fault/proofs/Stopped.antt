@@ -9,8 +9,8 @@ use borrow.Author.Tests.{leb-true, eq-eqb, ne_eqb}
 use lib.Dec.{leb}
 use lib.ListN.{length, take}
 use Rattle.ground.proofs.Booleans.{both_hold, false_true, by_test, by_equal}
-use Rattle.text.specs.declared.NumberRead.{NumberRead}
-use Rattle.text.specs.declared.NumberRead.TheVariants.{Malformed}
+use Rattle.text.specs.Number.{NumberRead}
+use Rattle.std.specs.Prelude.{Err}
 use Rattle.text.specs.Quoted.{digit0}
 use Rattle.text.specs.Number.{is_digit, nine_digits, eleven_digits, rest_of, zero_alone, number_of, digits_of}
 use Rattle.text.proofs.Number.{digits_small, digits_push}
@@ -26,7 +26,7 @@ small_numeral n h = record { value = n; few = omega (arith, h); written = refl }
 pub record Stops (x : List ℕ) (read : List ℕ → NumberRead) (at j : ℕ) (s : List ℕ) : Type 0 where
   pub inside : j < length s
   pub begun : Begun Numeral (x ++ take j s)
-  pub always : (v : List ℕ) → read (take (suc j) s ++ v) ≡ Malformed at
+  pub always : (v : List ℕ) → read (take (suc j) s ++ v) ≡ Err at
 
 begun_number : (n : ℕ) → n < eleven_digits → Begun Numeral (digits_of n ++ [])
 begun_number n h =
@@ -36,7 +36,7 @@ begun_number n h =
 pub begun_nothing : Begun Numeral []
 begun_nothing = record { rest = digits_of 0; whole = small_numeral 0 (omega arith) }
 
-rest_stops : (n i : ℕ) (s : List ℕ) (at : ℕ) → 0 < n → n < eleven_digits → rest_of n i s ≡ Malformed at
+rest_stops : (n i : ℕ) (s : List ℕ) (at : ℕ) → 0 < n → n < eleven_digits → rest_of n i s ≡ Err at
     → (j : ℕ) × (at ≡ i + j) × Stops (digits_of n) (rest_of n i) at j s
 unfolding rest_of
 rest_stops n i [] at p m e = false_true (cc)
@@ -61,11 +61,11 @@ rest_stops n i (b ∷ s) at p m e =
       },
     ))
     (λ d.
-    let w : Malformed i ≡ Malformed at = rw (d, rest_of) at e in
+    let w : Err i ≡ Err at = rw (d, rest_of) at e in
     let y : i ≡ at = cc in
     (0, omega arith, record { inside = omega arith; begun = begun_number n m; always = λ v. rw (d, rest_of, y) }))
 
-zero_stops : (s : List ℕ) (at : ℕ) → zero_alone s ≡ Malformed at
+zero_stops : (s : List ℕ) (at : ℕ) → zero_alone s ≡ Err at
     → (j : ℕ) × (at ≡ 1 + j) × Stops (digits_of 0) zero_alone at j s
 zero_stops [] at e = false_true (cc)
 zero_stops (c ∷ s) at e =
@@ -86,7 +86,7 @@ first_stops b n s read at l c r (j, q, p) =
       always = λ v. r (take (suc j) s ++ v) ∙ p.always v ∙ rw k;
     })
 
-pub number_stops : (b : ℕ) (s : List ℕ) (at : ℕ) → number_of (b ∷ s) ≡ Malformed at → Stops [] number_of at at (b ∷ s)
+pub number_stops : (b : ℕ) (s : List ℕ) (at : ℕ) → number_of (b ∷ s) ≡ Err at → Stops [] number_of at at (b ∷ s)
 unfolding number_of
 number_stops b s at e =
     by_test (is_digit b)
@@ -103,6 +103,6 @@ number_stops b s at e =
     first_stops b (b - digit0) s (rest_of (b - digit0) 1) at (omega arith) (omega arith) (λ v. rw (d, y, number_of))
     (rest_stops (b - digit0) 1 s at (omega arith) (omega arith) (rw (d, y, number_of) at e))))
     (λ d.
-    let w : Malformed 0 ≡ Malformed at = rw (d, number_of) at e in
+    let w : Err 0 ≡ Err at = rw (d, number_of) at e in
     let y : 0 ≡ at = cc in
     rw (← y) (record { inside = omega arith; begun = begun_nothing; always = λ v. rw (d, number_of) }))

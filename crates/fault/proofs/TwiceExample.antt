@@ -12,7 +12,7 @@ use Rattle.text.specs.Number.{number_of, rest_of, digits_in, digits_of}
 use Rattle.text.specs.Limit.{ranging}
 use Rattle.text.specs.Line.{Line, read_entry, read_numbers, read_line}
 use Rattle.text.specs.Place.{feeds, since_feed}
-use Rattle.text.proofs.Limit.{narrow, readable}
+use Rattle.text.proofs.Limits.{narrow, readable}
 use Rattle.text.proofs.Most.{numbers_most}
 use Rattle.form.specs.Parts.{Form, Rows, one_line, kind_of}
 use Rattle.form.specs.Outcome.{Verdict, wrong}

@@ -8,8 +8,8 @@ use Prim.Native.Nat.{ℕ, zero, suc, ◌-◌}
 use borrow.Author.Tests.{ltb-true, ltb-false}
 use lib.Dec.{eqb, ltb}
 use lib.ListN.{length, drop}
-use Rattle.text.specs.declared.LineRead.{LineRead}
-use Rattle.text.specs.declared.LineRead.TheVariants.{Taken, Fault}
+use Rattle.text.specs.Read.{LineRead}
+use Rattle.text.specs.Read.{Taken, Fault}
 use Rattle.text.specs.Line.{Line, Reading, read_line}
 use Rattle.ground.proofs.Booleans.{either}
 use Rattle.text.proofs.Faults.{Textual, two_or_three, two_or_three_lem, line_textual}

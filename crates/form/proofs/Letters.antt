@@ -11,7 +11,7 @@ use Rattle.text.specs.Field.{begins}
 use Rattle.text.specs.Limit.{Limit}
 use Rattle.text.specs.Line.{Line, numbers_text, line_text}
 use Rattle.ground.proofs.Booleans.{both_hold}
-use Rattle.text.proofs.Limit.{narrow, readable}
+use Rattle.text.proofs.Limits.{narrow, readable}
 use Rattle.form.specs.Parts.{letter_of, kind_of, risen, raised}
 use Rattle.form.specs.Reading.{kind_at}
 

@@ -6,7 +6,7 @@ use Rattle.text.specs.Quoted.{bytes}
 use Rattle.text.specs.Number.{digits_in, digits_of}
 use Rattle.text.specs.Limit.{ranging, ranging_count}
 use Rattle.text.specs.Line.{Line}
-use Rattle.text.proofs.Limit.{narrow, readable}
+use Rattle.text.proofs.Limits.{narrow, readable}
 use Rattle.text.proofs.Most.{numbers_most}
 use Rattle.form.specs.Parts.{Form, some_lines, rising_lines, one_line, maybe_line, kind_of}
 use Rattle.form.proofs.Letters.{line_made, kinds_made}

@@ -1,7 +1,7 @@
 -- What the start of a text gives: how many bytes and what they say, or a refusal's number and its place; and what a
 -- whole text gives.
 use Rattle.std.specs.Prelude.{ℕ, ◌+◌, List, ◌∷◌, drop}
-use Rattle.text.specs.declared.LineRead.TheVariants.{Taken, Fault}
+use Rattle.text.specs.Read.{Taken, Fault}
 use Rattle.text.specs.Line.{Reading}
 use Rattle.text.specs.Place.{line_at, byte_at}
 

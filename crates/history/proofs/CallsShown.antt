@@ -8,8 +8,8 @@ use mathlib.Core.Bool.{true, false}
 use mathlib.Core.Option.{none, some}
 use borrow.Author.Tests.{eqb-false}
 use Rattle.form.specs.Outcome.{right}
-use Rattle.answers.specs.declared.Answer.{Answer}
-use Rattle.answers.specs.declared.Answer.TheVariants.{Refused}
+use Rattle.answers.specs.Answer.{Answer}
+use Rattle.answers.specs.Answer.{Refused}
 use Rattle.answers.specs.Values.{is_refusal}
 use Rattle.sheet.specs.SheetText.{read_sheet}
 use Rattle.memory.specs.Layout.{most_hulls, desks, edit, hull_sheet, draft_hull, draft_sheet}

@@ -12,8 +12,8 @@ use Rattle.form.specs.Parts.{kind_of, numbers_of}
 use Rattle.form.specs.Reading.{read_rows, read_parts, read_form}
 use Rattle.sheet.specs.SheetText.{sheet_form, empty_lines, fits_from, fits_of, numbers_on, read_sheet}
 use Rattle.capacity.specs.Weights.{added_up, boat_m}
-use Rattle.answers.specs.declared.Answer.{Answer}
-use Rattle.answers.specs.declared.Answer.TheVariants.{Refused, RefusedAt, Done, Count, Plate}
+use Rattle.answers.specs.Answer.{Answer}
+use Rattle.answers.specs.Answer.{Refused, RefusedAt, Done, Count, Plate}
 use Rattle.register.specs.Calls.{weigh, new_hull, open_hull, save, drop_draft, ask}
 use Rattle.history.specs.Replies.{says}
 use Rattle.history.specs.Runs.{Event, ◌⇒◌}

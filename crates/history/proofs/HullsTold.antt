@@ -6,7 +6,7 @@ use mathlib.Core.List.{List, [], ◌∷◌}
 use lib.IntN.{ℤ, pos, ◌+ℤ◌, +ℤ_idr, +ℤ_assoc}
 use lib.Dec.{eqb}
 use borrow.Author.Tests.{eqb-false}
-use Rattle.answers.specs.declared.Answer.TheVariants.{Count}
+use Rattle.answers.specs.Answer.{Count}
 use Rattle.capacity.specs.Weights.{boat_m}
 use Rattle.register.specs.Calls.{Call, new_hull, open_hull, work, save, drop_draft, ask}
 use Rattle.history.specs.Replies.{Reply, says}

@@ -6,8 +6,8 @@ use mathlib.Core.Bool.{cond}
 use mathlib.Core.List.{List}
 use mathlib.Core.Option.{Option, none}
 use lib.Dec.{eqb}
-use Rattle.answers.specs.declared.Answer.{Answer}
-use Rattle.answers.specs.declared.Answer.TheVariants.{Refused}
+use Rattle.answers.specs.Answer.{Answer}
+use Rattle.answers.specs.Answer.{Refused}
 use Rattle.capacity.specs.Weights.{boat_m}
 use Rattle.register.specs.Refusals.{leaves, sheet_of}
 use Rattle.register.specs.Calls.{Work, Ask, Call, ask_lent, lent, work_answer, ask_answer, ask_fills}

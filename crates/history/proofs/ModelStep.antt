@@ -7,7 +7,7 @@ use lib.Dec.{eqb, ltb}
 use Rattle.form.specs.Outcome.{right, wrong}
 use Rattle.sheet.specs.SheetText.{read_sheet}
 use Rattle.answers.specs.Refusals.{full, no_hull, no_desk, no_draft, edited_since, edits_spent}
-use Rattle.answers.specs.declared.Answer.TheVariants.{RefusedAt, Done, Count}
+use Rattle.answers.specs.Answer.{RefusedAt, Done, Count}
 use Rattle.memory.specs.Layout.{most_hulls, desks, hull_sheet}
 use Rattle.memory.specs.Formed.{most_edits}
 use Rattle.memory.specs.Updates.{fresh_words}

@@ -9,8 +9,8 @@ use lib.ListN.{length}
 use lib.IntN.{ℤ, pos, ◌+ℤ◌, ◌-ℤ◌, +ℤ_idr, +ℤ_assoc}
 use borrow.Author.Tests.{eqb-true}
 use Rattle.ground.proofs.Booleans.{by_test, not_false}
-use Rattle.answers.specs.declared.Answer.{Answer}
-use Rattle.answers.specs.declared.Answer.TheVariants.{Done}
+use Rattle.answers.specs.Answer.{Answer}
+use Rattle.answers.specs.Answer.{Done}
 use Rattle.answers.specs.Values.{is_refusal}
 use Rattle.sheet.specs.Places.{sheet_words}
 use Rattle.capacity.specs.Weights.{boat_m}

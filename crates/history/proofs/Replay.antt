@@ -10,7 +10,7 @@ use mathlib.Core.Option.{some}
 use lib.ListN.{length}
 use borrow.Author.Tests.{eq-eqb, ne_eqb}
 use Rattle.ground.proofs.Booleans.{by_equal}
-use Rattle.answers.specs.declared.Answer.TheVariants.{Count}
+use Rattle.answers.specs.Answer.{Count}
 use Rattle.sheet.specs.Places.{sheet_words}
 use Rattle.memory.specs.Layout.{desks}
 use Rattle.memory.specs.Formed.{most_edits}

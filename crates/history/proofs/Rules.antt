@@ -7,7 +7,7 @@ use mathlib.Core.Option.{none, some}
 use borrow.Author.Tests.{lt-ltb, le-ltb, eq-eqb, ne_eqb}
 use Rattle.form.specs.Outcome.{right, wrong}
 use Rattle.answers.specs.Refusals.{full, no_hull, no_desk, no_draft, edited_since, edits_spent}
-use Rattle.answers.specs.declared.Answer.TheVariants.{RefusedAt, Done, Count}
+use Rattle.answers.specs.Answer.{RefusedAt, Done, Count}
 use Rattle.sheet.specs.SheetText.{read_sheet}
 use Rattle.memory.specs.Layout.{most_hulls, desks}
 use Rattle.memory.specs.Formed.{most_edits}

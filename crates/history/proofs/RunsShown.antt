@@ -5,7 +5,7 @@ use mathlib.Core.Path.{◌≡◌, refl, sym}
 use mathlib.Core.List.{List, [], ◌∷◌}
 use lib.ListN.{length}
 use borrow.Author.Tests.{eq-eqb, ne_eqb}
-use Rattle.answers.specs.declared.Answer.TheVariants.{Refused, RefusedAt, Done, Count}
+use Rattle.answers.specs.Answer.{Refused, RefusedAt, Done, Count}
 use Rattle.memory.specs.Layout.{register_words}
 use Rattle.register.specs.Refusals.{on_text}
 use Rattle.register.specs.Calls.{Call, new_hull, open_hull, save, drop_draft}

@@ -7,7 +7,7 @@ use mathlib.Core.Bool.{Bool, true, false, cond, false≢true}
 use mathlib.Core.List.{List, [], ◌∷◌, map}
 use mathlib.Core.Option.{some}
 use Rattle.ground.proofs.Booleans.{false_true}
-use Rattle.answers.specs.declared.Answer.TheVariants.{Count}
+use Rattle.answers.specs.Answer.{Count}
 use Rattle.memory.specs.Formed.{most_edits}
 use Rattle.register.specs.Calls.{Call, save}
 use Rattle.history.specs.Runs.{Event, call}

@@ -4,7 +4,7 @@ use mathlib.Core.Path.{◌≡◌, refl, ap, ◌∙◌}
 use mathlib.Core.Bool.{Bool}
 use mathlib.Core.List.{List, [], ◌∷◌, ◌++◌, map}
 use Rattle.ground.proofs.Booleans.{by_test}
-use Rattle.answers.specs.declared.Answer.TheVariants.{Count}
+use Rattle.answers.specs.Answer.{Count}
 use Rattle.memory.specs.Formed.{most_edits}
 use Rattle.register.specs.Calls.{Ask, Call, new_hull, open_hull, work, save, drop_draft, ask}
 use Rattle.history.specs.Replies.{Reply, says}

@@ -8,7 +8,7 @@ use mathlib.Core.List.{List, [], ◌∷◌, map}
 use mathlib.Core.Option.{Option, none, some}
 use lib.Dec.{eqb}
 use borrow.Author.Tests.{ne_eqb}
-use Rattle.answers.specs.declared.Answer.TheVariants.{Refused, Count}
+use Rattle.answers.specs.Answer.{Refused, Count}
 use Rattle.register.specs.Calls.{Work, Call, new_hull, open_hull, work, save, drop_draft, ask}
 use Rattle.history.specs.Replies.{Reply, says}
 use Rattle.history.specs.Runs.{Event, ◌⇒◌, call}

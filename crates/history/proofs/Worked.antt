@@ -8,7 +8,7 @@ use mathlib.Core.Option.{some}
 use borrow.Author.Tests.{ne_eqb}
 use Rattle.ground.proofs.Booleans.{by_test}
 use Rattle.form.specs.Outcome.{Verdict, right, wrong}
-use Rattle.answers.specs.declared.Answer.TheVariants.{Done}
+use Rattle.answers.specs.Answer.{Done}
 use Rattle.answers.specs.Values.{is_refusal}
 use Rattle.sheet.specs.SheetText.{read_sheet}
 use Rattle.capacity.specs.Weights.{boat_m}

@@ -1,8 +1,8 @@
 -- 00, demand 3, whole: of every memory m of the right size, fresh start on it, and every list of calls after it.
 use Rattle.std.specs.Prelude.{ℕ, suc, ◌<◌, ◌≡◌, Bool, true, ◌↔◌, List, ◌∷◌, map, pos, ◌+ℤ◌}
 use Rattle.std.proofs.Math.Option.{some}
-use Rattle.answers.specs.declared.Answer.{Answer}
-use Rattle.answers.specs.declared.Answer.TheVariants.{Count}
+use Rattle.answers.specs.Answer.{Answer}
+use Rattle.answers.specs.Answer.{Count}
 use Rattle.memory.specs.Layout.{hull_count, edit, hull_weight, hull_sheet}
 use Rattle.memory.specs.Formed.{most_edits}
 use Rattle.register.specs.Calls.{Ask, Call, save}

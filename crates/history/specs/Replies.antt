@@ -1,7 +1,7 @@
 -- 01, Calls on the register: what a call replies, and the memory that it leaves to the next. `step` of crates/register
 -- says both, and each call's own promise cites it.
 use Rattle.std.specs.Prelude.{ℕ, Bool, not, List, []}
-use Rattle.answers.specs.declared.Answer.{Answer}
+use Rattle.answers.specs.Answer.{Answer}
 use Rattle.answers.specs.Values.{is_refusal}
 use Rattle.register.specs.Calls.{Call, step}
 

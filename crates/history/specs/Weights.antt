@@ -2,8 +2,8 @@
 -- difference that each accepted save of it made, which is the sum of what the accepted calls of the save's block made.
 -- Histories are newest first.
 use Rattle.std.specs.Prelude.{ℕ, ◌*◌, Bool, false, cond, List, [], ◌∷◌, eqb, ℤ, pos, ◌+ℤ◌, ◌-ℤ◌}
-use Rattle.answers.specs.declared.Answer.{Answer}
-use Rattle.answers.specs.declared.Answer.TheVariants.{Refused, RefusedAt, Done, Count, Plate}
+use Rattle.answers.specs.Answer.{Answer}
+use Rattle.answers.specs.Answer.{Refused, RefusedAt, Done, Count, Plate}
 use Rattle.capacity.specs.Weights.{line_weight, boat_m}
 use Rattle.register.specs.Refusals.{sheet_of}
 use Rattle.register.specs.Calls.{Work, set_fitting, replace, try_plate, new_hull, open_hull, work, save, drop_draft, ask}

@@ -8,8 +8,8 @@ use lib.ListN.{length, take, drop}
 use lib.Seq.{length-take-le, take-append_seam}
 use Rattle.std.specs.Counts.{IsPrefixLen}
 use Rattle.answers.specs.Settled.{Settled}
-use Rattle.answers.specs.declared.Answer.{Answer}
-use Rattle.answers.specs.declared.Answer.TheVariants.{Count}
+use Rattle.answers.specs.Answer.{Answer}
+use Rattle.answers.specs.Answer.{Count}
 use Rattle.printout.specs.Printed.{printed, print_answer, print_into}
 use Rattle.printout.proofs.Most.{most_printed, printed_most}
 use Rattle.printout.proofs.PrintCall.{room_enough}

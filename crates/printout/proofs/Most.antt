@@ -13,8 +13,8 @@ use Rattle.text.specs.Number.{eleven_digits, digits_of}
 use Rattle.text.specs.Line.{closer, numbers_text, line_text}
 use Rattle.text.proofs.Number.{length_digits_ten}
 use Rattle.ground.proofs.Booleans.{either}
-use Rattle.answers.specs.declared.Answer.{Answer}
-use Rattle.answers.specs.declared.Answer.TheVariants.{Refused, RefusedAt, Done, Count, Plate}
+use Rattle.answers.specs.Answer.{Answer}
+use Rattle.answers.specs.Answer.{Refused, RefusedAt, Done, Count, Plate}
 use Rattle.form.specs.Parts.{Rows}
 use Rattle.form.specs.Outcome.{Verdict, right, wrong}
 use Rattle.sheet.specs.Lines.{most_bytes}

@@ -10,8 +10,8 @@ use lib.ListN.{length, take, drop}
 use lib.Seq.{sets, take_at}
 use Rattle.text.specs.Line.{Laid}
 use Rattle.ground.proofs.Stores.{sets_start}
-use Rattle.answers.specs.declared.Answer.{Answer}
-use Rattle.answers.specs.declared.Answer.TheVariants.{Refused, Count}
+use Rattle.answers.specs.Answer.{Answer}
+use Rattle.answers.specs.Answer.{Refused, Count}
 use Rattle.answers.specs.Settled.{Settled}
 use Rattle.ground.specs.Lists.{put_first}
 use Rattle.answers.specs.Refusals.{no_room}

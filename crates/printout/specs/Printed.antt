@@ -6,8 +6,8 @@ use Rattle.text.specs.Quoted.{bytes}
 use Rattle.text.specs.Limit.{ranging}
 use Rattle.text.specs.Line.{Line, line_text}
 use Rattle.answers.specs.Refusals.{broken_line, no_room}
-use Rattle.answers.specs.declared.Answer.{Answer}
-use Rattle.answers.specs.declared.Answer.TheVariants.{Refused, RefusedAt, Done, Count, Plate}
+use Rattle.answers.specs.Answer.{Answer}
+use Rattle.answers.specs.Answer.{Refused, RefusedAt, Done, Count, Plate}
 use Rattle.form.specs.Outcome.{right, wrong}
 use Rattle.sheet.specs.SheetText.{read_sheet}
 use Rattle.sheet.specs.EngineText.{read_engines, powers_of, weights_of}

@@ -8,8 +8,8 @@ use borrow.Author.Tests.{le-leb, lt-leb}
 use lib.ListN.{length, take, drop, get_or, length-append, length-drop, length-map}
 use lib.Seq.{length-take-le, take_at}
 use Rattle.ground.specs.Lists.{put_first}
-use Rattle.answers.specs.declared.Answer.{Answer}
-use Rattle.answers.specs.declared.Answer.TheVariants.{Refused, RefusedAt, Count}
+use Rattle.answers.specs.Answer.{Answer}
+use Rattle.answers.specs.Answer.{Refused, RefusedAt, Count}
 use Rattle.answers.specs.Settled.{Settled}
 use Rattle.form.specs.Parts.{Row}
 use Rattle.text.specs.declared.TextRead.TheVariants.{Whole, Wrong}

@@ -6,7 +6,7 @@ use Prim.Native.Nat.{ℕ, zero, suc, ◌+◌, ◌-◌, ◌*◌, ◌≤◌, max}
 use native.Mathlib.Omega.{arith}
 use lib.ListN.{length, take, drop, replicate, length-replicate}
 use lib.Seq.{sets, length-sets}
-use Rattle.text.specs.declared.LineRead.TheVariants.{Taken}
+use Rattle.text.specs.Read.{Taken}
 use Rattle.text.specs.Field.{begins}
 use Rattle.text.specs.Limit.{ranging}
 use Rattle.text.specs.Line.{Line}

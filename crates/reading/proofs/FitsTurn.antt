@@ -8,7 +8,7 @@ use native.Mathlib.Numerals.{add-one}
 use native.Mathlib.Omega.{arith}
 use lib.ListN.{length, take, drop, set, replicate, length-append, length-replicate}
 use lib.Seq.{sets}
-use Rattle.text.specs.declared.LineRead.TheVariants.{Fault}
+use Rattle.text.specs.Read.{Fault}
 use Rattle.text.specs.Field.{begins}
 use Rattle.ground.proofs.Stores.{rest_part, sets_append, zeros_stored}
 use Rattle.form.specs.Parts.{Row, Rows, line_row}

@@ -4,8 +4,8 @@ use mathlib.Core.List.{List, [], ◌∷◌}
 use Prim.Native.Nat.{ℕ, ◌+◌, ◌-◌, ◌≤◌, ◌<◌}
 use native.Mathlib.Omega.{arith}
 use lib.ListN.{length, take, drop, length-drop}
-use Rattle.text.specs.declared.LineRead.{LineRead}
-use Rattle.text.specs.declared.LineRead.TheVariants.{Taken, Fault}
+use Rattle.text.specs.Read.{LineRead}
+use Rattle.text.specs.Read.{Taken, Fault}
 use Rattle.text.specs.Field.{agreed}
 use Rattle.text.specs.Line.{read_numbers, read_line, shift_by}
 use Rattle.ground.proofs.Stores.{rest_part}

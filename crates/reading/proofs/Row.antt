@@ -6,12 +6,12 @@ use Prim.Native.Nat.{ℕ, suc, ◌≤◌, ◌<◌}
 use native.Mathlib.Omega.{arith}
 use lib.ListN.{length, get_or, set}
 use lib.Seq.{sets, get_or-set_other}
-use Rattle.text.specs.declared.LineRead.{LineRead}
-use Rattle.text.specs.declared.LineRead.TheVariants.{Taken, Fault}
+use Rattle.text.specs.Read.{LineRead}
+use Rattle.text.specs.Read.{Taken, Fault}
 use Rattle.text.specs.Limit.{Limit, ranging, holds, all_hold}
 use Rattle.text.specs.Line.{Line, Reads, read_line}
 use Rattle.ground.proofs.Booleans.{both_hold, false_true}
-use Rattle.text.proofs.Limit.{full, hold_length}
+use Rattle.text.proofs.Limits.{full, hold_length}
 use Rattle.text.proofs.Bounds.{ranging_between}
 use Rattle.text.proofs.Line.{extent, line_extent}
 use Rattle.text.proofs.LineTrip.{line_back}

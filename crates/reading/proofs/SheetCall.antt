@@ -5,13 +5,13 @@ use Prim.Native.Nat.{ℕ, ◌+◌, ◌-◌, ◌*◌, ◌≤◌, ◌<◌}
 use native.Mathlib.Omega.{arith}
 use lib.ListN.{length, take, drop, replicate, length-drop, drop_of_length-le}
 use lib.Seq.{take_at, drop_at}
-use Rattle.text.specs.declared.LineRead.{LineRead}
-use Rattle.text.specs.declared.LineRead.TheVariants.{Taken, Fault}
+use Rattle.text.specs.Read.{LineRead}
+use Rattle.text.specs.Read.{Taken, Fault}
 use Rattle.text.specs.declared.TextRead.TheVariants.{Whole, Wrong}
 use Rattle.text.specs.Line.{shift_by}
 use Rattle.text.specs.Place.{line_at, byte_at}
 use Rattle.ground.proofs.Stores.{put_back, rest_part, sets_zeros}
-use Rattle.answers.specs.declared.Answer.TheVariants.{RefusedAt, Done}
+use Rattle.answers.specs.Answer.{RefusedAt, Done}
 use Rattle.answers.specs.Settled.{Settled}
 use Rattle.form.specs.Outcome.{Found, took, lost, right, placed}
 use Rattle.form.proofs.Verdict.{form_long, form_said}

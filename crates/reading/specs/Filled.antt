@@ -1,8 +1,8 @@
 -- What was found stands in a lent list; and what a whole text says. Where the text had a fault, nothing is said of the
 -- list.
 use Rattle.std.specs.Prelude.{ℕ, ◌≤◌, ◌≡◌, List, length}
-use Rattle.text.specs.declared.LineRead.{LineRead}
-use Rattle.text.specs.declared.LineRead.TheVariants.{Taken, Fault}
+use Rattle.text.specs.Read.{LineRead}
+use Rattle.text.specs.Read.{Taken, Fault}
 use Rattle.text.specs.declared.TextRead.{TextRead}
 use Rattle.text.specs.declared.TextRead.TheVariants.{Whole, Wrong}
 use Rattle.form.specs.Outcome.{Found, took, lost, Verdict, right, wrong}

@@ -1,8 +1,8 @@
 -- One line more of a sheet: the lines are read one after another, each after what was read before it.
 use Rattle.std.specs.Prelude.{ℕ, ◌+◌, ◌≤◌, ◌≡◌, List, [], ◌++◌, length, drop, replicate}
 use Rattle.std.proofs.lemmas.List.Edits.{sets}
-use Rattle.text.specs.declared.LineRead.{LineRead}
-use Rattle.text.specs.declared.LineRead.TheVariants.{Taken, Fault}
+use Rattle.text.specs.Read.{LineRead}
+use Rattle.text.specs.Read.{Taken, Fault}
 use Rattle.text.specs.Line.{Line, Reading, refused, after, read_line}
 use Rattle.form.specs.Outcome.{Found, took, lost, mapped}
 use Rattle.form.specs.Reading.{read_parts}

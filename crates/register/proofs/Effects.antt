@@ -10,8 +10,8 @@ use lib.ListN.{length}
 use Rattle.ground.proofs.Booleans.{false_true}
 use Rattle.form.specs.Outcome.{right}
 use Rattle.answers.specs.Refusals.{bad_memory}
-use Rattle.answers.specs.declared.Answer.{Answer}
-use Rattle.answers.specs.declared.Answer.TheVariants.{Refused, RefusedAt, Done, Count, Plate}
+use Rattle.answers.specs.Answer.{Answer}
+use Rattle.answers.specs.Answer.{Refused, RefusedAt, Done, Count, Plate}
 use Rattle.answers.specs.Values.{is_refusal}
 use Rattle.sheet.specs.SheetText.{read_sheet}
 use Rattle.memory.specs.Layout.{register_words, draft_sheet}

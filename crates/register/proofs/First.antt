@@ -10,8 +10,8 @@ use borrow.Author.Tests.{eqb-true, ne_eqb}
 use lib.Dec.{eqb, leb, ltb}
 use lib.ListN.{length}
 use Rattle.answers.specs.Refusals.{bad_memory, outside_limits}
-use Rattle.answers.specs.declared.Answer.{Answer}
-use Rattle.answers.specs.declared.Answer.TheVariants.{Refused, RefusedAt, Done, Count, Plate}
+use Rattle.answers.specs.Answer.{Answer}
+use Rattle.answers.specs.Answer.{Refused, RefusedAt, Done, Count, Plate}
 use Rattle.ground.proofs.Booleans.{either}
 use Rattle.sheet.specs.Sheet.{sheet_ok}
 use Rattle.sheet.specs.SheetText.{sheet_text}

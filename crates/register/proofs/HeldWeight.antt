@@ -5,7 +5,7 @@ use mathlib.Core.Path.{◌≡◌, refl, ap}
 use mathlib.Core.Bool.{true}
 use mathlib.Core.List.{List}
 use Prim.Native.Nat.{ℕ}
-use Rattle.answers.specs.declared.Answer.TheVariants.{Count}
+use Rattle.answers.specs.Answer.{Count}
 use Rattle.capacity.specs.Weights.{boat_m, weighed_ok}
 use Rattle.capacity.specs.Kinds.{PlateKind, plate_by, plate_of}
 use Rattle.capacity.proofs.Scale.{weighed, weighed_back}

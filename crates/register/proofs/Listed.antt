@@ -10,8 +10,8 @@ use lib.ListN.{get_or, length}
 use Rattle.form.specs.Outcome.{Verdict, right, wrong}
 use Rattle.ground.proofs.Booleans.{either}
 use Rattle.answers.specs.Refusals.{bad_memory, empty_line}
-use Rattle.answers.specs.declared.Answer.{Answer}
-use Rattle.answers.specs.declared.Answer.TheVariants.{Refused, Done, Count}
+use Rattle.answers.specs.Answer.{Answer}
+use Rattle.answers.specs.Answer.{Refused, Done, Count}
 use Rattle.answers.proofs.Outcomes.{OfList, text_listed}
 use Rattle.sheet.specs.Sheet.{no_fitting}
 use Rattle.sheet.specs.Places.{fitting_word}

@@ -5,7 +5,7 @@ use mathlib.Core.List.{List, [], ◌∷◌, map}
 use Prim.Native.Nat.{ℕ}
 use lib.ListN.{set, take, drop}
 use Rattle.text.specs.Limit.{all_hold}
-use Rattle.answers.specs.declared.Answer.TheVariants.{Refused, Done}
+use Rattle.answers.specs.Answer.{Refused, Done}
 use Rattle.sheet.specs.Sheet.{fits_ok, ok_on}
 use Rattle.capacity.specs.Weights.{added_up, boat_m}
 use Rattle.memory.specs.Formed.{each, hull_ok, draft_ok, formed}

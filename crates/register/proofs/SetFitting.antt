@@ -11,7 +11,7 @@ use borrow.Author.Tests.{le-leb, eqb-true}
 use lib.Dec.{eqb}
 use Rattle.ground.proofs.Booleans.{both_true, by_test}
 use Rattle.answers.specs.Refusals.{outside_limits, empty_line}
-use Rattle.answers.specs.declared.Answer.TheVariants.{Refused, Done}
+use Rattle.answers.specs.Answer.{Refused, Done}
 use Rattle.sheet.specs.Lines.{fittings}
 use Rattle.sheet.specs.Sheet.{fit_ok}
 use Rattle.sheet.proofs.FitRow.{Pieces, fit_pieces, pieces_fit, empty_count}

@@ -10,8 +10,8 @@ use lib.Dec.{eqb}
 use lib.ListN.{length}
 use Rattle.ground.proofs.Booleans.{either}
 use Rattle.form.specs.Outcome.{right, wrong}
-use Rattle.answers.specs.declared.Answer.{Answer}
-use Rattle.answers.specs.declared.Answer.TheVariants.{RefusedAt, Done, Count}
+use Rattle.answers.specs.Answer.{Answer}
+use Rattle.answers.specs.Answer.{RefusedAt, Done, Count}
 use Rattle.answers.proofs.Outcomes.{Unplaced}
 use Rattle.sheet.specs.SheetText.{read_sheet}
 use Rattle.sheet.proofs.Places.{sheet_places, rooms_right}

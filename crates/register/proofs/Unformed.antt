@@ -5,7 +5,7 @@ use mathlib.Core.List.{List, [], ◌∷◌, ◌++◌, map}
 use Prim.Native.Nat.{ℕ}
 use lib.ListN.{set, take, replicate}
 use Rattle.text.specs.Limit.{all_hold}
-use Rattle.answers.specs.declared.Answer.TheVariants.{Refused}
+use Rattle.answers.specs.Answer.{Refused}
 use Rattle.sheet.specs.Sheet.{fits_ok, ok_on}
 use Rattle.capacity.specs.Weights.{added_up, boat_m}
 use Rattle.capacity.specs.Kinds.{kind_a, kind_c, kind_u}

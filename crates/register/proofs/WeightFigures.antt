@@ -5,8 +5,8 @@ use mathlib.Core.List.{List, [], ◌∷◌, ◌++◌, map}
 use Prim.Native.Nat.{ℕ}
 use lib.ListN.{get_or, set, replicate}
 use Rattle.text.specs.Limit.{all_hold}
-use Rattle.answers.specs.declared.Answer.{Answer}
-use Rattle.answers.specs.declared.Answer.TheVariants.{Refused, Done, Count, Plate}
+use Rattle.answers.specs.Answer.{Answer}
+use Rattle.answers.specs.Answer.{Refused, Done, Count, Plate}
 use Rattle.sheet.specs.Sheet.{fits_ok, ok_on}
 use Rattle.capacity.specs.Volume.{station_product, volume_n, net_z}
 use Rattle.capacity.specs.Weights.{added_up, boat_m}

@@ -12,8 +12,8 @@ use lib.ListN.{get_or}
 use Rattle.ground.proofs.Booleans.{by_test, first_fails, second_fails}
 use Rattle.text.specs.Limit.{all_hold}
 use Rattle.answers.specs.Refusals.{outside_limits, empty_line}
-use Rattle.answers.specs.declared.Answer.{Answer}
-use Rattle.answers.specs.declared.Answer.TheVariants.{Done}
+use Rattle.answers.specs.Answer.{Answer}
+use Rattle.answers.specs.Answer.{Done}
 use Rattle.sheet.specs.Lines.{fittings, fit_line}
 use Rattle.sheet.specs.Places.{fitting_word}
 use Rattle.sheet.specs.Sheet.{no_fitting}

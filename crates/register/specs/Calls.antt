@@ -1,8 +1,8 @@
 -- 01, Calls on the register: every call, with what its caller gives it, and its step: what it answers and what it
 -- leaves. Desk and hull numbers are any numbers. The promises of the code cite `step`.
 use Rattle.std.specs.Prelude.{ℕ, ◌+◌, List, [], ◌∷◌, length}
-use Rattle.answers.specs.declared.Answer.{Answer}
-use Rattle.answers.specs.declared.Answer.TheVariants.{Done, Count}
+use Rattle.answers.specs.Answer.{Answer}
+use Rattle.answers.specs.Answer.{Done, Count}
 use Rattle.answers.specs.declared.WbAnswer.{WbAnswer}
 use Rattle.answers.specs.Settled.{Settled}
 use Rattle.answers.specs.Values.{faced}

@@ -5,8 +5,8 @@ use Rattle.std.specs.Prelude.{ℕ, ◌&&◌, cond, List, [], eqb, leb, ltb, leng
 use Rattle.form.specs.Outcome.{right, wrong}
 use Rattle.answers.specs.Refusals.{bad_memory, outside_limits, full, no_hull, no_desk, no_draft, edited_since, edits_spent}
 use Rattle.answers.specs.Refusals.{empty_line}
-use Rattle.answers.specs.declared.Answer.{Answer}
-use Rattle.answers.specs.declared.Answer.TheVariants.{Refused, RefusedAt, Done, Count, Plate}
+use Rattle.answers.specs.Answer.{Answer}
+use Rattle.answers.specs.Answer.{Refused, RefusedAt, Done, Count, Plate}
 use Rattle.sheet.specs.Places.{fitting_word}
 use Rattle.sheet.specs.Lines.{fittings}
 use Rattle.sheet.specs.Sheet.{no_fitting, fit_ok}

@@ -9,8 +9,8 @@ use Rattle.text.specs.Number.{rest_of, number_of, digits_in, digits_of}
 use Rattle.text.specs.Limit.{all_hold}
 use Rattle.text.specs.Line.{read_entry, read_numbers, read_line, numbers_text}
 use Rattle.text.specs.Place.{feeds, since_feed}
-use Rattle.answers.specs.declared.Answer.{Answer}
-use Rattle.answers.specs.declared.Answer.TheVariants.{Refused, RefusedAt, Done, Count}
+use Rattle.answers.specs.Answer.{Answer}
+use Rattle.answers.specs.Answer.{Refused, RefusedAt, Done, Count}
 use Rattle.form.specs.Parts.{kind_of}
 use Rattle.form.specs.Outcome.{right, wrong}
 use Rattle.form.specs.Reading.{read_rows, read_parts, read_form}

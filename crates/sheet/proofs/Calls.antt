@@ -7,7 +7,7 @@ use native.Mathlib.Omega.{arith}
 use borrow.Author.Tests.{le-leb}
 use lib.ListN.{length, take, drop}
 use lib.Seq.{take-append_seam}
-use Rattle.answers.specs.declared.Answer.TheVariants.{Done, Count}
+use Rattle.answers.specs.Answer.{Done, Count}
 use Rattle.form.specs.Outcome.{Verdict, right, wrong}
 use Rattle.sheet.specs.Sheet.{sheet_ok}
 use Rattle.sheet.specs.SheetText.{read_sheet, sheet_text}

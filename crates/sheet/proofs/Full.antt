@@ -8,7 +8,7 @@ use lib.ListN.{length, take, drop, length-append, length-take, length-drop}
 use Rattle.text.specs.Limit.{all_hold}
 use Rattle.text.specs.Line.{Line}
 use Rattle.ground.proofs.Booleans.{both_hold}
-use Rattle.text.proofs.Limit.{full, hold_length}
+use Rattle.text.proofs.Limits.{full, hold_length}
 use Rattle.sheet.specs.Lines.{lines, fittings}
 use Rattle.sheet.specs.Sheet.{limits_on, ok_on}
 use Rattle.sheet.proofs.Fits.{fits_length}

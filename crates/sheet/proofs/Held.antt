@@ -24,7 +24,7 @@ opens (l ∷ ls) = leb l.rule or_none
 holds_free : (l : Limit) (a b n : ℕ) → leb l.rule or_none ≡ true → holds l a n ≡ holds l b n
 holds_free l a b n e =
     let r = leb-true l.rule or_none e in
-    rw (ne_eqb l.rule capped (λ z. omega arith), le-ltb capped l.rule (omega arith))
+    rw (ne_capped l.rule (λ z. omega arith), le-ltb capped l.rule (omega arith))
 
 hold_free : (ls : List Limit) (a b : ℕ) (ns : List ℕ) → opens ls ≡ true → all_hold ls a ns ≡ all_hold ls b ns
 unfolding opens all_hold

@@ -10,7 +10,7 @@ use Rattle.ground.specs.Lists.{put_first}
 use Rattle.ground.proofs.Booleans.{either, false_true}
 use Rattle.answers.specs.Values.{is_refusal}
 use Rattle.answers.specs.Refusals.{outside_limits, no_room}
-use Rattle.answers.specs.declared.Answer.TheVariants.{Refused, RefusedAt, Done, Count}
+use Rattle.answers.specs.Answer.{Refused, RefusedAt, Done, Count}
 use Rattle.answers.proofs.Outcomes.{Unplaced}
 use Rattle.form.specs.Parts.{Rows}
 use Rattle.form.specs.Outcome.{Verdict, right, wrong}

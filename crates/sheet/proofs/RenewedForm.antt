@@ -12,7 +12,7 @@ use Rattle.text.specs.Limit.{all_hold}
 use Rattle.text.specs.Line.{Line, numbers_text, line_text}
 use Rattle.text.specs.Place.{feeds, cut_from}
 use Rattle.ground.proofs.Booleans.{both_hold, false_true}
-use Rattle.text.proofs.Limit.{full, hold_length}
+use Rattle.text.proofs.Limits.{full, hold_length}
 use Rattle.form.specs.Parts.{Rows, one_line}
 use Rattle.form.specs.Writing.{part_ok, parts_ok, form_ok, rows_text, parts_text, form_text}
 use Rattle.form.proofs.Held.{part_held}

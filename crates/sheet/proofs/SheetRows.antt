@@ -10,7 +10,7 @@ use lib.Seq.{take_at, drop_at}
 use Rattle.text.specs.Limit.{all_hold}
 use Rattle.text.specs.Line.{Line}
 use Rattle.ground.proofs.Booleans.{both_hold}
-use Rattle.text.proofs.Limit.{full, hold_length}
+use Rattle.text.proofs.Limits.{full, hold_length}
 use Rattle.form.specs.Parts.{Rows, line_row, one_line, letter_of, numbers_of}
 use Rattle.form.specs.Writing.{part_ok, parts_ok, form_ok}
 use Rattle.form.proofs.Held.{part_held, held_part}

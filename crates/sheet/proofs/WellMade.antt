@@ -2,7 +2,7 @@
 use mathlib.Core.Path.{◌≡◌, refl}
 use mathlib.Core.Bool.{true}
 use Rattle.text.specs.Number.{digits_in, digits_of}
-use Rattle.text.proofs.Limit.{narrow, readable}
+use Rattle.text.proofs.Limits.{narrow, readable}
 use Rattle.form.specs.Parts.{kind_of}
 use Rattle.form.proofs.Letters.{line_made, kinds_made}
 use Rattle.text.proofs.Most.{numbers_most}

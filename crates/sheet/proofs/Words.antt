@@ -8,7 +8,7 @@ use native.Mathlib.Omega.{arith}
 use lib.ListN.{length, take, drop}
 use Rattle.text.specs.Limit.{ranging, all_hold}
 use Rattle.ground.proofs.Booleans.{both_hold}
-use Rattle.text.proofs.Limit.{full}
+use Rattle.text.proofs.Limits.{full}
 use Rattle.text.proofs.Bounds.{between_ranging}
 use Rattle.sheet.specs.Lines.{lines, fittings}
 use Rattle.sheet.specs.Places.{fittings_at, sheet_words}

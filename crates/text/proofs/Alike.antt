@@ -10,7 +10,7 @@ use lib.ListN.{length, drop, get_or, replicate, drop_of_length-le}
 use Rattle.text.specs.Limit.{Limit, all_hold, from_zero}
 use Rattle.ground.proofs.Booleans.{by_less}
 use Rattle.ground.proofs.Stores.{drop_more}
-use Rattle.text.proofs.Limit.{low_holds}
+use Rattle.text.proofs.Limits.{low_holds}
 
 -- ---- the greatest, found number by number
 

@@ -1,12 +1,11 @@
 -- Limits of the common kinds, as inequalities: a range, and a count of the number before it.
 use mathlib.Core.Path.{◌≡◌}
 use mathlib.Core.Bool.{true, false, ◌&&◌}
-use Prim.Native.Nat.{ℕ, ◌*◌, ◌≤◌, ◌<◌}
-use native.Mathlib.Omega.{arith}
-use borrow.Author.Tests.{leb-true, le-leb, lt-ltb, ne_eqb}
-use lib.Dec.{eqb, leb}
+use Prim.Native.Nat.{ℕ, ◌*◌, ◌≤◌}
+use borrow.Author.Tests.{leb-true, le-leb}
+use lib.Dec.{leb}
 use Rattle.ground.proofs.Booleans.{both_hold}
-use Rattle.text.specs.Limit.{or_none, capped, ranging, ranging_count, holds}
+use Rattle.text.specs.Limit.{ranging, ranging_count, holds}
 
 pub record Between (low high n : ℕ) : Type 0 where
   pub least : low ≤ n
@@ -27,19 +26,10 @@ pub record Counted (low high top last n : ℕ) : Type 0 where
   pub most : n ≤ high
   pub product : last * n ≤ top
 
-module _ (low high top last n : ℕ) (r : capped < top) where
-  -- a top is no other rule
-  not_none : eqb top or_none ≡ false
-  not_none = ne_eqb top or_none (λ e. omega arith)
-
-  not_capped : eqb top capped ≡ false
-  not_capped = ne_eqb top capped (λ e. omega arith)
-
+module _ (low high top last n : ℕ) where
   pub count_counted : holds (ranging_count low high top) last n ≡ true → Counted low high top last n
   count_counted h =
-      let e : (leb low n && (leb n high && leb (last * n) top)) ≡ true =
-      rw (not_none, not_capped, lt-ltb capped top r) at h in
-      let p = both_hold (leb low n) (leb n high && leb (last * n) top) e in
+      let p = both_hold (leb low n) (leb n high && leb (last * n) top) h in
       let q = both_hold (leb n high) (leb (last * n) top) p.1 in
       record {
         least = leb-true low n p.0;
@@ -48,12 +38,4 @@ module _ (low high top last n : ℕ) (r : capped < top) where
       }
 
   pub counted_count : Counted low high top last n → holds (ranging_count low high top) last n ≡ true
-  counted_count c =
-      rw (
-        not_none,
-        not_capped,
-        lt-ltb capped top r,
-        le-leb low n c.least,
-        le-leb n high c.most,
-        le-leb (last * n) top c.product,
-      )
+  counted_count c = rw (le-leb low n c.least, le-leb n high c.most, le-leb (last * n) top c.product)

@@ -11,7 +11,7 @@ use borrow.Author.Tests.{le-leb, lt-leb}
 use lib.ListN.{length, drop, get_or, drop_of_length-le}
 use lib.Seq.{drop-cons}
 use Rattle.ground.proofs.Booleans.{second_fails, by_less}
-use Rattle.text.specs.declared.NumberRead.TheVariants.{Value, Malformed}
+use Rattle.std.specs.Prelude.{Ok, Err}
 use Rattle.text.specs.Quoted.{digit0}
 use Rattle.text.specs.Number.{is_digit, nine_digits, rest_of, number_of, digits_in, digits_of}
 use Rattle.text.proofs.Number.{length_digits_small, length_digits_more, length_digits_mono, length_digits_ten}
@@ -84,21 +84,21 @@ module _ {f : List ℕ} {n i : ℕ} (g : Digits f n i) where
         rest = g.rest ∙ rw (add-one, drop-cons f i 0, e, le-leb n nine_digits (digits_nine l), rest_of);
       }
 
-  pub digits_stop : i < length f → is_digit (get_or f i 0) ≡ false → number_of f ≡ Malformed i
+  pub digits_stop : i < length f → is_digit (get_or f i 0) ≡ false → number_of f ≡ Err i
   unfolding rest_of
   digits_stop h e = g.rest ∙ rw (drop-cons f i 0, e, rest_of)
 
   -- an eleventh byte is at fault whatever it is
-  pub digits_full : i < length f → 10 ≤ i → number_of f ≡ Malformed i
+  pub digits_full : i < length f → 10 ≤ i → number_of f ≡ Err i
   unfolding rest_of
   digits_full h l =
       let e = second_fails (is_digit (get_or f i 0)) (lt-leb n nine_digits (digits_ten l)) in
       g.rest ∙ rw (drop-cons f i 0, e, rest_of)
 
-  pub digits_end : length f ≤ i → number_of f ≡ Value n
+  pub digits_end : length f ≤ i → number_of f ≡ Ok n
   unfolding rest_of
   digits_end h = g.rest ∙ rw (drop_of_length-le f {i = i} h)
 
 -- a number has ten digits at most
-pub ten_most : (f : List ℕ) (n : ℕ) → number_of f ≡ Value n → length f ≤ 10
+pub ten_most : (f : List ℕ) (n : ℕ) → number_of f ≡ Ok n → length f ≤ 10
 ten_most f n v = omega (arith, ap length (read_writes f n v), length_digits_ten n (read_small f n v))

@@ -8,10 +8,10 @@ use lib.Dec.{eqb}
 use lib.ListN.{length, drop, length-drop}
 use Rattle.answers.specs.Refusals.{broken_line, outside_limits}
 use Rattle.ground.proofs.Booleans.{both_hold, by_test}
-use Rattle.text.specs.declared.NumberRead.{NumberRead}
-use Rattle.text.specs.declared.NumberRead.TheVariants.{Value, Malformed}
-use Rattle.text.specs.declared.EntryRead.{EntryRead}
-use Rattle.text.specs.declared.EntryRead.TheVariants.{Number, Misread}
+use Rattle.text.specs.Number.{NumberRead}
+use Rattle.std.specs.Prelude.{Ok, Err}
+use Rattle.text.specs.Read.{EntryRead}
+use Rattle.text.specs.Read.{Number, Misread}
 use Rattle.text.specs.Quoted.{dash}
 use Rattle.text.specs.Field.{field_of, begins}
 use Rattle.text.specs.Number.{number_of}
@@ -24,11 +24,11 @@ use Rattle.text.proofs.NumberSteps.{number_place}
 
 -- an entry that is a `-` for none
 pub record Dashed (l : Limit) (last e : ℕ) (t : List ℕ) : Type 0 where
-  pub dashed : (eqb l.rule or_none && begins dash t) ≡ true
+  pub dashed : (or_none l.rule && begins dash t) ≡ true
 
 module _ {l : Limit} {last e : ℕ} {t : List ℕ} (g : Dashed l last e t) where
   pub dash_some : 0 < length t
-  dash_some = begins_some dash t (both_hold (eqb l.rule or_none) (begins dash t) g.dashed).1
+  dash_some = begins_some dash t (both_hold (or_none l.rule) (begins dash t) g.dashed).1
 
   pub dash_ended : begins e (drop 1 t) ≡ true → read_entry l last e t ≡ Number 0 2
   unfolding read_entry
@@ -40,16 +40,16 @@ module _ {l : Limit} {last e : ℕ} {t : List ℕ} (g : Dashed l last e t) where
 
 -- an entry that is no `-` for none: its field f, and what that reads as
 pub record Entered (l : Limit) (last e : ℕ) (t f : List ℕ) (r : NumberRead) : Type 0 where
-  pub undashed : (eqb l.rule or_none && begins dash t) ≡ false
+  pub undashed : (or_none l.rule && begins dash t) ≡ false
   pub field : f ≡ field_of t
   pub read : number_of f ≡ r
 
 module _ {l : Limit} {last e : ℕ} {t f : List ℕ} where
-  pub no_number : {at : ℕ} → Entered l last e t f (Malformed at) → read_entry l last e t ≡ Misread broken_line at
+  pub no_number : {at : ℕ} → Entered l last e t f (Err at) → read_entry l last e t ≡ Misread broken_line at
   unfolding read_entry
   no_number g = rw (g.undashed, ← g.field, g.read)
 
-  module _ {n : ℕ} (g : Entered l last e t f (Value n)) where
+  module _ {n : ℕ} (g : Entered l last e t f (Ok n)) where
     pub unended : begins e (drop (length f) t) ≡ false → read_entry l last e t ≡ Misread broken_line (length f)
     unfolding read_entry
     unended b = rw (g.undashed, ← g.field, g.read, b)
@@ -79,9 +79,9 @@ begun e t k b = omega (arith, begins_some e (drop k t) b, length-drop k t)
 entered_reach : (l : Limit) (last e : ℕ) (t : List ℕ) (r : NumberRead)
     → Entered l last e t (field_of t) r
     → reach (read_entry l last e t) ≤ length t
-entered_reach l last e t (Malformed at) g =
+entered_reach l last e t (Err at) g =
     rw (no_number g) (omega (arith, number_place (field_of t) at g.read, field_most t))
-entered_reach l last e t (Value n) g =
+entered_reach l last e t (Ok n) g =
     by_test (begins e (drop (length (field_of t)) t))
     (λ b.
     by_test (within l last n) (λ w. rw (taken g b w) (omega (arith, begun e t (length (field_of t)) b)))
@@ -90,7 +90,7 @@ entered_reach l last e t (Value n) g =
 
 pub entry_reach : (l : Limit) (last e : ℕ) (t : List ℕ) → reach (read_entry l last e t) ≤ length t
 entry_reach l last e t =
-    by_test (eqb l.rule or_none && begins dash t)
+    by_test (or_none l.rule && begins dash t)
     (λ d.
     let g : Dashed l last e t = record { dashed = d } in
     by_test (begins e (drop 1 t)) (λ b. rw (dash_ended g b) (omega (arith, begun e t 1 b)))

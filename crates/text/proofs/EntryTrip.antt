@@ -9,10 +9,10 @@ use lib.Dec.{eqb}
 use lib.ListN.{length, drop, length-append}
 use lib.Seq.{drop-append_seam, drop-drop}
 use Rattle.ground.proofs.Booleans.{both_hold, by_test}
-use Rattle.text.specs.declared.NumberRead.{NumberRead}
-use Rattle.text.specs.declared.NumberRead.TheVariants.{Value, Malformed}
-use Rattle.text.specs.declared.EntryRead.{EntryRead}
-use Rattle.text.specs.declared.EntryRead.TheVariants.{Number, Misread}
+use Rattle.text.specs.Number.{NumberRead}
+use Rattle.std.specs.Prelude.{Ok, Err}
+use Rattle.text.specs.Read.{EntryRead}
+use Rattle.text.specs.Read.{Number, Misread}
 use Rattle.text.specs.Quoted.{tab, feed, dash}
 use Rattle.text.specs.Field.{field_of, begins}
 use Rattle.text.specs.Number.{eleven_digits, number_of, digits_of}
@@ -20,7 +20,7 @@ use Rattle.text.specs.Limit.{Limit, or_none, is_none, within, holds}
 use Rattle.text.specs.Line.{ender, closer, judged, read_entry, entry_text}
 use Rattle.text.proofs.Field.{begins_cons, field_split, field_stop, field_more}
 use Rattle.text.proofs.NumberTrip.{read_writes, written_reads, field_digits, no_dash}
-use Rattle.text.proofs.Limit.{none_zero, within_some, holds_within, within_holds}
+use Rattle.text.proofs.Limits.{none_zero, within_some, holds_within, within_holds}
 use Rattle.text.proofs.Entry.{dash_ended, taken}
 use Rattle.text.proofs.Led.{Led}
 
@@ -60,7 +60,7 @@ module _ (l : Limit) (last e n : ℕ) (rest : List ℕ) (w : Ends e) (h : holds 
   where
     none_forth : is_none l n ≡ true → read_entry l last e (dash ∷ e ∷ rest) ≡ Number n 2
     none_forth d =
-        let r : (eqb l.rule or_none && true) ≡ true = rw (both_hold (eqb l.rule or_none) (eqb n 0) d).0 in
+        let r : (or_none l.rule && true) ≡ true = rw (both_hold (or_none l.rule) (eqb n 0) d).0 in
         let z = none_zero l n d in
         dash_ended (record { dashed = r }) (eq-eqb e e refl) ∙ rw z
 
@@ -89,9 +89,9 @@ module _ (l : Limit) (last e : ℕ) (t : List ℕ) where
   Returns (Number n k) = Back l last e t n k
   Returns (Misread number at) = Unit {0}
 
-  none_back : (eqb l.rule or_none && begins dash t) ≡ true → begins e (drop 1 t) ≡ true → Back l last e t 0 2
+  none_back : (or_none l.rule && begins dash t) ≡ true → begins e (drop 1 t) ≡ true → Back l last e t 0 2
   none_back d b =
-      let p = both_hold (eqb l.rule or_none) (begins dash t) d in
+      let p = both_hold (or_none l.rule) (begins dash t) d in
       let r : is_none l 0 ≡ true = rw p.0 in
       let s : t ≡ dash ∷ e ∷ drop 2 t =
       begins_cons dash t p.1
@@ -99,7 +99,7 @@ module _ (l : Limit) (last e : ℕ) (t : List ℕ) where
       record { led = record { start = rw r s; count = rw r }; held = rw r }
 
   value_back : (m : ℕ)
-      → number_of (field_of t) ≡ Value m
+      → number_of (field_of t) ≡ Ok m
       → begins e (drop (length (field_of t)) t) ≡ true
       → within l last m ≡ true
       → Back l last e t m (length (field_of t) + 1)
@@ -118,15 +118,15 @@ module _ (l : Limit) (last e : ℕ) (t : List ℕ) where
   judged_back : (r : NumberRead)
       → number_of (field_of t) ≡ r
       → Returns (judged r l last e (length (field_of t)) (drop (length (field_of t)) t))
-  judged_back (Malformed at) v = tt
-  judged_back (Value m) v =
+  judged_back (Err at) v = tt
+  judged_back (Ok m) v =
       by_test (begins e (drop (length (field_of t)) t))
       (λ b. by_test (within l last m) (λ i. rw (b, i) (value_back m v b i)) (λ i. rw (b, i) tt)) (λ b. rw b tt)
 
   returned : Returns (read_entry l last e t)
   unfolding read_entry
   returned =
-      by_test (eqb l.rule or_none && begins dash t)
+      by_test (or_none l.rule && begins dash t)
       (λ d. by_test (begins e (drop 1 t)) (λ b. rw (d, b) (none_back d b)) (λ b. rw (d, b) tt))
       (λ d. rw d (judged_back (number_of (field_of t)) refl))
 

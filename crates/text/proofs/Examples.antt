@@ -5,13 +5,13 @@ use mathlib.Core.List.{List, [], ◌∷◌, map}
 use Prim.Native.Nat.{ℕ, zero, suc, ◌-◌}
 use Prim.Native.String.{String}
 use lib.ListN.{length}
-use Rattle.text.specs.declared.NumberRead.TheVariants.{Value, Malformed}
-use Rattle.text.specs.declared.EntryRead.{EntryRead}
-use Rattle.text.specs.declared.EntryRead.TheVariants.{Number, Misread}
+use Rattle.std.specs.Prelude.{Ok, Err}
+use Rattle.text.specs.Read.{EntryRead}
+use Rattle.text.specs.Read.{Number, Misread}
 use Rattle.text.specs.Quoted.{bytes, tab}
 use Rattle.text.specs.Field.{field_of}
 use Rattle.text.specs.Number.{eleven_digits, rest_of, number_of, digits_in, digits_of}
-use Rattle.text.specs.Limit.{Limit, ranging, ranging_capped, ranging_or_none, ranging_count, spare, limits_of}
+use Rattle.text.specs.Limit.{Plain, OrNone, Capped, Product, Limit, ranging, ranging_capped, ranging_or_none, ranging_count, spare}
 use Rattle.text.specs.Line.{read_entry}
 
 -- ---- a number: 1 to 10 digits, no leading zero but 0 itself
@@ -20,8 +20,8 @@ numbers_right :
     map (λ (s : String). number_of (bytes s))
     ("0" ∷ "7" ∷ "4294967295" ∷ "4294967296" ∷ "9999999999" ∷ "" ∷ "00" ∷ "07" ∷ "10000000000" ∷ "12x" ∷ "-" ∷ "-1"
     ∷ " 1" ∷ [])
-    ≡ Value 0 ∷ Value 7 ∷ Value 4294967295 ∷ Value 4294967296 ∷ Value 9999999999 ∷ Malformed 0 ∷ Malformed 1
-    ∷ Malformed 1 ∷ Malformed 10 ∷ Malformed 2 ∷ Malformed 0 ∷ Malformed 0 ∷ Malformed 0 ∷ []
+    ≡ Ok 0 ∷ Ok 7 ∷ Ok 4294967295 ∷ Ok 4294967296 ∷ Ok 9999999999 ∷ Err 0 ∷ Err 1
+    ∷ Err 1 ∷ Err 10 ∷ Err 2 ∷ Err 0 ∷ Err 0 ∷ Err 0 ∷ []
 unfolding number_of rest_of
 numbers_right = refl
 
@@ -81,11 +81,12 @@ entries_right :
 unfolding entries read_entry field_of number_of rest_of
 entries_right = refl
 
--- ---- a limit as the code's tables have it: low, high, and the number of its rule; what a row lacks is 0
+-- ---- a limit as the code's tables have it: low, high and rule
 
 tables_right :
-    limits_of ((0 ∷ 1 ∷ 0 ∷ []) ∷ (1 ∷ 24 ∷ 1 ∷ []) ∷ (2000 ∷ 6000 ∷ 2 ∷ []) ∷ (1 ∷ 99 ∷ 500000 ∷ []) ∷ [] ∷ [])
-    ≡ ranging 0 1 ∷ ranging_or_none 1 24 ∷ ranging_capped 2000 6000 ∷ ranging_count 1 99 500000 ∷ ranging 0 0 ∷ []
+    record { low = 0; high = 1; rule = Plain } ∷ record { low = 1; high = 24; rule = OrNone }
+    ∷ record { low = 2000; high = 6000; rule = Capped } ∷ record { low = 1; high = 99; rule = Product 500000 } ∷ []
+    ≡ ranging 0 1 ∷ ranging_or_none 1 24 ∷ ranging_capped 2000 6000 ∷ ranging_count 1 99 500000 ∷ []
 tables_right = refl
 
 -- ---- which numbers may be left out: those of a count, and what follows it; where there are none, nothing is

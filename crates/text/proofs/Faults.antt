@@ -8,12 +8,12 @@ use borrow.Author.Tests.{eqb-true, ne_eqb}
 use lib.Dec.{eqb}
 use lib.ListN.{length, drop}
 use Rattle.answers.specs.Refusals.{broken_line, outside_limits}
-use Rattle.text.specs.declared.NumberRead.{NumberRead}
-use Rattle.text.specs.declared.NumberRead.TheVariants.{Value, Malformed}
-use Rattle.text.specs.declared.EntryRead.{EntryRead}
-use Rattle.text.specs.declared.EntryRead.TheVariants.{Number, Misread}
-use Rattle.text.specs.declared.LineRead.{LineRead}
-use Rattle.text.specs.declared.LineRead.TheVariants.{Taken, Fault}
+use Rattle.text.specs.Number.{NumberRead}
+use Rattle.std.specs.Prelude.{Ok, Err}
+use Rattle.text.specs.Read.{EntryRead}
+use Rattle.text.specs.Read.{Number, Misread}
+use Rattle.text.specs.Read.{LineRead}
+use Rattle.text.specs.Read.{Taken, Fault}
 use Rattle.text.specs.Quoted.{feed, dash}
 use Rattle.text.specs.Field.{field_of, begins, agreed}
 use Rattle.text.specs.Number.{number_of}
@@ -51,14 +51,14 @@ abbrev EntryTextual : EntryRead → Type 0
 EntryTextual r = entry_by r ≡ true
 
 judged_textual : (r : NumberRead) (l : Limit) (last e len : ℕ) (t : List ℕ) → EntryTextual (judged r l last e len t)
-judged_textual (Malformed at) l last e len t = refl
-judged_textual (Value n) l last e len t =
+judged_textual (Err at) l last e len t = refl
+judged_textual (Ok n) l last e len t =
     either EntryTextual (begins e t) (either EntryTextual (within l last n) refl refl) refl
 
 entry_textual : (l : Limit) (last e : ℕ) (t : List ℕ) → EntryTextual (read_entry l last e t)
 unfolding read_entry
 entry_textual l last e t =
-    either EntryTextual (eqb l.rule or_none && begins dash t) (either EntryTextual (begins e (drop 1 t)) refl refl)
+    either EntryTextual (or_none l.rule && begins dash t) (either EntryTextual (begins e (drop 1 t)) refl refl)
     (judged_textual (number_of (field_of t)) l last e (length (field_of t)) (drop (length (field_of t)) t))
 
 numbers_textual : (ls : List Limit) (last : ℕ) (t : List ℕ) → Textual (read_numbers ls last t)

@@ -4,7 +4,7 @@ pub mod Number  -- the digits of a number, and how many they are
 pub mod NumberSteps  -- a field read as a number, digit by digit
 pub mod NumberTrip  -- from a number to its digits and back
 pub mod Digits  -- the first digits of a field; a number has ten at most
-pub mod Limit  -- the table of limits, one number, many numbers
+pub mod Limits  -- the table of limits, one number, many numbers
 pub mod Bounds  -- limits of the common kinds, as inequalities
 pub mod Alike  -- many numbers by one limit: the greatest tells
 pub mod Entry  -- a number read with the byte that must end it

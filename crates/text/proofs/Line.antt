@@ -10,10 +10,10 @@ use lib.ListN.{length, take, drop, length-drop}
 use Rattle.answers.specs.Refusals.{broken_line}
 use Rattle.ground.proofs.Booleans.{both_hold, by_test, by_equal}
 use Rattle.ground.proofs.Stores.{rest_part}
-use Rattle.text.specs.declared.LineRead.{LineRead}
-use Rattle.text.specs.declared.LineRead.TheVariants.{Taken, Fault}
+use Rattle.text.specs.Read.{LineRead}
+use Rattle.text.specs.Read.{Taken, Fault}
 use Rattle.text.specs.Quoted.{feed}
-use Rattle.text.specs.Limit.{Limit, spare, limits_of}
+use Rattle.text.specs.Limit.{Limit, spare}
 use Rattle.text.specs.Field.{field_of, begins, agreed}
 use Rattle.text.specs.Line.{Line, line_of, Reads, shift_by, after, nothing, refused, ender, stops_short, on_entry}
 use Rattle.text.specs.Line.{read_entry, read_numbers, read_line}
@@ -91,10 +91,10 @@ line_extent l t =
 -- ---- what the line reader leaves
 
 -- the text starts with the tag
-pub record Tagged (tag : List ℕ) (table : List (List ℕ)) (t : List ℕ) : Type 0 where
+pub record Tagged (tag : List ℕ) (table : List Limit) (t : List ℕ) : Type 0 where
   pub whole : agreed tag t ≡ length tag
 
-pub reads_untagged : (tag : List ℕ) (table : List (List ℕ)) (t o : List ℕ) (same : ℕ)
+pub reads_untagged : (tag : List ℕ) (table : List Limit) (t o : List ℕ) (same : ℕ)
     → same ≡ agreed tag t
     → same ≢ length tag
     → Reads (read_line (line_of tag table) t) o (Fault broken_line same) o
@@ -103,14 +103,14 @@ reads_untagged tag table t o same q n =
     line_untagged (line_of tag table) t (λ (d : agreed tag t ≡ length tag). n (q ∙ d)) ∙ rw q in
     record { answer = rw e; stored = rw e }
 
-module _ {tag : List ℕ} {table : List (List ℕ)} {t : List ℕ} (g : Tagged tag table t) where
+module _ {tag : List ℕ} {table : List Limit} {t : List ℕ} (g : Tagged tag table t) where
   pub tag_fits : length tag ≤ length t
   tag_fits = omega (arith, g.whole, agreed_fits tag t)
 
   module _ {r : LineRead} {o₀ o : List ℕ}
-      (p : Reads (read_numbers (limits_of table) 0 (take (length t - length tag) (drop (length tag) t))) o₀ r o) where
+      (p : Reads (read_numbers table 0 (take (length t - length tag) (drop (length tag) t))) o₀ r o) where
     -- what is left to read, as the reader was lent it
-    lent : Reads (read_numbers (limits_of table) 0 (drop (length tag) t)) o₀ r o
+    lent : Reads (read_numbers table 0 (drop (length tag) t)) o₀ r o
     lent = rw rest_part at p
 
     pub reads_tagged : Reads (read_line (line_of tag table) t) o₀ (shift_by (length tag) r) o
@@ -121,4 +121,4 @@ module _ {tag : List ℕ} {table : List (List ℕ)} {t : List ℕ} (g : Tagged t
     pub tagged_in : length tag + extent r ≤ length t
     tagged_in =
         let e = ap extent lent.answer in
-        omega (arith, numbers_extent (limits_of table) 0 (drop (length tag) t), length-drop (length tag) t, tag_fits)
+        omega (arith, numbers_extent table 0 (drop (length tag) t), length-drop (length tag) t, tag_fits)

@@ -9,9 +9,9 @@ use lib.Dec.{eqb}
 use lib.ListN.{length, take, drop}
 use lib.Seq.{take_at, take-append_seam}
 use Rattle.ground.proofs.Booleans.{both_hold, by_test, by_equal}
-use Rattle.text.specs.declared.NumberRead.{NumberRead}
-use Rattle.text.specs.declared.NumberRead.TheVariants.{Value, Malformed}
-use Rattle.text.specs.declared.EntryRead.TheVariants.{Number}
+use Rattle.text.specs.Number.{NumberRead}
+use Rattle.std.specs.Prelude.{Ok, Err}
+use Rattle.text.specs.Read.{Number}
 use Rattle.text.specs.Quoted.{tab, feed, dash}
 use Rattle.text.specs.Field.{field_of, begins, agreed}
 use Rattle.text.specs.Number.{number_of}
@@ -55,8 +55,8 @@ module _ (t : List ℕ) where
 
   judged_alone : (r : NumberRead) (l : Limit) (last e len : ℕ)
       → judged r l last e len (first_line t) ≡ judged r l last e len t
-  judged_alone (Malformed at) l last e len = refl
-  judged_alone (Value n) l last e len = rw (first_begins e t)
+  judged_alone (Err at) l last e len = refl
+  judged_alone (Ok n) l last e len = rw (first_begins e t)
 
 dash_free : (t : List ℕ) → begins dash t ≡ true → feeds (take 1 t) ≡ 0
 dash_free t b = rw (begins_cons dash t b) (feeds_other dash [] (λ z. omega arith) ∙ feeds_none)
@@ -65,9 +65,9 @@ entry_alone : (l : Limit) (last e : ℕ) (t : List ℕ) → read_entry l last e 
 unfolding read_entry
 entry_alone l last e t =
     let k : ℕ = length (field_of t) in
-    by_test (eqb l.rule or_none && begins dash t)
+    by_test (or_none l.rule && begins dash t)
     (λ d.
-    let z = dash_free t (both_hold (eqb l.rule or_none) (begins dash t) d).1 in
+    let z = dash_free t (both_hold (or_none l.rule) (begins dash t) d).1 in
     rw (first_begins dash t, d, first_drop 1 t z, first_begins e (drop 1 t)))
     (λ d.
     rw (first_begins dash t, d, first_field t, past_field t)

@@ -4,8 +4,8 @@ use mathlib.Core.List.{List, [], ◌∷◌, map}
 use Prim.Native.Nat.{ℕ}
 use Prim.Native.String.{String}
 use Rattle.answers.specs.Refusals.{broken_line, outside_limits}
-use Rattle.text.specs.declared.LineRead.{LineRead}
-use Rattle.text.specs.declared.LineRead.TheVariants.{Taken, Fault}
+use Rattle.text.specs.Read.{LineRead}
+use Rattle.text.specs.Read.{Taken, Fault}
 use Rattle.text.specs.Quoted.{bytes}
 use Rattle.text.specs.Field.{field_of, agreed}
 use Rattle.text.specs.Number.{rest_of, number_of}

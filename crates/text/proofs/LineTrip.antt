@@ -6,7 +6,7 @@ use mathlib.Core.List.{List, ◌++◌, append_assoc}
 use Prim.Native.Nat.{ℕ}
 use lib.ListN.{length, drop, length-append}
 use lib.Seq.{drop-append_seam}
-use Rattle.text.specs.declared.LineRead.TheVariants.{Taken, Fault}
+use Rattle.text.specs.Read.{Taken, Fault}
 use Rattle.text.specs.Field.{agreed}
 use Rattle.text.specs.Limit.{all_hold}
 use Rattle.text.specs.Line.{Line, read_numbers, read_line}
@@ -16,7 +16,7 @@ use Rattle.answers.specs.Refusals.{broken_line}
 use Rattle.ground.proofs.Booleans.{false_true, by_equal}
 use Rattle.text.proofs.Line.{line_tagged, line_untagged}
 use Rattle.text.proofs.Led.{Led, led_more}
-use Rattle.text.proofs.Limit.{readable}
+use Rattle.text.proofs.Limits.{readable}
 use Rattle.text.proofs.NumbersTrip.{shift_taken, got, numbers_forth, BackAll, numbers_back}
 
 -- ---- a line

@@ -10,7 +10,7 @@ use Rattle.text.specs.Limit.{Limit, is_none, holds, all_hold}
 use Rattle.text.specs.Line.{Line, closer, entry_text, numbers_text, line_text}
 use Rattle.ground.proofs.Booleans.{both_hold, false_true, by_test}
 use Rattle.text.proofs.Number.{length_digits_mono}
-use Rattle.text.proofs.Limit.{within_high, holds_within}
+use Rattle.text.proofs.Limits.{within_high, holds_within}
 
 one_digit : length (digits_of 0) ≡ 1
 unfolding digits_of digits_in

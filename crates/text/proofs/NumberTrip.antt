@@ -8,8 +8,8 @@ use borrow.Author.Tests.{leb-true, le-leb, eq-eqb, ne_eqb}
 use lib.Dec.{leb}
 use lib.ListN.{length}
 use Rattle.ground.proofs.Booleans.{both_hold, false_true, by_equal}
-use Rattle.text.specs.declared.NumberRead.{NumberRead}
-use Rattle.text.specs.declared.NumberRead.TheVariants.{Value, Malformed}
+use Rattle.text.specs.Number.{NumberRead}
+use Rattle.std.specs.Prelude.{Ok, Err}
 use Rattle.text.specs.Quoted.{tab, feed, dash, digit0}
 use Rattle.text.specs.Field.{field_of, begins}
 use Rattle.text.specs.Number.{is_digit, nine_digits, eleven_digits, rest_of, zero_alone, number_of, digits_of}
@@ -21,8 +21,8 @@ use Rattle.text.proofs.NumberSteps.{digit_high, digit_is, digit_low}
 
 -- a value came by the arm that reads on
 value_past : (t : Bool) (r : NumberRead) (at : ℕ) {m : ℕ}
-    → (elim t [ true ↦ r | false ↦ Malformed at ]) ≡ Value m
-    → (t ≡ true) × (r ≡ Value m)
+    → ◌≡◌ {A = NumberRead} (elim t [ true ↦ r | false ↦ Err at ]) (Ok m)
+    → (t ≡ true) × (r ≡ Ok m)
 value_past true r at e = (refl, e)
 value_past false r at e = false_true (cc)
 
@@ -30,7 +30,7 @@ value_past false r at e = false_true (cc)
 rest_back : (n i : ℕ) (s : List ℕ) (m : ℕ)
     → 0 < n
     → n < eleven_digits
-    → rest_of n i s ≡ Value m
+    → rest_of n i s ≡ Ok m
     → (digits_of n ++ s ≡ digits_of m) × (m < eleven_digits)
 unfolding rest_of
 rest_back n i [] m h l e =
@@ -46,11 +46,11 @@ rest_back n i (b ∷ s) m h l e =
     let ih = rest_back (10 * n + (b - digit0)) (suc i) s m (omega arith) few p.1 in
     (rw (digits_push n (b - digit0) h (omega arith), d, append_assoc) at ih.0, ih.1)
 
-zero_back : (s : List ℕ) (n : ℕ) → zero_alone s ≡ Value n → (s ≡ []) × (n ≡ 0)
+zero_back : (s : List ℕ) (n : ℕ) → zero_alone s ≡ Ok n → (s ≡ []) × (n ≡ 0)
 zero_back [] n e = (refl, cc)
 zero_back (b ∷ s) n e = false_true (cc)
 
-read_back : (f : List ℕ) (n : ℕ) → number_of f ≡ Value n → (f ≡ digits_of n) × (n < eleven_digits)
+read_back : (f : List ℕ) (n : ℕ) → number_of f ≡ Ok n → (f ≡ digits_of n) × (n < eleven_digits)
 unfolding number_of
 read_back [] n e = false_true (cc)
 read_back (b ∷ s) n e =
@@ -66,10 +66,10 @@ read_back (b ∷ s) n e =
     let r = rest_back (b - digit0) 1 s n (omega arith) (omega arith) (rw (ne_eqb b digit0 k) at p.1) in
     (rw (digits_small (b - digit0) (omega arith), d) at r.0, r.1))
 
-pub read_writes : (f : List ℕ) (n : ℕ) → number_of f ≡ Value n → f ≡ digits_of n
+pub read_writes : (f : List ℕ) (n : ℕ) → number_of f ≡ Ok n → f ≡ digits_of n
 read_writes f n e = (read_back f n e).0
 
-pub read_small : (f : List ℕ) (n : ℕ) → number_of f ≡ Value n → n < eleven_digits
+pub read_small : (f : List ℕ) (n : ℕ) → number_of f ≡ Ok n → n < eleven_digits
 read_small f n e = (read_back f n e).1
 
 -- ---- the digits of a number give the number, with anything after them
@@ -95,7 +95,7 @@ forth_more n m ih s p l =
     ∙ ih ((digit0 + n % 10) ∷ s) (omega arith) (omega arith)
     ∙ rw (d, le-leb (n / 10) nine_digits (omega arith), rest_of, e, j)
 
-pub written_reads : (n : ℕ) → n < eleven_digits → number_of (digits_of n) ≡ Value n
+pub written_reads : (n : ℕ) → n < eleven_digits → number_of (digits_of n) ≡ Ok n
 unfolding number_of rest_of
 written_reads zero h = rw (digits_small 0 (omega arith))
 written_reads (suc n) h =

@@ -8,8 +8,8 @@ use native.Mathlib.Nat.{add-zero}
 use native.Mathlib.Omega.{arith}
 use lib.Dec.{ltb}
 use lib.ListN.{length, drop}
-use Rattle.text.specs.declared.LineRead.{LineRead}
-use Rattle.text.specs.declared.LineRead.TheVariants.{Taken, Fault}
+use Rattle.text.specs.Read.{LineRead}
+use Rattle.text.specs.Read.{Taken, Fault}
 use Rattle.text.specs.Quoted.{tab, feed}
 use Rattle.text.specs.Number.{eleven_digits}
 use Rattle.text.specs.Limit.{Limit, counts, holds, spare, all_hold}
@@ -18,7 +18,7 @@ use Rattle.text.specs.Line.{entry_text, closer, numbers_text}
 use Rattle.ground.proofs.Booleans.{both_hold, false_true, by_test}
 use Rattle.text.proofs.Line.{numbers_short, numbers_whole, short_spare}
 use Rattle.text.proofs.Led.{Led, led_more, led_none}
-use Rattle.text.proofs.Limit.{narrow, readable, readable_narrow, readable_some, holds_small}
+use Rattle.text.proofs.Limits.{narrow, readable, readable_narrow, readable_some, holds_small}
 use Rattle.text.proofs.Entry.{by_entry}
 use Rattle.text.proofs.EntryTrip.{after_field_lem, after_entry_lem, entry_long, Back, entry_back, entry_forth}
 

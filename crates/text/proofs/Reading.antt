@@ -8,16 +8,16 @@ use native.Mathlib.Omega.{arith}
 use lib.Dec.{eqb}
 use lib.ListN.{length, drop, set, length-append, length-drop}
 use lib.Seq.{sets, drop-drop}
-use Rattle.text.specs.declared.EntryRead.{EntryRead}
-use Rattle.text.specs.declared.EntryRead.TheVariants.{Number, Misread}
-use Rattle.text.specs.declared.LineRead.{LineRead}
-use Rattle.text.specs.declared.LineRead.TheVariants.{Taken, Fault}
+use Rattle.text.specs.Read.{EntryRead}
+use Rattle.text.specs.Read.{Number, Misread}
+use Rattle.text.specs.Read.{LineRead}
+use Rattle.text.specs.Read.{Taken, Fault}
 use Rattle.text.specs.Quoted.{tab, feed}
-use Rattle.text.specs.Limit.{Limit, limits_of}
+use Rattle.text.specs.Limit.{Limit}
 use Rattle.text.specs.Line.{Reading, Reads, shift_by, after, nothing, refused, ender, stops_short, on_entry}
 use Rattle.text.specs.Line.{read_entry, read_numbers}
 use Rattle.ground.proofs.Stores.{sets_snoc}
-use Rattle.text.proofs.Limit.{limit_at, limits_more, limits_end, length_limits}
+use Rattle.text.proofs.Limits.{limit_at, limits_more, limits_end}
 use Rattle.text.proofs.Entry.{reach, entry_reach}
 use Rattle.text.proofs.Line.{numbers_short, numbers_whole}
 
@@ -43,29 +43,29 @@ ender_left : (ls : List Limit) → ender ls ≡ cond (eqb (length ls) 0) feed ta
 ender_left [] = refl
 ender_left (l ∷ ls) = rw (lib.Dec.eqb-suc-zero (length ls))
 
-pub ender_after : (t : List (List ℕ)) (k : ℕ)
-    → ender (limits_of (drop (k + 1) t)) ≡ cond (eqb (length t - k - 1) 0) feed tab
+pub ender_after : (t : List Limit) (k : ℕ)
+    → ender (drop (k + 1) t) ≡ cond (eqb (length t - k - 1) 0) feed tab
 ender_after t k =
     let n : length t - (k + 1) ≡ length t - k - 1 = omega arith in
-    ender_left (limits_of (drop (k + 1) t)) ∙ rw (length_limits, length-drop, n)
+    ender_left (drop (k + 1) t) ∙ rw (length-drop, n)
 
 -- what reading the numbers from place k on gives, from the byte `at` on
-abbrev pub read_from : List (List ℕ) → List ℕ → ℕ → ℕ → ℕ → Reading
-read_from table t k last at = read_numbers (limits_of (drop k table)) last (drop at t)
+abbrev pub read_from : List Limit → List ℕ → ℕ → ℕ → ℕ → Reading
+read_from table t k last at = read_numbers (drop k table) last (drop at t)
 
 -- k numbers are read, which took `at` bytes of t
-pub record State (table : List (List ℕ)) (t o₀ o : List ℕ) (k last at : ℕ) : Type 0 where
+pub record State (table : List Limit) (t o₀ o : List ℕ) (k last at : ℕ) : Type 0 where
   pub so : List ℕ
   pub at_in : at ≤ length t
   pub many : length so ≡ k
   pub stored : o ≡ sets o₀ 0 so
-  pub so_far : read_numbers (limits_of table) 0 t ≡ after so at (read_from table t k last at)
+  pub so_far : read_numbers table 0 t ≡ after so at (read_from table t k last at)
 
 -- the next entry, ended by e, reads as r; the numbers after it are left out, or they are not
-pub record Next (table : List (List ℕ)) (t : List ℕ) (k last at : ℕ) (short : Bool) (e : ℕ) (r : EntryRead) : Type 0
+pub record Next (table : List Limit) (t : List ℕ) (k last at : ℕ) (short : Bool) (e : ℕ) (r : EntryRead) : Type 0
   where
     pub more : k < length table
-    pub stops : stops_short (limits_of (drop (k + 1) table)) (drop at t) ≡ short
+    pub stops : stops_short (drop (k + 1) table) (drop at t) ≡ short
     pub ended : e ≡ cond short feed (cond (eqb (length table - k - 1) 0) feed tab)
     pub entry : read_entry (limit_at table k) last e (drop at t) ≡ r
 
@@ -74,31 +74,31 @@ abbrev onward : Bool → List Limit → ℕ → List ℕ → Reading
 onward true ls n u = nothing
 onward false ls n u = read_numbers ls n u
 
-pub start : (table : List (List ℕ)) (t o : List ℕ) → State table t o o 0 0 0
+pub start : (table : List Limit) (t o : List ℕ) → State table t o o 0 0 0
 start table t o =
     record { so = []; at_in = omega arith; many = refl; stored = refl; so_far = sym (after_nothing _) }
 
-module _ {table : List (List ℕ)} {t o₀ o : List ℕ} {k last at : ℕ} (s : State table t o₀ o k last at) where
-  pub done : length table ≤ k → Reads (read_numbers (limits_of table) 0 t) o₀ (Taken at) o
+module _ {table : List Limit} {t o₀ o : List ℕ} {k last at : ℕ} (s : State table t o₀ o k last at) where
+  pub done : length table ≤ k → Reads (read_numbers table 0 t) o₀ (Taken at) o
   unfolding read_numbers
   done h =
-      let e : read_numbers (limits_of table) 0 t ≡ after s.so at nothing = s.so_far ∙ rw (limits_end table k h) in
+      let e : read_numbers table 0 t ≡ after s.so at nothing = s.so_far ∙ rw (limits_end table k h) in
       record { answer = rw (e, add-zero at); stored = s.stored ∙ rw (e, append-nil s.so) }
 
   entered : (short : Bool) {e : ℕ} {r : EntryRead}
       → Next table t k last at short e r
-      → read_from table t k last at ≡ on_entry r (onward short (limits_of (drop (k + 1) table))) (drop at t)
+      → read_from table t k last at ≡ on_entry r (onward short (drop (k + 1) table)) (drop at t)
   entered true g =
       rw (
         limits_more table k g.more,
-        numbers_short (limit_at table k) (limits_of (drop (k + 1) table)) last (drop at t) g.stops,
+        numbers_short (limit_at table k) (drop (k + 1) table) last (drop at t) g.stops,
         ← g.ended,
         g.entry,
       )
   entered false g =
       rw (
         limits_more table k g.more,
-        numbers_whole (limit_at table k) (limits_of (drop (k + 1) table)) last (drop at t) g.stops,
+        numbers_whole (limit_at table k) (drop (k + 1) table) last (drop at t) g.stops,
         ender_after table k,
         ← g.ended,
         g.entry,
@@ -111,9 +111,9 @@ module _ {table : List (List ℕ)} {t o₀ o : List ℕ} {k last at : ℕ} (s : 
 
   pub fault : {short : Bool} {e number place : ℕ}
       → Next table t k last at short e (Misread number place)
-      → Reads (read_numbers (limits_of table) 0 t) o₀ (Fault number (at + place)) o
+      → Reads (read_numbers table 0 t) o₀ (Fault number (at + place)) o
   fault {short} {number = number} {place} g =
-      let q : read_numbers (limits_of table) 0 t ≡ after s.so at (refused number place) =
+      let q : read_numbers table 0 t ≡ after s.so at (refused number place) =
       s.so_far ∙ ap (after s.so at) (entered short g) in
       record { answer = rw q; stored = s.stored ∙ rw (q, append-nil s.so) }
 
@@ -124,9 +124,9 @@ module _ {table : List (List ℕ)} {t o₀ o : List ℕ} {k last at : ℕ} (s : 
   -- the line ends here, and numbers are left out of it
   pub stop : {e n len : ℕ}
       → Next table t k last at true e (Number n len)
-      → Reads (read_numbers (limits_of table) 0 t) o₀ (Taken (at + len)) (set o k n)
+      → Reads (read_numbers table 0 t) o₀ (Taken (at + len)) (set o k n)
   stop {n = n} {len} g =
-      let q : read_numbers (limits_of table) 0 t ≡ after s.so at (after (n ∷ []) len nothing) =
+      let q : read_numbers table 0 t ≡ after s.so at (after (n ∷ []) len nothing) =
       s.so_far ∙ ap (after s.so at) (entered true g) in
       record { answer = rw (q, add-zero len); stored = more_stored n ∙ rw q }
 

@@ -8,12 +8,12 @@ use lib.Dec.{eqb}
 use lib.ListN.{length, take, drop, get_or, set, length-drop}
 use Rattle.text.specs.Quoted.{tab, feed}
 use Rattle.text.specs.Number.{eleven_digits}
-use Rattle.text.specs.Limit.{Limit, is_none, limits_of}
+use Rattle.text.specs.Limit.{Limit, is_none}
 use Rattle.text.specs.Line.{Laid, entry_text, closer, numbers_text}
 use Rattle.ground.proofs.Booleans.{by_test}
 use Rattle.ground.proofs.Stores.{drop_more}
 use Rattle.text.proofs.Number.{length_digits_ten}
-use Rattle.text.proofs.Limit.{limit_at, length_limits, limits_more, limits_end}
+use Rattle.text.proofs.Limits.{limit_at, limits_more, limits_end}
 use Rattle.text.proofs.Laid.{laid_none, laid_more, laid_byte}
 
 -- ---- one number
@@ -50,32 +50,32 @@ closer_left [] ns h = refl
 closer_left (l ∷ ls) [] h = absurd (omega arith)
 closer_left (l ∷ ls) (n ∷ ns) h = rw (lib.Dec.eqb-suc-zero (length ls))
 
-closer_after : (table : List (List ℕ)) (ns : List ℕ) (k : ℕ) → length table ≤ length ns
-    → closer (limits_of (drop (k + 1) table)) (drop (k + 1) ns)
+closer_after : (table : List Limit) (ns : List ℕ) (k : ℕ) → length table ≤ length ns
+    → closer (drop (k + 1) table) (drop (k + 1) ns)
     ≡ cond (eqb (length table - k - 1) 0) feed tab
 closer_after table ns k h =
     let n : length table - (k + 1) ≡ length table - k - 1 = omega arith in
-    let m : length (limits_of (drop (k + 1) table)) ≡ length table - k - 1 = rw (length_limits, length-drop, n) in
-    closer_left (limits_of (drop (k + 1) table)) (drop (k + 1) ns) (omega (arith, m, length-drop (k + 1) ns)) ∙ rw m
+    let m : length (drop (k + 1) table) ≡ length table - k - 1 = rw (length-drop, n) in
+    closer_left (drop (k + 1) table) (drop (k + 1) ns) (omega (arith, m, length-drop (k + 1) ns)) ∙ rw m
 
 -- the text of the numbers from place k on
-abbrev pub text_from : List (List ℕ) → List ℕ → ℕ → List ℕ
-text_from table ns k = numbers_text (limits_of (drop k table)) (drop k ns)
+abbrev pub text_from : List Limit → List ℕ → ℕ → List ℕ
+text_from table ns k = numbers_text (drop k table) (drop k ns)
 
 -- k numbers are laid, from start up to `at`
-pub record State (table : List (List ℕ)) (ns o₀ o : List ℕ) (start k at : ℕ) : Type 0 where
+pub record State (table : List Limit) (ns o₀ o : List ℕ) (start k at : ℕ) : Type 0 where
   pub so : List ℕ
   pub most : at ≤ start + 11 * k
   pub laid : Laid so o₀ start at o
-  pub so_far : numbers_text (limits_of table) ns ≡ so ++ text_from table ns k
+  pub so_far : numbers_text table ns ≡ so ++ text_from table ns k
 
-pub begin : (table : List (List ℕ)) (ns o : List ℕ) (start : ℕ) → State table ns o o start 0 start
+pub begin : (table : List Limit) (ns o : List ℕ) (start : ℕ) → State table ns o o start 0 start
 begin table ns o start =
     record { so = []; most = omega arith; laid = laid_none o start; so_far = refl }
 
-module _ {table : List (List ℕ)} {ns o₀ o : List ℕ} {start k at : ℕ} (s : State table ns o₀ o start k at) where
+module _ {table : List Limit} {ns o₀ o : List ℕ} {start k at : ℕ} (s : State table ns o₀ o start k at) where
   -- no limit is left
-  pub done : length table ≤ k → Laid (numbers_text (limits_of table) ns) o₀ start at o
+  pub done : length table ≤ k → Laid (numbers_text table ns) o₀ start at o
   unfolding numbers_text
   done h =
       let none : text_from table ns k ≡ [] = rw (limits_end table k h) in

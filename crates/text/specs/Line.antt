@@ -2,27 +2,22 @@
 -- which is ended by the line feed. Of each number the form comes first, the byte after it included, and the limits
 -- second: 2, then 3. 02 (v): beside its number a refusal has a place, that of the first faulty byte, and where a limit
 -- is broken the start of the number. 02 (vi): where numbers may be left out, the line feed may end the one before them.
-use Rattle.std.specs.Prelude.{ℕ, ◌+◌, ◌≡◌, Bool, true, false, ◌&&◌, cond, List, [], ◌∷◌, ◌++◌, eqb, length, drop}
+use Rattle.std.specs.Prelude.{ℕ, ◌+◌, ◌≡◌, Bool, true, false, ◌&&◌, cond, List, [], ◌∷◌, ◌++◌, eqb, length, drop, Ok, Err}
 use Rattle.std.proofs.lemmas.List.Edits.{sets}
 use Rattle.answers.specs.Refusals.{broken_line, outside_limits}
-use Rattle.text.specs.declared.NumberRead.{NumberRead}
-use Rattle.text.specs.declared.NumberRead.TheVariants.{Value, Malformed}
-use Rattle.text.specs.declared.EntryRead.{EntryRead}
-use Rattle.text.specs.declared.EntryRead.TheVariants.{Number, Misread}
-use Rattle.text.specs.declared.LineRead.{LineRead}
-use Rattle.text.specs.declared.LineRead.TheVariants.{Taken, Fault}
 use Rattle.text.specs.Quoted.{tab, feed, dash}
 use Rattle.text.specs.Field.{field_of, begins, agreed}
-use Rattle.text.specs.Number.{number_of, digits_of}
-use Rattle.text.specs.Limit.{Limit, or_none, is_none, within, spare, limits_of}
+use Rattle.text.specs.Number.{NumberRead, number_of, digits_of}
+use Rattle.text.specs.Limit.{Limit, or_none, is_none, within, spare}
+use Rattle.text.specs.Read.{EntryRead, Number, Misread, LineRead, Taken, Fault}
 
 -- a line's form
 pub record Line : Type 0 where
   pub tag : List ℕ
   pub limits : List Limit
 
-abbrev pub line_of : List ℕ → List (List ℕ) → Line
-line_of tag table = record { tag = tag; limits = limits_of table }
+abbrev pub line_of : List ℕ → List Limit → Line
+line_of tag table = record { tag = tag; limits = table }
 
 -- what must end a number, by the limits of the numbers after it
 abbrev pub ender : List Limit → ℕ
@@ -62,8 +57,8 @@ on_entry (Number n k) rest t = after (n ∷ []) k (rest n (drop k t))
 
 -- what a field that was read as r gives; len is its length, and t what stands after it
 abbrev pub judged : NumberRead → Limit → ℕ → ℕ → ℕ → List ℕ → EntryRead
-judged (Malformed at) l last e len t = Misread broken_line at
-judged (Value n) l last e len t =
+judged (Err at) l last e len t = Misread broken_line at
+judged (Ok n) l last e len t =
     cond (begins e t) (cond (within l last n) (Number n (len + 1)) (Misread outside_limits 0)) (Misread broken_line len)
 
 -- a `-` where there may be none, with the byte that must end it
@@ -73,7 +68,7 @@ read_dash e t = cond (begins e (drop 1 t)) (Number 0 2) (Misread broken_line 1)
 -- the number at the start of t, after the number last, with the byte e that must end it
 unfoldable pub read_entry : Limit → ℕ → ℕ → List ℕ → EntryRead
 read_entry l last e t =
-    cond (eqb l.rule or_none && begins dash t) (read_dash e t)
+    cond (or_none l.rule && begins dash t) (read_dash e t)
     (judged (number_of (field_of t)) l last e (length (field_of t)) (drop (length (field_of t)) t))
 
 -- numbers by their limits, after the number last

@@ -8,7 +8,7 @@ use lib.ListN.{length, take, drop}
 use Rattle.ground.proofs.Booleans.{both_hold}
 use Rattle.text.specs.Line.{Line}
 use Rattle.text.specs.Place.{feeds, cut_lines, joined}
-use Rattle.text.proofs.Limit.{full, narrow, readable}
+use Rattle.text.proofs.Limits.{full, narrow, readable}
 use Rattle.text.proofs.Cut.{cut_lined}
 use Rattle.form.specs.Parts.{Part, Rows, one_line, kind_of}
 use Rattle.form.specs.Outcome.{right}

@@ -15,7 +15,7 @@ use Rattle.text.specs.Field.{begins, agreed}
 use Rattle.text.specs.Limit.{all_hold}
 use Rattle.text.specs.Line.{Line, numbers_text, line_text}
 use Rattle.text.specs.Place.{feeds, cut_from, cut_lines, first_line}
-use Rattle.text.proofs.Limit.{full, readable, hold_length}
+use Rattle.text.proofs.Limits.{full, readable, hold_length}
 use Rattle.text.proofs.Field.{agreed_self}
 use Rattle.text.proofs.Cut.{OneFeed, cut_none, cut_feed, cut_other, cut_lined}
 use Rattle.text.proofs.FirstLine.{first_none, first_feed, first_other, first_agreed}

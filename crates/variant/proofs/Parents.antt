@@ -6,7 +6,7 @@ use mathlib.Core.List.{List, [], ◌∷◌, ◌++◌, append-nil}
 use Prim.Native.Nat.{ℕ}
 use lib.ListN.{length, drop}
 use Rattle.ground.proofs.Booleans.{both_hold}
-use Rattle.text.specs.declared.LineRead.TheVariants.{Taken}
+use Rattle.text.specs.Read.{Taken}
 use Rattle.text.specs.Line.{Line, read_line, line_text}
 use Rattle.text.specs.Place.{after_lines}
 use Rattle.text.proofs.LineTrip.{line_forth}

@@ -7,7 +7,7 @@ use Prim.Native.Nat.{ℕ, ◌≤◌}
 use native.Mathlib.Omega.{arith}
 use lib.ListN.{length}
 use Rattle.text.specs.Number.{digits_in, digits_of}
-use Rattle.text.proofs.Limit.{narrow, readable}
+use Rattle.text.proofs.Limits.{narrow, readable}
 use Rattle.text.proofs.Most.{numbers_most}
 use Rattle.form.specs.Parts.{Rows, kind_of}
 use Rattle.form.proofs.Letters.{line_made, kinds_made}

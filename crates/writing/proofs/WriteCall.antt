@@ -10,7 +10,7 @@ use lib.Seq.{sets, take_at}
 use Rattle.text.specs.Line.{Laid, numbers_text, line_text}
 use Rattle.ground.proofs.Stores.{put_back, rest_part, sets_start}
 use Rattle.text.proofs.Laid.{laid_start, laid_more, laid_part, laid_length, laid_rest}
-use Rattle.answers.specs.declared.Answer.TheVariants.{Refused, Count}
+use Rattle.answers.specs.Answer.{Refused, Count}
 use Rattle.answers.specs.Refusals.{outside_limits, no_room}
 use Rattle.answers.specs.Settled.{Settled}
 use Rattle.sheet.specs.Lines.{fittings, end_line}

@@ -1,7 +1,7 @@
 -- `new_hull` meets its contract.
 use Rattle.register.proofs.Refusals.{room_goes}
 use Rattle.memory.specs.Updates.{entered}
-use Rattle.answers.specs.declared.Answer.TheVariants.{Count}
+use Rattle.answers.specs.Answer.{Count}
 use Rattle.answering.proofs.Sheets.{read_lent, read_weighs, read_long}
 use Rattle.reading.proofs.Heard.{heard_right}
 use Rattle.answering.proofs.Settling.{passed, text_passed}

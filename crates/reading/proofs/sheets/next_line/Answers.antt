@@ -1,5 +1,5 @@
 -- `next_line` meets its contract.
-use Rattle.text.specs.declared.LineRead.{LineRead}
+use Rattle.text.specs.Read.{LineRead}
 use mathlib.Core.Path.{◌≡◌}
 use Prim.Native.Nat.{◌-◌}
 use lib.ListN.{take, drop}

@@ -2,7 +2,7 @@
 use mathlib.Core.Path.{◌≡◌, refl, ap, ◌∙◌}
 use Prim.Native.Nat.{ℕ}
 use lib.ListN.{length, length-replicate}
-use Rattle.text.proofs.Limit.{full}
+use Rattle.text.proofs.Limits.{full}
 use Rattle.sheet.specs.Sheet.{limit_rows, limits_on}
 use Rattle.sheet.specs.Places.{text_words}
 use Rattle.reading.proofs.LineByLine.{no_lines, one_more}

@@ -1,5 +1,5 @@
 -- `read_rest` meets its contract.
-use Rattle.text.specs.declared.LineRead.{LineRead}
+use Rattle.text.specs.Read.{LineRead}
 use mathlib.Core.Path.{◌≡◌}
 use mathlib.Core.List.{[]}
 use Rattle.text.specs.Line.{shift_by}

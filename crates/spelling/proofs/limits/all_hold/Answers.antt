@@ -4,7 +4,7 @@ use mathlib.Core.Bool.{Bool, ◌&&◌}
 use Prim.Native.Nat.{◌+◌}
 use lib.ListN.{get_or}
 use Rattle.text.specs.Limit.{all_hold, limits_of}
-use Rattle.text.proofs.Limit.{held_from, hold_step, hold_done}
+use Rattle.text.proofs.Limits.{held_from, hold_step, hold_done}
 use native.Mathlib.Omega.{arith}
 use Rattle.spelling.proofs.limits.all_hold.Goals as goal
 use Rattle.spelling.proofs.limits.all_hold.Goals.{After-may_stand}

@@ -3,7 +3,7 @@ use mathlib.Core.Path.{◌≡◌}
 use Prim.Native.Nat.{◌≤◌, ◌-◌}
 use lib.ListN.{length}
 use Rattle.text.specs.Limit.{all_hold, limits_of}
-use Rattle.text.proofs.Limit.{held_from}
+use Rattle.text.proofs.Limits.{held_from}
 use Rattle.spelling.proofs.limits.all_hold.Given as goal
 
 abbrev pub invariant-loop-k : goal.invariant-loop-k

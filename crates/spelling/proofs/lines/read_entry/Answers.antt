@@ -2,7 +2,7 @@
 use mathlib.Core.Path.{◌≡◌, sym, ap, ◌∙◌}
 use mathlib.Core.Bool.{Bool}
 use lib.ListN.{length, drop}
-use Rattle.text.specs.declared.NumberRead.{NumberRead}
+use Rattle.text.specs.Number.{NumberRead}
 use Rattle.text.specs.Field.{begins}
 use Rattle.text.specs.Limit.{limit_of}
 use Rattle.ground.proofs.Stores.{rest_part}
@@ -10,7 +10,7 @@ use Rattle.text.proofs.Field.{field_most}
 use Rattle.text.proofs.Entry.{Dashed, Entered, dash_ended, dash_unended, no_number, unended, outside, taken}
 use native.Mathlib.Omega.{arith}
 use Rattle.spelling.proofs.lines.read_entry.Goals as goal
-use Rattle.spelling.proofs.lines.read_entry.Goals.{After-read_number, After-starts-in-Value, Then-is_dash}
+use Rattle.spelling.proofs.lines.read_entry.Goals.{After-read_number, After-starts-in-Ok, Then-is_dash}
 
 -- ---- a `-` for none
 
@@ -38,35 +38,35 @@ found c e =
       read = sym c.read_number.ensures ∙ e;
     }
 
-ended : (c : After-starts-in-Value) {u : Bool} → c.starts-in-Value.result ≡ u
+ended : (c : After-starts-in-Ok) {u : Bool} → c.starts-in-Ok.result ≡ u
     → begins c.args.ender (drop (length c.find_field-f.result.now) c.args.text.now) ≡ u
-ended c e = sym (rw rest_part at c.starts-in-Value.ensures) ∙ e
+ended c e = sym (rw rest_part at c.starts-in-Ok.ensures) ∙ e
 
-pub slice_bounds-starts-count-in-Value : goal.slice_bounds-starts-count-in-Value
-slice_bounds-starts-count-in-Value c = omega (arith, field_most c.args.text.now, ap length c.find_field-f.ensures)
+pub slice_bounds-starts-count-in-Ok : goal.slice_bounds-starts-count-in-Ok
+slice_bounds-starts-count-in-Ok c = omega (arith, field_most c.args.text.now, ap length c.find_field-f.ensures)
 
-pub slice_bounds-starts-start-in-Value : goal.slice_bounds-starts-start-in-Value
-slice_bounds-starts-start-in-Value c = omega (arith, field_most c.args.text.now, ap length c.find_field-f.ensures)
+pub slice_bounds-starts-start-in-Ok : goal.slice_bounds-starts-start-in-Ok
+slice_bounds-starts-start-in-Ok c = omega (arith, field_most c.args.text.now, ap length c.find_field-f.ensures)
 
-pub returns-in-Malformed : goal.returns-in-Malformed
-returns-in-Malformed c =
-    sym (no_number (found (goal.at.returns-in-Malformed c).After-read_number c.in-Malformed.is))
+pub returns-in-Err : goal.returns-in-Err
+returns-in-Err c =
+    sym (no_number (found (goal.at.returns-in-Err c).After-read_number c.in-Err.is))
 
 -- ---- a number
 
 pub returns-then-is_within : goal.returns-then-is_within
 returns-then-is_within c =
-    let read = found (goal.at.returns-then-is_within c).After-read_number c.in-Value.is in
-    let e = ended (goal.at.returns-then-is_within c).After-starts-in-Value c.if-starts-2.true in
+    let read = found (goal.at.returns-then-is_within c).After-read_number c.in-Ok.is in
+    let e = ended (goal.at.returns-then-is_within c).After-starts-in-Ok c.if-starts-2.true in
     sym (taken read e (sym c.is_within.ensures ∙ c.if-is_within.true))
 
 pub returns-else-is_within : goal.returns-else-is_within
 returns-else-is_within c =
-    let read = found (goal.at.returns-else-is_within c).After-read_number c.in-Value.is in
-    let e = ended (goal.at.returns-else-is_within c).After-starts-in-Value c.if-starts-2.true in
+    let read = found (goal.at.returns-else-is_within c).After-read_number c.in-Ok.is in
+    let e = ended (goal.at.returns-else-is_within c).After-starts-in-Ok c.if-starts-2.true in
     sym (outside read e (sym c.is_within.ensures ∙ c.if-is_within.false))
 
 pub returns-else-starts-2 : goal.returns-else-starts-2
 returns-else-starts-2 c =
-    let read = found (goal.at.returns-else-starts-2 c).After-read_number c.in-Value.is in
-    sym (unended read (ended (goal.at.returns-else-starts-2 c).After-starts-in-Value c.if-starts-2.false))
+    let read = found (goal.at.returns-else-starts-2 c).After-read_number c.in-Ok.is in
+    sym (unended read (ended (goal.at.returns-else-starts-2 c).After-starts-in-Ok c.if-starts-2.false))

@@ -1,7 +1,7 @@
 -- `read_numbers` meets its contract.
 use mathlib.Core.Path.{◌≡◌, refl, sym, ◌∙◌}
 use mathlib.Core.Bool.{Bool}
-use Rattle.text.specs.declared.EntryRead.{EntryRead}
+use Rattle.text.specs.Read.{EntryRead}
 use Rattle.ground.proofs.Stores.{rest_part}
 use Rattle.text.proofs.Reading.{Next, done, entry_in, fault, stop, step}
 use native.Mathlib.Omega.{arith}

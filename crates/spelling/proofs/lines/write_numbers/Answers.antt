@@ -2,7 +2,7 @@
 use Prim.Native.Nat.{◌<◌}
 use lib.ListN.{get_or}
 use Rattle.text.specs.Number.{eleven_digits}
-use Rattle.text.proofs.Limit.{limit_at}
+use Rattle.text.proofs.Limits.{limit_at}
 use Rattle.text.proofs.Writing.{done, step, length_entry_ten}
 use native.Mathlib.Omega.{arith}
 use Rattle.spelling.proofs.lines.write_numbers.Goals as goal

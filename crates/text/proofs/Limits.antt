@@ -1,4 +1,4 @@
--- Laws of limits: the table read three numbers at a time, one number, and many numbers.
+-- Laws of limits: the table limit by limit, one number, and many numbers.
 use mathlib.Core.Path.{◌≡◌, refl, sym, ap, ◌∙◌}
 use mathlib.Core.Bool.{Bool, true, false, not, ◌&&◌, cond, and-true}
 use mathlib.Core.List.{List, [], ◌∷◌}
@@ -7,30 +7,28 @@ use native.Mathlib.Numerals.{add-one}
 use native.Mathlib.Omega.{arith}
 use borrow.Author.Tests.{leb-true, ltb-true, eqb-true, le-leb, lt-ltb, ne_eqb}
 use lib.Dec.{eqb, leb, ltb, leb-zero}
-use lib.ListN.{length, drop, get_or, length-map, drop_of_length-le}
+use lib.ListN.{length, drop, get_or, drop_of_length-le}
 use lib.Seq.{drop-cons}
 use Rattle.ground.proofs.Booleans.{both_hold, false_true, not_false, by_test}
 use Rattle.ground.proofs.Stores.{drop_more}
 use Rattle.text.specs.Number.{eleven_digits}
-use Rattle.text.specs.Limit.{Limit, plain, or_none, capped, counts, limit, is_none, within, holds, all_hold}
-use Rattle.text.specs.Limit.{spare, limit_of, limits_of, from_zero}
+use Rattle.text.specs.Limit.{Limit, Rule, Plain, OrNone, Capped, Product, or_none, counts, limit, ranging, is_none}
+use Rattle.text.specs.Limit.{by_rule, within, holds, all_hold}
+use Rattle.text.specs.Limit.{spare, from_zero}
 
 -- ---- the table
 
-pub length_limits : (t : List (List ℕ)) → length (limits_of t) ≡ length t
-length_limits t = length-map t limit_of
-
 -- the limit at place k
-abbrev pub limit_at : List (List ℕ) → ℕ → Limit
-limit_at t k = limit_of (get_or t k [])
+abbrev pub limit_at : List Limit → ℕ → Limit
+limit_at t k = get_or t k (ranging 0 0)
 
 -- and those after it
-pub limits_more : (t : List (List ℕ)) (k : ℕ)
+pub limits_more : (t : List Limit) (k : ℕ)
     → k < length t
-    → limits_of (drop k t) ≡ limit_at t k ∷ limits_of (drop (k + 1) t)
-limits_more t k h = rw (add-one k, drop-cons t k [])
+    → drop k t ≡ limit_at t k ∷ drop (k + 1) t
+limits_more t k h = rw (add-one k, drop-cons t k (ranging 0 0))
 
-pub limits_end : (t : List (List ℕ)) (k : ℕ) → length t ≤ k → limits_of (drop k t) ≡ []
+pub limits_end : (t : List Limit) (k : ℕ) → length t ≤ k → drop k t ≡ []
 limits_end t k h = rw (drop_of_length-le t {i = k} h)
 
 -- ---- one number
@@ -38,15 +36,16 @@ limits_end t k h = rw (drop_of_length-le t {i = k} h)
 pub within_high : (l : Limit) (last n : ℕ) → within l last n ≡ true → n ≤ l.high
 within_high l last n e = leb-true n l.high (both_hold (leb n l.high) _ (both_hold (leb l.low n) _ e).1).0
 
-some : (u : Bool) (n : ℕ) (x : Bool) → cond u (ltb 0 n) x ≡ true → (u && eqb n 0) ≡ false
-some true n x e = let h = ltb-true 0 n e in ne_eqb n 0 (omega arith)
-some false n x e = refl
+some : (r : Rule) (last n : ℕ) → by_rule r last n ≡ true → (or_none r && eqb n 0) ≡ false
+some Plain last n e = refl
+some OrNone last n e = let h = ltb-true 0 n e in ne_eqb n 0 (omega arith)
+some Capped last n e = refl
+some (Product top) last n e = refl
 
 -- a number within its limit is not none
 pub within_some : (l : Limit) (last n : ℕ) → within l last n ≡ true → is_none l n ≡ false
 within_some l last n e =
-    some (eqb l.rule or_none) n
-    (cond (eqb l.rule capped) (leb n last) (cond (counts l.rule) (leb (last * n) l.rule) true))
+    some l.rule last n
     (both_hold (leb n l.high) _ (both_hold (leb l.low n) _ e).1).1
 
 -- what may stand is none, or is within
@@ -57,7 +56,7 @@ pub within_holds : (l : Limit) (last n : ℕ) → within l last n ≡ true → h
 within_holds l last n e = rw (within_some l last n e, e)
 
 pub none_zero : (l : Limit) (n : ℕ) → is_none l n ≡ true → n ≡ 0
-none_zero l n e = eqb-true n 0 (both_hold (eqb l.rule or_none) (eqb n 0) e).1
+none_zero l n e = eqb-true n 0 (both_hold (or_none l.rule) (eqb n 0) e).1
 
 -- the limits take numbers of at most ten digits
 unfoldable pub narrow : List Limit → Bool
@@ -85,10 +84,10 @@ holds_small l last n w e =
     by_test (is_none l n) (λ d. omega (arith, none_zero l n d))
     (λ d. omega (arith, within_high l last n (holds_within l last n e d), ltb-true l.high eleven_digits w))
 
-plain_holds : (high last n : ℕ) → holds (limit 0 high plain) last n ≡ leb n high
+plain_holds : (high last n : ℕ) → holds (limit 0 high Plain) last n ≡ leb n high
 plain_holds high last n = rw (leb-zero n) (and-true (leb n high))
 
-or_none_holds : (low high last n : ℕ) → low ≤ 1 → holds (limit low high or_none) last n ≡ leb n high
+or_none_holds : (low high last n : ℕ) → low ≤ 1 → holds (limit low high OrNone) last n ≡ leb n high
 or_none_holds low high last zero h = sym (leb-zero high)
 or_none_holds low high last (suc n) h =
     rw (
@@ -101,11 +100,12 @@ or_none_holds low high last (suc n) h =
 pub low_holds : (l : Limit) (last n : ℕ) → from_zero l ≡ true → holds l last n ≡ leb n l.high
 unfolding from_zero
 low_holds l last n f =
-    by_test (eqb l.rule or_none)
-    (λ e. rw (eqb-true l.rule or_none e) (or_none_holds l.low l.high last n (leb-true l.low 1 (rw e at f))))
-    (λ e.
-    let p = both_hold (eqb l.rule plain) (eqb l.low 0) (rw e at f) in
-    rw (eqb-true l.rule plain p.0, eqb-true l.low 0 p.1) (plain_holds l.high last n))
+    elim l.rule as (λ (r : Rule). elim r [ Plain ↦ eqb l.low 0 | OrNone ↦ leb l.low 1 | Capped ↦ false | Product top ↦ false ] ≡ true → holds (limit l.low l.high r) last n ≡ leb n l.high) [
+      | Plain ↦ (λ e. rw (eqb-true l.low 0 e) (plain_holds l.high last n))
+      | OrNone ↦ (λ e. or_none_holds l.low l.high last n (leb-true l.low 1 e))
+      | Capped ↦ false_true
+      | Product top ↦ false_true
+    ] f
 
 -- ---- many numbers
 
@@ -128,17 +128,17 @@ hold_length (l ∷ ls) last (n ∷ ns) f h =
     ap suc (hold_length ls n ns fs.1 (both_hold (holds l last n) (all_hold ls n ns) h).1)
 
 -- whether those from place k on may stand after last
-abbrev pub held_from : List (List ℕ) → List ℕ → ℕ → ℕ → Bool
-held_from t ns last k = all_hold (limits_of (drop k t)) last (drop k ns)
+abbrev pub held_from : List Limit → List ℕ → ℕ → ℕ → Bool
+held_from t ns last k = all_hold (drop k t) last (drop k ns)
 
-pub hold_step : (t : List (List ℕ)) (ns : List ℕ) (last k : ℕ)
+pub hold_step : (t : List Limit) (ns : List ℕ) (last k : ℕ)
     → k < length t
     → k < length ns
     → held_from t ns last k ≡ (holds (limit_at t k) last (get_or ns k 0) && held_from t ns (get_or ns k 0) (k + 1))
 unfolding all_hold
 hold_step t ns last k h l = rw (limits_more t k h, drop_more ns k l)
 
-pub hold_done : (t : List (List ℕ)) (ns : List ℕ) (last k : ℕ)
+pub hold_done : (t : List Limit) (ns : List ℕ) (last k : ℕ)
     → length t ≤ k
     → length ns ≤ k
     → held_from t ns last k ≡ true

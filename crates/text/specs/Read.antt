@@ -1,0 +1,26 @@
+-- How the reading of a number with its end, and of a line, ended: what was taken, or a refusal's number with the place of
+-- the first byte at fault.
+use Rattle.std.specs.Prelude.{ℕ, Result, Ok, Err}
+use Rattle.answers.specs.Refusals.{number}
+use Rattle.text.specs.declared.Taken as Code
+use Rattle.text.specs.declared.Fault as Why
+
+-- the number and how many bytes it took, with the byte that ends it
+pub data EntryRead : Type 0 where
+  Number : ℕ → ℕ → EntryRead
+  Misread : ℕ → ℕ → EntryRead
+
+-- how many bytes were taken
+pub data LineRead : Type 0 where
+  Taken : ℕ → LineRead
+  Fault : ℕ → ℕ → LineRead
+
+-- ---- what the code answers, in these words
+
+abbrev pub entry_told : Result Code.Taken Why.Fault → EntryRead
+entry_told (Ok e) = Number e.number e.len
+entry_told (Err f) = Misread (number f.refusal) f.at
+
+abbrev pub line_told : Result ℕ Why.Fault → LineRead
+line_told (Ok k) = Taken k
+line_told (Err f) = Fault (number f.refusal) f.at
