@@ -10,7 +10,8 @@ use lib.Dec.{eqb, leb}
 use lib.ListN.{length, get_or, take, drop}
 use lib.Seq.{get_or-take}
 use Rattle.ground.proofs.Booleans.{both_hold, false_true, by_test}
-use Rattle.text.specs.Limit.{Limit, or_none, is_none, holds, all_hold}
+use Rattle.text.specs.declared.Limit.{Limit}
+use Rattle.text.specs.Limit.{or_none, is_none, holds, all_hold}
 use Rattle.text.proofs.Limits.{within_high, holds_within, none_zero}
 use Rattle.sheet.specs.Lines.{lines}
 use Rattle.sheet.specs.Sheet.{limits_on}

@@ -1,7 +1,7 @@
 -- The most that each word of a sheet may be, as the one table of limits has it, and what the plates' inner functions
 -- ask of a part of a sheet.
 use Rattle.std.specs.Prelude.{ℕ, ◌+◌, ◌*◌, ◌≤◌, ◌<◌, ◌≡◌, true, List, [], ◌∷◌, ◌++◌, map, length, get_or, drop}
-use Rattle.text.specs.Limit.{Limit}
+use Rattle.text.specs.declared.Limit.{Limit}
 use Rattle.text.specs.Line.{Line}
 use Rattle.sheet.specs.Lines.{lines, fittings, fitting_high}
 use Rattle.sheet.specs.Sheet.{words_ok}

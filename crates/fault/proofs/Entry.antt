@@ -7,6 +7,7 @@ use Prim.Native.Nat.{ℕ}
 use borrow.Author.Tests.{eq-eqb}
 use lib.ListN.{length, drop}
 use lib.Seq.{drop-append_seam}
+use Rattle.text.specs.declared.Rule as Number
 use Rattle.text.specs.Quoted.{dash}
 use Rattle.text.specs.Field.{field_of, begins}
 use Rattle.text.specs.Number.{digits_of}
@@ -16,10 +17,10 @@ use Rattle.text.proofs.EntryTrip.{Ends}
 use Rattle.fault.specs.Rules.{Rule, Then, Field, in_digits, as_dash, Entry}
 use Rattle.fault.proofs.Rules.{Sure}
 
-pub entry_by_lem : (rule e : ℕ) (g : List ℕ) → Field rule g → Entry rule e (g ++ (e ∷ []))
+pub entry_by_lem : (rule : Number.Rule) (e : ℕ) (g : List ℕ) → Field rule g → Entry rule e (g ++ (e ∷ []))
 entry_by_lem rule e g f = record { one = g; two = e ∷ []; joined = refl; by_one = f; by_two = refl }
 
-module _ (rule e : ℕ) (w : Ends e) where
+module _ (rule : Number.Rule) (e : ℕ) (w : Ends e) where
   pub field_whole : (g r : List ℕ) → Field rule g → field_of (g ++ (e ∷ r)) ≡ g
   field_whole g r (in_digits q) = rw q.written (field_digits q.value (e ∷ r) ∙ rw (field_stop e r w, append-nil))
   field_whole g r (as_dash a z) = rw z (field_more dash (e ∷ r) refl ∙ rw (field_stop e r w))

@@ -11,6 +11,7 @@ use lib.ListN.{length, take, drop}
 use lib.Seq.{take-length}
 use Rattle.ground.proofs.Booleans.{both_hold, by_less}
 use Rattle.std.specs.Prelude.{Ok, Err}
+use Rattle.text.specs.declared.Rule as Number
 use Rattle.text.specs.Quoted.{dash}
 use Rattle.text.specs.Field.{field_of, begins}
 use Rattle.text.specs.Number.{number_of}
@@ -37,17 +38,17 @@ number_past t v i p h n =
     let j : i ≡ length (field_of t) = omega (arith, p.inside) in
     p.wrong (rw (j, field_past t v (omega arith)) at n))
 
-module _ (rule e : ℕ) (w : Ends e) (S : Rule) (some : Some S) (t : List ℕ) where
+module _ (rule : Number.Rule) (e : ℕ) (w : Ends e) (S : Rule) (some : Some S) (t : List ℕ) where
   -- ---- no `-` for none, and no number
 
-  module _ (d : (eqb rule or_none && begins dash t) ≡ false) where
+  module _ (d : (or_none rule && begins dash t) ≡ false) where
     -- a text whose first byte is that of t has a number for its field
     in_digits_lem : (u : List ℕ) → begins dash u ≡ begins dash t → Field rule (field_of u) → Numeral (field_of u)
     in_digits_lem u q (in_digits n) = n
     in_digits_lem u q (as_dash a z) =
         let b : begins dash u ≡ true =
         ap (begins dash) (sym (field_split u) ∙ ap (λ (x : List ℕ). x ++ drop (length (field_of u)) u) z) in
-        let c : (eqb rule or_none && begins dash t) ≡ true = rw (a, ← q, b) in
+        let c : (or_none rule && begins dash t) ≡ true = rw (a, ← q, b) in
         absurd (true≢false (sym c ∙ d))
 
     pub no_number : (i : ℕ) → number_of (field_of t) ≡ Err i → Faulty (Then (Entry rule e) S) t i
@@ -94,12 +95,12 @@ module _ (rule e : ℕ) (w : Ends e) (S : Rule) (some : Some S) (t : List ℕ) w
 
   -- ---- a `-` for none, not ended as it must be
 
-  pub dash_unended : (eqb rule or_none && begins dash t) ≡ true → begins e (drop 1 t) ≡ false
+  pub dash_unended : (or_none rule && begins dash t) ≡ true → begins e (drop 1 t) ≡ false
       → Faulty (Then (Entry rule e) S) t 1
   dash_unended d b =
-      let o = both_hold (eqb rule or_none) (begins dash t) d in
+      let o = both_hold (or_none rule) (begins dash t) d in
       let k : take 1 t ≡ dash ∷ [] = ap (take 1) (begins_cons dash t o.1) in
-      let f : Field rule (dash ∷ []) = as_dash (eqb-true rule or_none o.0) refl in
+      let f : Field rule (dash ∷ []) = as_dash o.0 refl in
       record {
         inside = begins_some dash t o.1;
         wrong = λ x. true≢false (sym (dash_ended rule e w S t o.1 x) ∙ b);

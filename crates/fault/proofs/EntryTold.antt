@@ -18,7 +18,8 @@ use Rattle.text.specs.Read.{Number, Misread}
 use Rattle.text.specs.Quoted.{dash}
 use Rattle.text.specs.Field.{field_of, begins}
 use Rattle.text.specs.Number.{number_of}
-use Rattle.text.specs.Limit.{Limit, or_none, is_none, within}
+use Rattle.text.specs.declared.Limit.{Limit}
+use Rattle.text.specs.Limit.{or_none, is_none, within}
 use Rattle.text.specs.Line.{judged, read_entry, entry_text}
 use Rattle.text.proofs.Field.{begins_cons, field_more, field_split}
 use Rattle.text.proofs.Limits.{within_some}
@@ -56,7 +57,7 @@ module _ (l : Limit) (ls : List Limit) (last e : ℕ) (t : List ℕ) (by : Ended
   dash_told d =
       let r = (both_hold (or_none l.rule) (begins dash t) d).0 in
       let n : is_none l 0 ≡ true = rw r in
-      rw n (as_dash (eqb-true l.rule or_none r) refl)
+      rw n (as_dash r refl)
 
   dash_refused : (or_none l.rule && begins dash t) ≡ true → begins e (drop 1 t) ≡ false → Refused broken_line 1
   dash_refused d b =

@@ -8,7 +8,8 @@ use lib.ListN.{drop, length-append}
 use Rattle.text.specs.Read.{Number, Misread}
 use Rattle.text.specs.Read.{Fault}
 use Rattle.text.specs.Quoted.{tab}
-use Rattle.text.specs.Limit.{Limit, all_hold}
+use Rattle.text.specs.declared.Limit.{Limit}
+use Rattle.text.specs.Limit.{all_hold}
 use Rattle.text.specs.Line.{ender, read_entry, entry_text}
 use Rattle.text.proofs.EntryTrip.{Back, entry_back}
 use Rattle.fault.specs.Rules.{Rule, Then, Entry}

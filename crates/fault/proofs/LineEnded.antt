@@ -16,7 +16,8 @@ use Rattle.text.specs.Read.{Taken}
 use Rattle.text.specs.Quoted.{tab}
 use Rattle.text.specs.Field.{field_of}
 use Rattle.text.specs.Number.{eleven_digits, digits_of}
-use Rattle.text.specs.Limit.{Limit, or_none, is_none, holds, all_hold}
+use Rattle.text.specs.declared.Limit.{Limit}
+use Rattle.text.specs.Limit.{or_none, is_none, holds, all_hold}
 use Rattle.text.specs.Line.{Line, read_line, entry_text, line_text}
 use Rattle.text.proofs.Limits.{narrow, readable, readable_narrow, holds_small}
 use Rattle.text.proofs.LineTrip.{line_forth}
@@ -37,7 +38,7 @@ held_field : (l : Limit) (last n : ℕ) → ltb l.high eleven_digits ≡ true �
     → Field l.rule (entry_text l n)
 held_field l last n w h =
     by_test (is_none l n)
-    (λ e. rw e (as_dash (eqb-true l.rule or_none (both_hold (or_none l.rule) (eqb n 0) e).0) refl))
+    (λ e. rw e (as_dash (both_hold (or_none l.rule) (eqb n 0) e).0 refl))
     (λ e. rw e (in_digits (small_numeral n (holds_small l last n w h))))
 
 -- a number outside its limit, with its end, and then some text by S

@@ -14,7 +14,7 @@ use Rattle.ground.proofs.Booleans.{by_test, by_equal}
 use Rattle.text.specs.Read.{LineRead}
 use Rattle.text.specs.Quoted.{tab, feed}
 use Rattle.text.specs.Field.{field_of, agreed}
-use Rattle.text.specs.Limit.{Limit}
+use Rattle.text.specs.declared.Limit.{Limit}
 use Rattle.text.specs.Line.{Line, read_numbers, read_line}
 use Rattle.text.proofs.Field.{field_stop, field_more, agreed_self}
 use Rattle.text.proofs.Limits.{narrow, readable, readable_narrow}

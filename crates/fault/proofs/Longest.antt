@@ -6,8 +6,9 @@ use Prim.Native.Nat.{ℕ, zero, suc, ◌+◌, ◌*◌, ◌≤◌, max}
 use native.Mathlib.Nat.{suc-mul, mul-le-mul}
 use native.Mathlib.Omega.{arith}
 use lib.ListN.{length, length-append}
+use Rattle.text.specs.declared.Rule as Number
 use Rattle.text.specs.Quoted.{feed}
-use Rattle.text.specs.Limit.{Limit}
+use Rattle.text.specs.declared.Limit.{Limit}
 use Rattle.text.specs.Line.{Line, ender}
 use Rattle.text.proofs.Number.{length_digits_ten}
 use Rattle.form.specs.Parts.{Part}
@@ -24,11 +25,11 @@ then_longest R S n k a b t w =
     ap length w.joined ∙ length-append w.one w.two in
     omega (arith, both, a w.one w.by_one, b w.two w.by_two)
 
-field_longest : (rule : ℕ) → Within (Field rule) 10
+field_longest : (rule : Number.Rule) → Within (Field rule) 10
 field_longest rule t (in_digits n) = rw n.written (length_digits_ten n.value n.few)
 field_longest rule t (as_dash r e) = rw e (omega arith)
 
-entry_longest : (rule e : ℕ) → Within (Entry rule e) 11
+entry_longest : (rule : Number.Rule) (e : ℕ) → Within (Entry rule e) 11
 entry_longest rule e t w =
     then_longest (Field rule) _ 10 1 (field_longest rule) (λ (x : List ℕ) w. rw w (omega arith)) t w
 

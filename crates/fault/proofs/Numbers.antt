@@ -8,7 +8,7 @@ use lib.ListN.{drop}
 use Rattle.ground.proofs.Booleans.{false_true, by_test}
 use Rattle.text.specs.Read.{Taken, Fault}
 use Rattle.text.specs.Quoted.{feed}
-use Rattle.text.specs.Limit.{Limit}
+use Rattle.text.specs.declared.Limit.{Limit}
 use Rattle.text.specs.Line.{ender, stops_short, read_entry, read_numbers}
 use Rattle.text.proofs.Entry.{by_entry}
 use Rattle.text.proofs.EntryTrip.{entry_back}

@@ -16,7 +16,8 @@ use Rattle.text.specs.Read.{Number, Misread}
 use Rattle.text.specs.Quoted.{dash}
 use Rattle.text.specs.Field.{field_of, begins}
 use Rattle.text.specs.Number.{number_of}
-use Rattle.text.specs.Limit.{Limit, or_none, within}
+use Rattle.text.specs.declared.Limit.{Limit}
+use Rattle.text.specs.Limit.{or_none, within}
 use Rattle.text.specs.Line.{read_entry}
 use Rattle.text.proofs.Field.{begins_cons, field_stop, field_more}
 use Rattle.text.proofs.Entry as Text
@@ -75,7 +76,8 @@ module _ (l : Limit) (last e o : ℕ) (t : List ℕ) (w : Ends o) (b : begins o 
       → Misses (read_entry l last e t)
   field_misses (Err i) d v =
       let q = Text.no_number {e = o} (record { undashed = d; field = refl; read = v }) in
-      rw (Text.no_number {e = e} (record { undashed = d; field = refl; read = v })) (at_place i q)
+      let g : Text.Entered l last e t (field_of t) (Err i) = record { undashed = d; field = refl; read = v } in
+      rw (Text.no_number g) (at_place i q)
   field_misses (Ok n) d v =
       let f : List ℕ = field_of t in
       let g : Text.Entered l last e t f (Ok n) = record { undashed = d; field = refl; read = v } in

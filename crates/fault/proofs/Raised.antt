@@ -2,7 +2,7 @@
 use mathlib.Core.Bool.{Bool, true, false}
 use mathlib.Core.List.{List, [], ◌∷◌}
 use Prim.Native.Nat.{ℕ}
-use Rattle.text.specs.Limit.{Limit}
+use Rattle.text.specs.declared.Limit.{Limit}
 use Rattle.text.specs.Line.{Line}
 use Rattle.form.specs.Parts.{risen, raised}
 use Rattle.fault.specs.Rules.{Rule, Just, Then, FieldsThen, LineThen}

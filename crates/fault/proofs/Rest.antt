@@ -4,7 +4,7 @@ use mathlib.Core.Logic.{inl, inr}
 use mathlib.Core.List.{List, [], ◌∷◌}
 use Prim.Native.Nat.{ℕ}
 use Rattle.text.specs.Quoted.{feed}
-use Rattle.text.specs.Limit.{Limit}
+use Rattle.text.specs.declared.Limit.{Limit}
 use Rattle.text.specs.Line.{Line, ender}
 use Rattle.fault.specs.Rules.{Rule, Just, Then, Entry, FieldsThen, LineThen, OneThen}
 

@@ -8,10 +8,12 @@ use Prim.Native.Nat.{ℕ}
 use native.Mathlib.Omega.{arith}
 use lib.ListN.{length, drop}
 use Rattle.ground.proofs.Booleans.{both_hold, false_true, by_test}
+use Rattle.text.specs.declared.Rule as Number
 use Rattle.text.specs.Quoted.{feed}
 use Rattle.text.specs.Field.{field_of, begins}
 use Rattle.text.specs.Number.{digits_of}
-use Rattle.text.specs.Limit.{Limit, spare}
+use Rattle.text.specs.declared.Limit.{Limit}
+use Rattle.text.specs.Limit.{spare}
 use Rattle.text.specs.Line.{ender, stops_short, read_entry}
 use Rattle.text.proofs.Field.{begins_cons}
 use Rattle.text.proofs.EntryTrip.{ender_ends}
@@ -27,7 +29,7 @@ use Rattle.fault.proofs.OtherEnd.{Comes, missed}
 
 -- ---- there are some fields of every kind
 
-some_entry : {rule e : ℕ} → Some (Entry rule e)
+some_entry : {rule : Number.Rule} {e : ℕ} → Some (Entry rule e)
 some_entry {rule} {e} =
     let zero = in_digits (small_numeral 0 (omega arith)) in
     record { rest = digits_of 0 ++ (e ∷ []); whole = entry_by_lem rule e (digits_of 0) zero }

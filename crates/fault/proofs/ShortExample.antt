@@ -6,9 +6,11 @@ use mathlib.Core.List.{[], ◌∷◌}
 use Prim.Native.Nat.{ℕ, ◌<◌}
 use native.Mathlib.Omega.{arith}
 use Rattle.answers.specs.Refusals.{outside_limits}
+use Rattle.text.specs.declared.Rule as Number
 use Rattle.text.specs.Quoted.{tab, feed, bytes}
 use Rattle.text.specs.Number.{eleven_digits, digits_in, digits_of}
-use Rattle.text.specs.Limit.{plain, ranging, ranging_count, all_hold}
+use Rattle.text.specs.declared.Rule.TheVariants.{Plain, Product}
+use Rattle.text.specs.Limit.{ranging, ranging_count, all_hold}
 use Rattle.text.proofs.CountExamples.{fit_line}
 use Rattle.fault.specs.Rules.{Rule, Just, Field, in_digits, FieldsThen, LineThen}
 use Rattle.fault.specs.Reached.{as_due, short, Outside, in_limit, tabbed, NumbersStop}
@@ -17,14 +19,14 @@ use Rattle.fault.proofs.Entry.{entered}
 
 -- ---- by the rules
 
-number : (rule n : ℕ) → n < eleven_digits → Field rule (digits_of n)
+number : (rule : Number.Rule) (n : ℕ) → n < eleven_digits → Field rule (digits_of n)
 number rule n h = in_digits (small_numeral n h)
 
 -- a weight above the most that ends its line
 short_by : LineThen fit_line (Just []) (bytes "FIT\t1\t500001\n")
 unfolding fit_line digits_of digits_in
 short_by =
-    let weight = entered plain feed refl (Just []) (bytes "500001") [] (number plain 500001 (omega arith)) refl in
+    let weight = entered Plain feed refl (Just []) (bytes "500001") [] (number Plain 500001 (omega arith)) refl in
     let S : Rule = FieldsThen (ranging 1 500000 ∷ ranging_count 1 99 500000 ∷ []) (Just []) in
     record {
       one = bytes "FIT\t";
@@ -33,25 +35,25 @@ short_by =
       by_one = refl;
       by_two =
           inl
-          (entered plain tab refl S (bytes "1") (bytes "500001\n") (number plain 1 (omega arith)) (inr (refl, weight)));
+          (entered Plain tab refl S (bytes "1") (bytes "500001\n") (number Plain 1 (omega arith)) (inr (refl, weight)));
     }
 
 -- and one with a count, both outside their limits
 whole_by : LineThen fit_line (Just []) (bytes "FIT\t1\t500001\t0\n")
 unfolding fit_line digits_of digits_in
 whole_by =
-    let count = entered 500000 feed refl (Just []) (bytes "0") [] (number 500000 0 (omega arith)) refl in
+    let count = entered (Product 500000) feed refl (Just []) (bytes "0") [] (number (Product 500000) 0 (omega arith)) refl in
     let C : Rule = FieldsThen (ranging_count 1 99 500000 ∷ []) (Just []) in
     let S : Rule = FieldsThen (ranging 1 500000 ∷ ranging_count 1 99 500000 ∷ []) (Just []) in
-    let n = number plain 500001 (omega arith) in
-    let weight = entered plain tab refl C (bytes "500001") (bytes "0\n") n (inl count) in
+    let n = number Plain 500001 (omega arith) in
+    let weight = entered Plain tab refl C (bytes "500001") (bytes "0\n") n (inl count) in
     record {
       one = bytes "FIT\t";
       two = bytes "1\t500001\t0\n";
       joined = refl;
       by_one = refl;
       by_two =
-          inl (entered plain tab refl S (bytes "1") (bytes "500001\t0\n") (number plain 1 (omega arith)) (inl weight));
+          inl (entered Plain tab refl S (bytes "1") (bytes "500001\t0\n") (number Plain 1 (omega arith)) (inl weight));
     }
 
 -- ---- outside its limit

@@ -7,7 +7,8 @@ use Rattle.answers.specs.Refusals.{broken_line, outside_limits}
 use Rattle.text.specs.Quoted.{tab, feed}
 use Rattle.text.specs.Field.{field_of}
 use Rattle.text.specs.Number.{eleven_digits, digits_of}
-use Rattle.text.specs.Limit.{Limit, within, spare, all_hold}
+use Rattle.text.specs.declared.Limit.{Limit}
+use Rattle.text.specs.Limit.{within, spare, all_hold}
 use Rattle.text.specs.Line.{Line, ender, entry_text}
 use Rattle.form.specs.Parts.{Part, Rows, kind_of, raised, next_after}
 use Rattle.form.specs.Writing.{rows_ok, rows_text}

@@ -3,7 +3,9 @@
 use Rattle.std.specs.Prelude.{ℕ, zero, suc, ◌≤◌, ◌<◌, ◌≡◌, true, ◌⊎◌, List, [], ◌∷◌, ◌++◌}
 use Rattle.text.specs.Quoted.{feed, dash}
 use Rattle.text.specs.Number.{eleven_digits, digits_of}
-use Rattle.text.specs.Limit.{Limit, or_none, spare}
+use Rattle.text.specs.declared.Rule as Number
+use Rattle.text.specs.declared.Limit.{Limit}
+use Rattle.text.specs.Limit.{or_none, spare}
 use Rattle.text.specs.Line.{Line, ender}
 use Rattle.form.specs.Parts.{Part, Form}
 
@@ -36,12 +38,12 @@ pub record Numeral (t : List ℕ) : Type 0 where
   pub written : t ≡ digits_of value
 
 -- a field: a number, or `-` where there may be none
-pub data Field (rule : ℕ) (t : List ℕ) : Type 0 where
+pub data Field (rule : Number.Rule) (t : List ℕ) : Type 0 where
   in_digits : Numeral t → Field rule t
-  as_dash : rule ≡ or_none → t ≡ dash ∷ [] → Field rule t
+  as_dash : or_none rule ≡ true → t ≡ dash ∷ [] → Field rule t
 
 -- a field and the byte that ends it
-abbrev pub Entry : ℕ → ℕ → Rule
+abbrev pub Entry : Number.Rule → ℕ → Rule
 Entry rule e = Then (Field rule) (Just (e ∷ []))
 
 -- 02 (vi): where the numbers of ls may be left out, a field that ends its line; and then a text by S

@@ -8,7 +8,7 @@ use borrow.Author.Tests.{eqb-true}
 use lib.Dec.{eqb, ltb}
 use lib.ListN.{length, get_or}
 use Rattle.text.specs.Field.{begins}
-use Rattle.text.specs.Limit.{Limit}
+use Rattle.text.specs.declared.Limit.{Limit}
 use Rattle.text.specs.Line.{Line, numbers_text, line_text}
 use Rattle.ground.proofs.Booleans.{both_hold}
 use Rattle.text.proofs.Limits.{narrow, readable}

@@ -1,7 +1,8 @@
 -- A text as data: a form is its parts, one after the other, and the most bytes that are read.
 use Rattle.std.specs.Prelude.{ℕ, suc, max, Bool, true, false, List, [], ◌∷◌, ◌++◌, eqb, get_or}
 use Rattle.std.proofs.Math.Option.{Option, none, some}
-use Rattle.text.specs.Limit.{Limit, limit}
+use Rattle.text.specs.declared.Limit.{Limit}
+use Rattle.text.specs.Limit.{limit}
 use Rattle.text.specs.Line.{Line}
 
 -- from least to most lines, each of one of the kinds, told by its first byte; where they rise, each line's first number

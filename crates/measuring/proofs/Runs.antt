@@ -6,7 +6,8 @@ use Prim.Native.Nat.{ℕ, zero, suc, ◌+◌, ◌-◌, ◌<◌}
 use native.Mathlib.Omega.{arith}
 use borrow.Author.Rules.{rules}
 use lib.ListN.{length, take, drop, get_or, replicate}
-use Rattle.text.specs.Limit.{Limit, all_hold, limit_of, limits_of, from_zero}
+use Rattle.text.specs.declared.Limit.{Limit}
+use Rattle.text.specs.Limit.{all_hold, limit_of, limits_of, from_zero}
 use Rattle.sheet.specs.Sheet.{limits_on, limit_rows}
 use Rattle.sheet.proofs.Held.{opens}
 use Rattle.sheet.specs.Places.{length_at, readings, stations, station_at, aft_at, bare_at, fittings_at, sheet_words}

@@ -8,7 +8,8 @@ use lib.ListN.{length, get_or, set}
 use lib.Seq.{sets, get_or-set_other}
 use Rattle.text.specs.Read.{LineRead}
 use Rattle.text.specs.Read.{Taken, Fault}
-use Rattle.text.specs.Limit.{Limit, ranging, holds, all_hold}
+use Rattle.text.specs.declared.Limit.{Limit}
+use Rattle.text.specs.Limit.{ranging, holds, all_hold}
 use Rattle.text.specs.Line.{Line, Reads, read_line}
 use Rattle.ground.proofs.Booleans.{both_hold, false_true}
 use Rattle.text.proofs.Limits.{full, hold_length}

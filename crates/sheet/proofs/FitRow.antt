@@ -8,7 +8,8 @@ use native.Mathlib.Omega.{arith}
 use borrow.Author.Tests.{ne_eqb}
 use lib.Dec.{eqb}
 use lib.ListN.{get_or, drop}
-use Rattle.text.specs.Limit.{Limit, ranging, ranging_count, holds, all_hold}
+use Rattle.text.specs.declared.Limit.{Limit}
+use Rattle.text.specs.Limit.{ranging, ranging_count, holds, all_hold}
 use Rattle.ground.proofs.Booleans.{both_hold, false_true}
 use Rattle.text.proofs.Bounds.{Between, ranging_between, between_ranging, Counted, count_counted, counted_count}
 use Rattle.form.specs.Parts.{Row, letter_of}

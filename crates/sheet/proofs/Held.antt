@@ -9,7 +9,8 @@ use borrow.Author.Tests.{leb-true, ne_eqb, le-ltb}
 use lib.Dec.{leb}
 use lib.ListN.{length, take, drop, length-append, length-drop}
 use lib.Seq.{take-add, drop-drop, length-take-le}
-use Rattle.text.specs.Limit.{Limit, or_none, capped, holds, all_hold}
+use Rattle.text.specs.declared.Limit.{Limit}
+use Rattle.text.specs.Limit.{or_none, capped, holds, all_hold}
 use Rattle.text.specs.Line.{Line}
 use Rattle.ground.proofs.Booleans.{both_hold}
 use Rattle.sheet.specs.Lines.{fittings}

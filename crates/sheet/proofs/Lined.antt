@@ -10,7 +10,8 @@ use lib.Dec.{eqb}
 use lib.ListN.{length}
 use Rattle.text.specs.Quoted.{tab, feed}
 use Rattle.text.specs.Field.{field_of}
-use Rattle.text.specs.Limit.{Limit, holds, all_hold}
+use Rattle.text.specs.declared.Limit.{Limit}
+use Rattle.text.specs.Limit.{holds, all_hold}
 use Rattle.text.specs.Line.{Line, entry_text, numbers_text, line_text}
 use Rattle.text.specs.Place.{feeds}
 use Rattle.ground.proofs.Booleans.{both_hold, false_true, by_test, by_equal}

@@ -10,7 +10,8 @@ use lib.Dec.{eqb}
 use lib.ListN.{length, take, drop, length-append}
 use Rattle.text.specs.Quoted.{tab, feed}
 use Rattle.text.specs.Number.{digits_in, digits_of}
-use Rattle.text.specs.Limit.{Limit, all_hold}
+use Rattle.text.specs.declared.Limit.{Limit}
+use Rattle.text.specs.Limit.{all_hold}
 use Rattle.text.specs.Line.{Line, numbers_text, line_text}
 use Rattle.ground.proofs.Booleans.{both_hold, false_true, by_test, by_less}
 use Rattle.text.proofs.Number.{length_digits_mono}

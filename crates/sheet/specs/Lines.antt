@@ -3,7 +3,8 @@
 use Rattle.std.specs.Prelude.{ℕ, List, [], ◌∷◌, replicate}
 use Prim.Native.String.{String}
 use Rattle.text.specs.Quoted.{bytes}
-use Rattle.text.specs.Limit.{Limit, ranging, ranging_capped, ranging_count, ranging_or_none}
+use Rattle.text.specs.declared.Limit.{Limit}
+use Rattle.text.specs.Limit.{ranging, ranging_capped, ranging_count, ranging_or_none}
 use Rattle.text.specs.Line.{Line}
 
 abbrev line : String → List Limit → Line

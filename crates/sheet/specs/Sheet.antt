@@ -2,7 +2,8 @@
 -- The words of the lines HULL to SEAT come first, then weight and count of each fitting line 1..24 in turn, both 0 for
 -- an empty line; tested persons 0 stands for `-`.
 use Rattle.std.specs.Prelude.{ℕ, zero, suc, Bool, true, false, ◌&&◌, ◌||◌, List, [], ◌∷◌, ◌++◌, map, eqb, length, take, drop}
-use Rattle.text.specs.Limit.{Limit, all_hold}
+use Rattle.text.specs.declared.Limit.{Limit}
+use Rattle.text.specs.Limit.{all_hold}
 use Rattle.text.specs.Line.{Line}
 use Rattle.sheet.specs.Lines.{lines, fittings, fit_line}
 

@@ -7,7 +7,8 @@ use native.Mathlib.Omega.{arith}
 use borrow.Author.Tests.{le-leb, lt-leb}
 use lib.Dec.{leb, leb-zero}
 use lib.ListN.{length, drop, get_or, replicate, drop_of_length-le}
-use Rattle.text.specs.Limit.{Limit, all_hold, from_zero}
+use Rattle.text.specs.declared.Limit.{Limit}
+use Rattle.text.specs.Limit.{all_hold, from_zero}
 use Rattle.ground.proofs.Booleans.{by_less}
 use Rattle.ground.proofs.Stores.{drop_more}
 use Rattle.text.proofs.Limits.{low_holds}

@@ -15,7 +15,8 @@ use Rattle.text.specs.Read.{Number, Misread}
 use Rattle.text.specs.Quoted.{dash}
 use Rattle.text.specs.Field.{field_of, begins}
 use Rattle.text.specs.Number.{number_of}
-use Rattle.text.specs.Limit.{Limit, or_none, within}
+use Rattle.text.specs.declared.Limit.{Limit}
+use Rattle.text.specs.Limit.{or_none, within}
 use Rattle.text.specs.Line.{read_entry}
 use Rattle.text.proofs.Field.{begins_some, field_most}
 use Rattle.text.proofs.NumberSteps.{number_place}

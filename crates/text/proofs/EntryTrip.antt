@@ -16,7 +16,8 @@ use Rattle.text.specs.Read.{Number, Misread}
 use Rattle.text.specs.Quoted.{tab, feed, dash}
 use Rattle.text.specs.Field.{field_of, begins}
 use Rattle.text.specs.Number.{eleven_digits, number_of, digits_of}
-use Rattle.text.specs.Limit.{Limit, or_none, is_none, within, holds}
+use Rattle.text.specs.declared.Limit.{Limit}
+use Rattle.text.specs.Limit.{or_none, is_none, within, holds}
 use Rattle.text.specs.Line.{ender, closer, judged, read_entry, entry_text}
 use Rattle.text.proofs.Field.{begins_cons, field_split, field_stop, field_more}
 use Rattle.text.proofs.NumberTrip.{read_writes, written_reads, field_digits, no_dash}

@@ -11,7 +11,9 @@ use Rattle.text.specs.Read.{Number, Misread}
 use Rattle.text.specs.Quoted.{bytes, tab}
 use Rattle.text.specs.Field.{field_of}
 use Rattle.text.specs.Number.{eleven_digits, rest_of, number_of, digits_in, digits_of}
-use Rattle.text.specs.Limit.{Plain, OrNone, Capped, Product, Limit, ranging, ranging_capped, ranging_or_none, ranging_count, spare}
+use Rattle.text.specs.declared.Limit.{Limit}
+use Rattle.text.specs.declared.Rule.TheVariants.{Plain, OrNone, Capped, Product}
+use Rattle.text.specs.Limit.{ranging, ranging_capped, ranging_or_none, ranging_count, spare}
 use Rattle.text.specs.Line.{read_entry}
 
 -- ---- a number: 1 to 10 digits, no leading zero but 0 itself

@@ -12,7 +12,10 @@ use lib.Seq.{drop-cons}
 use Rattle.ground.proofs.Booleans.{both_hold, false_true, not_false, by_test}
 use Rattle.ground.proofs.Stores.{drop_more}
 use Rattle.text.specs.Number.{eleven_digits}
-use Rattle.text.specs.Limit.{Limit, Rule, Plain, OrNone, Capped, Product, or_none, counts, limit, ranging, is_none}
+use Rattle.text.specs.declared.Limit.{Limit}
+use Rattle.text.specs.declared.Rule.{Rule}
+use Rattle.text.specs.declared.Rule.TheVariants.{Plain, OrNone, Capped, Product}
+use Rattle.text.specs.Limit.{or_none, counts, limit, ranging, is_none}
 use Rattle.text.specs.Limit.{by_rule, within, holds, all_hold}
 use Rattle.text.specs.Limit.{spare, from_zero}
 

@@ -13,7 +13,8 @@ use Rattle.ground.proofs.Stores.{rest_part}
 use Rattle.text.specs.Read.{LineRead}
 use Rattle.text.specs.Read.{Taken, Fault}
 use Rattle.text.specs.Quoted.{feed}
-use Rattle.text.specs.Limit.{Limit, spare}
+use Rattle.text.specs.declared.Limit.{Limit}
+use Rattle.text.specs.Limit.{spare}
 use Rattle.text.specs.Field.{field_of, begins, agreed}
 use Rattle.text.specs.Line.{Line, line_of, Reads, shift_by, after, nothing, refused, ender, stops_short, on_entry}
 use Rattle.text.specs.Line.{read_entry, read_numbers, read_line}

@@ -15,7 +15,8 @@ use Rattle.text.specs.Read.{Number}
 use Rattle.text.specs.Quoted.{tab, feed, dash}
 use Rattle.text.specs.Field.{field_of, begins, agreed}
 use Rattle.text.specs.Number.{number_of}
-use Rattle.text.specs.Limit.{Limit, or_none}
+use Rattle.text.specs.declared.Limit.{Limit}
+use Rattle.text.specs.Limit.{or_none}
 use Rattle.text.specs.Line.{Line, ender, stops_short, judged, read_entry, read_numbers, read_line, entry_text}
 use Rattle.text.specs.Place.{feeds, first_line}
 use Rattle.text.proofs.Field.{begins_cons, field_stop, field_more, field_split, agreed_whole}

@@ -6,7 +6,8 @@ use Prim.Native.Nat.{ℕ, suc, ◌+◌, ◌≤◌}
 use native.Mathlib.Omega.{arith}
 use lib.ListN.{length, length-append}
 use Rattle.text.specs.Number.{digits_in, digits_of}
-use Rattle.text.specs.Limit.{Limit, is_none, holds, all_hold}
+use Rattle.text.specs.declared.Limit.{Limit}
+use Rattle.text.specs.Limit.{is_none, holds, all_hold}
 use Rattle.text.specs.Line.{Line, closer, entry_text, numbers_text, line_text}
 use Rattle.ground.proofs.Booleans.{both_hold, false_true, by_test}
 use Rattle.text.proofs.Number.{length_digits_mono}

@@ -8,7 +8,8 @@ use lib.Dec.{eqb}
 use lib.ListN.{length, take, drop, get_or, set, length-drop}
 use Rattle.text.specs.Quoted.{tab, feed}
 use Rattle.text.specs.Number.{eleven_digits}
-use Rattle.text.specs.Limit.{Limit, is_none}
+use Rattle.text.specs.declared.Limit.{Limit}
+use Rattle.text.specs.Limit.{is_none}
 use Rattle.text.specs.Line.{Laid, entry_text, closer, numbers_text}
 use Rattle.ground.proofs.Booleans.{by_test}
 use Rattle.ground.proofs.Stores.{drop_more}

@@ -4,9 +4,9 @@
 use Rattle.std.specs.Prelude.{ℕ, ◌*◌, Bool, true, false, ◌&&◌, ◌||◌, List, [], ◌∷◌, eqb, leb, ltb}
 
 -- the code's own, so that its tables are these
-pub use Rattle.text.specs.declared.Limit.{Limit}
-pub use Rattle.text.specs.declared.Rule.{Rule}
-pub use Rattle.text.specs.declared.Rule.TheVariants.{Plain, OrNone, Capped, Product}
+use Rattle.text.specs.declared.Limit.{Limit}
+use Rattle.text.specs.declared.Rule.{Rule}
+use Rattle.text.specs.declared.Rule.TheVariants.{Plain, OrNone, Capped, Product}
 
 -- whether 0 stands for none
 abbrev pub or_none : Rule → Bool

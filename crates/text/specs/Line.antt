@@ -8,7 +8,8 @@ use Rattle.answers.specs.Refusals.{broken_line, outside_limits}
 use Rattle.text.specs.Quoted.{tab, feed, dash}
 use Rattle.text.specs.Field.{field_of, begins, agreed}
 use Rattle.text.specs.Number.{NumberRead, number_of, digits_of}
-use Rattle.text.specs.Limit.{Limit, or_none, is_none, within, spare}
+use Rattle.text.specs.declared.Limit.{Limit}
+use Rattle.text.specs.Limit.{or_none, is_none, within, spare}
 use Rattle.text.specs.Read.{EntryRead, Number, Misread, LineRead, Taken, Fault}
 
 -- a line's form
