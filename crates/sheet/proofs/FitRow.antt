@@ -9,6 +9,8 @@ use borrow.Author.Tests.{ne_eqb}
 use lib.Dec.{eqb}
 use lib.ListN.{get_or, drop}
 use Rattle.text.specs.declared.Limit.{Limit}
+use Rattle.text.specs.declared.Rule.{Rule}
+use Rattle.text.specs.declared.Rule.TheVariants.{Plain, OrNone, Capped, Product}
 use Rattle.text.specs.Limit.{ranging, ranging_count, holds, all_hold}
 use Rattle.ground.proofs.Booleans.{both_hold, false_true}
 use Rattle.text.proofs.Bounds.{Between, ranging_between, between_ranging, Counted, count_counted, counted_count}
@@ -33,15 +35,21 @@ fit_pieces w c e h =
     let a = rw e at h in
     let p = both_hold (holds (ranging 1 fitting_high) 0 w) (holds count w c && true) a in
     let q = both_hold (holds count w c) true p.1 in
-    let z = count_counted 1 fitting_count count.rule w c (omega arith) q.0 in
+    let z = count_counted 1 fitting_count (top_of count.rule) w c q.0 in
     record {
       some = (ranging_between 1 fitting_high 0 w p.0).least;
       counted = record { least = z.least; most = z.most; product = omega (arith, z.product) };
     }
   where
-    -- the limit that a FIT line has for a count
+    -- the limit that a FIT line has for a count, and the most that pieces weigh by it
     count : Limit
     count = get_or fit_line.limits 2 (ranging 0 0)
+
+    top_of : Rule → ℕ
+    top_of Plain = 0
+    top_of OrNone = 0
+    top_of Capped = 0
+    top_of (Product top) = top
 
 -- one piece, at least, is no heavier than all
 pub piece_most : (w c : ℕ) → Pieces w c → w ≤ fitting_high
@@ -53,7 +61,7 @@ unfolding all_hold
 pieces_held w c p =
     rw (
       between_ranging 1 fitting_high 0 w p.some (piece_most w c p),
-      counted_count 1 fitting_count fitting_high w c (omega arith) p.counted,
+      counted_count 1 fitting_count fitting_high w c p.counted,
     )
 
 pub pieces_fit : (w c : ℕ) → Pieces w c → fit_ok w c ≡ true
@@ -119,7 +127,7 @@ fitted_numbers from letter (n ∷ w ∷ c ∷ []) e h =
       pieces = record {
         some = (ranging_between 1 fitting_high n w q.0).least;
         counted =
-            count_counted 1 fitting_count fitting_high w c (omega arith) (both_hold (holds k w c) true q.1).0;
+            count_counted 1 fitting_count fitting_high w c (both_hold (holds k w c) true q.1).0;
       };
       said = inl refl;
     }

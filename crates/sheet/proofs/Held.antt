@@ -1,18 +1,18 @@
 -- Numbers on several lines, each line judged by itself, are judged alike in one run: only a limit that caps a number
 -- or counts one looks back at the number before, and no line starts with such a limit.
 use mathlib.Core.Path.{◌≡◌, refl, sym, ap, ◌∙◌}
-use mathlib.Core.Bool.{Bool, true, ◌&&◌, and_assoc}
+use mathlib.Core.Bool.{Bool, true, not, ◌&&◌, ◌||◌, and_assoc}
 use mathlib.Core.List.{List, [], ◌∷◌, ◌++◌}
 use Prim.Native.Nat.{ℕ, ◌+◌, ◌≤◌}
 use native.Mathlib.Omega.{arith}
-use borrow.Author.Tests.{leb-true, ne_eqb, le-ltb}
-use lib.Dec.{leb}
 use lib.ListN.{length, take, drop, length-append, length-drop}
 use lib.Seq.{take-add, drop-drop, length-take-le}
 use Rattle.text.specs.declared.Limit.{Limit}
-use Rattle.text.specs.Limit.{or_none, capped, holds, all_hold}
+use Rattle.text.specs.declared.Rule.{Rule}
+use Rattle.text.specs.declared.Rule.TheVariants.{Plain, OrNone, Capped, Product}
+use Rattle.text.specs.Limit.{capped, counts, by_rule, holds, all_hold}
 use Rattle.text.specs.Line.{Line}
-use Rattle.ground.proofs.Booleans.{both_hold}
+use Rattle.ground.proofs.Booleans.{both_hold, false_true}
 use Rattle.sheet.specs.Lines.{fittings}
 use Rattle.sheet.specs.Sheet.{limits_on, fits_ok, ok_on}
 
@@ -20,12 +20,16 @@ use Rattle.sheet.specs.Sheet.{limits_on, fits_ok, ok_on}
 
 unfoldable pub opens : List Limit → Bool
 opens [] = true
-opens (l ∷ ls) = leb l.rule or_none
+opens (l ∷ ls) = not (capped l.rule || counts l.rule)
 
-holds_free : (l : Limit) (a b n : ℕ) → leb l.rule or_none ≡ true → holds l a n ≡ holds l b n
-holds_free l a b n e =
-    let r = leb-true l.rule or_none e in
-    rw (ne_capped l.rule (λ z. omega arith), le-ltb capped l.rule (omega arith))
+by_free : (r : Rule) (a b n : ℕ) → not (capped r || counts r) ≡ true → by_rule r a n ≡ by_rule r b n
+by_free Plain a b n e = refl
+by_free OrNone a b n e = refl
+by_free Capped a b n e = false_true e
+by_free (Product top) a b n e = false_true e
+
+holds_free : (l : Limit) (a b n : ℕ) → not (capped l.rule || counts l.rule) ≡ true → holds l a n ≡ holds l b n
+holds_free l a b n e = rw (by_free l.rule a b n e)
 
 hold_free : (ls : List Limit) (a b : ℕ) (ns : List ℕ) → opens ls ≡ true → all_hold ls a ns ≡ all_hold ls b ns
 unfolding opens all_hold

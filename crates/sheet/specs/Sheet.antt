@@ -1,7 +1,7 @@
 -- What a sheet is: 93 numbers in the order of its text, the HULL number and then the 92 words that the register holds.
 -- The words of the lines HULL to SEAT come first, then weight and count of each fitting line 1..24 in turn, both 0 for
 -- an empty line; tested persons 0 stands for `-`.
-use Rattle.std.specs.Prelude.{ℕ, zero, suc, Bool, true, false, ◌&&◌, ◌||◌, List, [], ◌∷◌, ◌++◌, map, eqb, length, take, drop}
+use Rattle.std.specs.Prelude.{ℕ, zero, suc, Bool, true, false, ◌&&◌, ◌||◌, List, [], ◌∷◌, ◌++◌, eqb, length, take, drop}
 use Rattle.text.specs.declared.Limit.{Limit}
 use Rattle.text.specs.Limit.{all_hold}
 use Rattle.text.specs.Line.{Line}
@@ -14,9 +14,8 @@ unfoldable pub limits_on : List Line → List Limit
 limits_on [] = []
 limits_on (l ∷ ls) = l.limits ++ limits_on ls
 
--- three numbers a limit
-unfoldable pub limit_rows : List (List ℕ)
-limit_rows = map (λ (l : Limit). l.low ∷ l.high ∷ l.rule ∷ []) (limits_on lines)
+unfoldable pub limit_rows : List Limit
+limit_rows = limits_on lines
 
 -- ---- within the limits
 

@@ -2,7 +2,7 @@
 // numbers that the code names. The code is the crates measuring, reading and writing.
 #![tactic(auto)]
 
-use text::{CAPPED, Limit, OR_NONE, PLAIN};
+use text::{Limit, Rule};
 
 // ---- where each number stands among the words of a sheet: each place follows from the one before
 
@@ -94,6 +94,23 @@ pub const LINE_WORDS: usize = IN_TEXT + FITTED;
 
 // ---- limits
 
+// A limit by its least and its greatest value and its rule; and one by these two alone.
+macro_rules! limit {
+    ($low:expr, $high:expr, $rule:expr) => {
+        Limit {
+            low: $low,
+            high: $high,
+            rule: $rule,
+        }
+    };
+}
+
+macro_rules! ranging {
+    ($low:expr, $high:expr) => {
+        limit!($low, $high, Rule::Plain)
+    };
+}
+
 // The greatest line number of a fitting, the most that the pieces on one line weigh together, and the most that there
 // are; and the greatest power and weight of an engine.
 pub const FITTING_LINES: u32 = 24;
@@ -103,9 +120,9 @@ pub const FITTING_HIGH: u32 = 500_000;
 pub const FITTING_COUNT: u32 = 99;
 
 // The limits of a FIT line after its line number: the weight of one piece, and how many there are.
-pub const FIT_WEIGHT: Limit = [1, FITTING_HIGH, PLAIN];
+pub const FIT_WEIGHT: Limit = ranging!(1, FITTING_HIGH);
 
-pub const FIT_COUNT: Limit = [1, FITTING_COUNT, FITTING_HIGH];
+pub const FIT_COUNT: Limit = limit!(1, FITTING_COUNT, Rule::Product(FITTING_HIGH));
 
 pub const ENGINE_POWER_HIGH: u32 = 200_000;
 
@@ -121,58 +138,58 @@ pub const SHEET_TEXT: usize = 658;
 // The limits of the numbers on the lines HULL to SEAT, in the order of the text.
 pub const LIMITS: [Limit; LINE_WORDS] = [
     // HULL
-    [0, 15, PLAIN],
+    ranging!(0, 15),
     // FORM
-    [2000, 6000, PLAIN],
-    [2000, 6000, CAPPED],
-    [500, 3000, PLAIN],
-    [200, 900, PLAIN],
-    [0, 1, PLAIN],
-    [0, 1, PLAIN],
+    ranging!(2000, 6000),
+    limit!(2000, 6000, Rule::Capped),
+    ranging!(500, 3000),
+    ranging!(200, 900),
+    ranging!(0, 1),
+    ranging!(0, 1),
     // STN Q
-    [0, 4000, PLAIN],
-    [0, 2500, PLAIN],
-    [0, 2500, PLAIN],
-    [0, 2500, PLAIN],
-    [0, 2500, PLAIN],
-    [0, 2500, PLAIN],
-    [0, 2500, PLAIN],
+    ranging!(0, 4000),
+    ranging!(0, 2500),
+    ranging!(0, 2500),
+    ranging!(0, 2500),
+    ranging!(0, 2500),
+    ranging!(0, 2500),
+    ranging!(0, 2500),
     // STN R
-    [0, 4000, PLAIN],
-    [0, 2500, PLAIN],
-    [0, 2500, PLAIN],
-    [0, 2500, PLAIN],
-    [0, 2500, PLAIN],
-    [0, 2500, PLAIN],
-    [0, 2500, PLAIN],
+    ranging!(0, 4000),
+    ranging!(0, 2500),
+    ranging!(0, 2500),
+    ranging!(0, 2500),
+    ranging!(0, 2500),
+    ranging!(0, 2500),
+    ranging!(0, 2500),
     // STN S
-    [0, 4000, PLAIN],
-    [0, 2500, PLAIN],
-    [0, 2500, PLAIN],
-    [0, 2500, PLAIN],
-    [0, 2500, PLAIN],
-    [0, 2500, PLAIN],
-    [0, 2500, PLAIN],
+    ranging!(0, 4000),
+    ranging!(0, 2500),
+    ranging!(0, 2500),
+    ranging!(0, 2500),
+    ranging!(0, 2500),
+    ranging!(0, 2500),
+    ranging!(0, 2500),
     // STN T
-    [0, 4000, PLAIN],
-    [0, 2500, PLAIN],
-    [0, 2500, PLAIN],
-    [0, 2500, PLAIN],
-    [0, 2500, PLAIN],
-    [0, 2500, PLAIN],
-    [0, 2500, PLAIN],
+    ranging!(0, 4000),
+    ranging!(0, 2500),
+    ranging!(0, 2500),
+    ranging!(0, 2500),
+    ranging!(0, 2500),
+    ranging!(0, 2500),
+    ranging!(0, 2500),
     // VOL
-    [0, 5000000, PLAIN],
-    [0, 5000000, PLAIN],
-    [0, 5000000, PLAIN],
+    ranging!(0, 5_000_000),
+    ranging!(0, 5_000_000),
+    ranging!(0, 5_000_000),
     // MASS
-    [1, 2000000, PLAIN],
-    [0, 500000, PLAIN],
-    [0, 500000, PLAIN],
+    ranging!(1, 2_000_000),
+    ranging!(0, 500_000),
+    ranging!(0, 500_000),
     // PWR
-    [0, 1, PLAIN],
-    [0, 200000, PLAIN],
+    ranging!(0, 1),
+    ranging!(0, 200_000),
     // SEAT
-    [1, 24, PLAIN],
-    [1, 24, OR_NONE],
+    ranging!(1, 24),
+    limit!(1, 24, Rule::OrNone),
 ];
