@@ -2,6 +2,8 @@
 // crate spelling.
 #![tactic(auto)]
 
+ghost use Rattle.std.specs.Prelude.{◌≡◌, ◌+◌, ◌<◌, ◌^◌};
+
 use answers::Refusal;
 
 // What is asked of a number beyond its least and greatest value: nothing; or that it may be 0 for none, written `-`; or
@@ -28,6 +30,19 @@ pub struct Limit {
 pub struct Fault {
     pub refusal: Refusal,
     pub at: usize,
+}
+
+impl Fault {
+    // The same, told from a start so many bytes before it.
+    pub fn after(self, before: usize) -> Fault
+        requires { before + self.at < 2 ^ 64 }
+        ensures { result ≡ record { refusal = self.refusal; at = before + self.at } }
+    {
+        Fault {
+            refusal: self.refusal,
+            at: before + self.at,
+        }
+    }
 }
 
 // A number with the byte that ended it: the number, and how many bytes both took.
