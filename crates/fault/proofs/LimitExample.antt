@@ -10,7 +10,6 @@ use Rattle.text.specs.Quoted.{feed, bytes}
 use Rattle.text.specs.Field.{field_of, agreed}
 use Rattle.text.specs.Number.{number_of, rest_of, digits_in, digits_of}
 use Rattle.text.specs.declared.Rule.TheVariants.{Plain}
-
 use Rattle.text.specs.Line.{Line, read_entry, read_numbers, read_line}
 use Rattle.form.specs.Parts.{one_line, kind_of}
 use Rattle.form.specs.Reading.{read_rows, read_parts}

@@ -2,7 +2,6 @@
 -- before; for some, that there may be none, written `-`. 02 (vi): for some, that times the number before it is no more
 -- than so much; such a number may be left out of a line. Whatever reads, writes or checks a number goes by these alone.
 use Rattle.std.specs.Prelude.{ℕ, ◌*◌, Bool, true, false, ◌&&◌, ◌||◌, List, [], ◌∷◌, eqb, leb, ltb}
-
 -- the code's own, so that its tables are these
 use Rattle.text.specs.declared.Limit.{Limit}
 use Rattle.text.specs.declared.Rule.{Rule}
