@@ -9,9 +9,5 @@ pub fn copy_numbers(numbers: &[u32], out: &mut [u32])
     requires { length numbers.now ≤ length out.old }
     ensures { out.new ≡ put_first numbers.now out.old }
 {
-    let mut i = 0;
-    while i < numbers.len() {
-        out[i] = numbers[i];
-        i += 1;
-    }
+    out[..numbers.len()].copy_from_slice(numbers);
 }
