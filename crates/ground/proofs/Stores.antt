@@ -7,7 +7,7 @@ use native.Mathlib.Omega.{arith}
 use native.Mathlib.Numerals.{add-one}
 use lib.ListN.{length, get_or, take, drop, set, replicate, length-append, length-drop, length-replicate}
 use lib.ListN.{replicate-append-replicate, take-append-drop, drop_of_length-le}
-use lib.Seq.{sets, sets-eq, drop-cons, take_all, set_out, take-suc, length-take-le, take-set-le}
+use lib.Seq.{sets, sets-eq, drop-cons, take_all, set_out, length-take-le, take-set-le}
 use lib.Seq.{drop-set-add, length-sets}
 use Rattle.ground.proofs.Booleans.{by_less}
 
@@ -45,6 +45,21 @@ take_sets l n i (x ∷ xs) h = take_sets (set l i x) n (suc i) xs (omega arith) 
 -- a list stored from the start, with what stands after it
 pub sets_start : (l xs : List ℕ) → length xs ≤ length l → sets l 0 xs ≡ xs ++ drop (length xs) l
 sets_start l xs h = sets-eq xs l 0 (omega arith) ∙ rw (zero-add (length xs))
+
+-- as many as there is room for are the whole of it
+pub sets_fit : (l xs : List ℕ) (n : ℕ) → n ≡ min (length xs) (length l) → take n xs ++ drop n l ≡ sets l 0 xs
+sets_fit l xs n e =
+    let k : length (take n xs) ≡ n = length-take-le n xs (omega arith) in
+    let s : sets l 0 (take n xs) ≡ take n xs ++ drop n l =
+    sets_start l (take n xs) (omega arith) ∙ rw k in
+    sym s
+    ∙ by_less n (length xs)
+    (λ h.
+    let o : length (sets l 0 (take n xs)) ≤ 0 + length (take n xs) = omega (arith, length-sets l 0 (take n xs)) in
+    sym (sets_out (sets l 0 (take n xs)) (0 + length (take n xs)) (drop n xs) o)
+    ∙ sym (sets_append l 0 (take n xs) (drop n xs))
+    ∙ ap (sets l 0) (take-append-drop n xs))
+    (λ h. ap (sets l 0) (take_all n xs h))
 
 -- ---- parts, as the code lends them
 
@@ -92,37 +107,3 @@ zeros_stored m j xs h =
     let k : j + (m - (length xs + j)) ≡ m - length xs = omega arith in
     sets_zeros m (xs ++ replicate j 0) (omega arith)
     ∙ rw (n, append_assoc, replicate-append-replicate, k) (sym (sets_zeros m xs (omega arith)))
-
--- ---- the copying loop
-
--- the first i of xs lie at the start of l, which was l₀
-pub record Copied (xs l₀ : List ℕ) (i : ℕ) (l : List ℕ) : Type 0 where
-  pub so_far : l ≡ sets l₀ 0 (take i xs)
-
-pub copied_none : (xs l : List ℕ) → Copied xs l 0 l
-copied_none xs l = record { so_far = refl }
-
-module _ {xs l₀ : List ℕ} {i : ℕ} {l : List ℕ} (g : Copied xs l₀ i l) where
-  pub copied_length : length l ≡ length l₀
-  copied_length = ap length g.so_far ∙ length-sets l₀ 0 (take i xs)
-
-  pub copied_more : i < length xs → Copied xs l₀ (i + 1) (set l i (get_or xs i 0))
-  copied_more h =
-      let e : i ≡ 0 + length (take i xs) = omega (arith, length-take-le i xs (omega arith)) in
-      let s : set (sets l₀ 0 (take i xs)) i (get_or xs i 0) ≡ sets l₀ 0 (take i xs ++ (get_or xs i 0 ∷ [])) =
-      ap (λ (k : ℕ). set (sets l₀ 0 (take i xs)) k (get_or xs i 0)) e ∙ sets_snoc l₀ 0 (take i xs) (get_or xs i 0) in
-      record { so_far = rw g.so_far (s ∙ rw (add-one i, take-suc xs i 0)) }
-
-  -- a copy of as many as there are, or as there is room for, is the whole of it
-  pub copied_done : min (length xs) (length l₀) ≤ i → l ≡ sets l₀ 0 xs
-  copied_done h =
-      g.so_far
-      ∙ by_less i (length xs)
-      (λ k.
-      let n : length (take i xs) ≡ i = length-take-le i xs (omega arith) in
-      let o : length (sets l₀ 0 (take i xs)) ≤ 0 + length (take i xs) = omega (arith, length-sets l₀ 0 (take i xs)) in
-      sym
-      (ap (sets l₀ 0) (sym (take-append-drop i xs))
-      ∙ sets_append l₀ 0 (take i xs) (drop i xs)
-      ∙ sets_out (sets l₀ 0 (take i xs)) (0 + length (take i xs)) (drop i xs) o))
-      (λ k. ap (sets l₀ 0) (take_all i xs k))

@@ -7,41 +7,25 @@ ghost use Rattle.text.specs.Field.{field_of, begins, agreed};
 pub fn starts(text: &[u8], b: u8) -> bool
     ensures { result ≡ begins b text.now }
 {
-    if text.len() == 0 { false } else { text[0] == b }
+    text.first() == Some(&b)
 }
 
 // In how many leading bytes tag and text agree.
 pub fn agreement(tag: &[u8], text: &[u8]) -> usize
     ensures { result ≡ agreed tag.now text.now }
 {
-    let mut i = 0;
-    while i < tag.len() {
-        if i >= text.len() {
-            return i;
-        }
-        if text[i] != tag[i] {
-            return i;
-        }
-        i += 1;
-    }
-    i
+    tag.iter()
+        .zip(text)
+        .take_while(|(want, b)| b == want)
+        .count()
 }
 
 // The first field of text: up to a tab, a line feed or the end, and still the caller's own bytes.
 pub fn find_field(text: &[u8]) -> &[u8]
     ensures { result.now ≡ field_of text.now }
 {
-    let mut i = 0;
-    while i < text.len() {
-        if text[i] == b'\t' {
-            return &text[..i];
-        }
-        if text[i] == b'\n' {
-            return &text[..i];
-        }
-        i += 1;
-    }
-    text
+    let end = text.iter().position(|b| *b == b'\t' || *b == b'\n');
+    &text[..end.unwrap_or(text.len())]
 }
 
 // The lesser of two lengths.
@@ -51,12 +35,13 @@ pub fn shorter(a: usize, b: usize) -> usize
     if a < b { a } else { b }
 }
 
-// Puts b at a place of out, if out has that place.
-pub fn store(out: &mut [u8], at: usize, b: u8)
-    ensures { out.new ≡ set out.old at b }
+// Puts x at a place of out, if out has that place.
+pub fn store<T: Copy>(out: &mut [T], at: usize, x: T)
+    ensures { out.new ≡ set out.old at x }
 {
+    // Kept: 3, of a slice's `get_mut` no clause says what the slice ends as
     if at < out.len() {
-        out[at] = b;
+        out[at] = x;
     }
 }
 
@@ -64,11 +49,6 @@ pub fn store(out: &mut [u8], at: usize, b: u8)
 pub fn write_bytes(bytes: &[u8], out: &mut [u8])
     ensures { out.new ≡ sets out.old 0 bytes.now }
 {
-    // where both go on, so that no byte asks for its place
-    let end = shorter(bytes.len(), out.len());
-    let mut i = 0;
-    while i < end {
-        out[i] = bytes[i];
-        i += 1;
-    }
+    let end = bytes.len().min(out.len());
+    out[..end].copy_from_slice(&bytes[..end]);
 }

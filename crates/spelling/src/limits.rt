@@ -1,70 +1,51 @@
 // Numbers held to their limits: one by one, or a run that shares one limit.
 ghost use Rattle.std.specs.Prelude.{◌≡◌, true, max, length, replicate};
 ghost use mathlib.Core.List.{foldr};
-ghost use Rattle.text.specs.Limit.{limit_of, is_none, within, holds, all_hold, limits_of, from_zero};
+ghost use Rattle.text.specs.Limit.{is_none, within, holds, all_hold, from_zero};
 
-use text::{CAPPED, Limit, OR_NONE, PLAIN};
+use text::{Limit, Rule};
 
 // Whether n is within a limit, where the number before it is `last`.
 pub fn is_within(l: Limit, last: u32, n: u64) -> bool
-    ensures { result ≡ within (limit_of l) last n }
+    ensures { result ≡ within l last n }
 {
-    let low = l[0];
-    let high = l[1];
-    let rule = l[2];
-    if n < low as u64 {
+    if n < u64::from(l.low) || n > u64::from(l.high) {
         return false;
     }
-    if n > high as u64 {
-        return false;
+    match l.rule {
+        Rule::Plain => true,
+        Rule::OrNone => n > 0,
+        Rule::Capped => n <= u64::from(last),
+        // n is no more than high, so that the product fits
+        Rule::Product(top) => u64::from(last) * n <= u64::from(top),
     }
-    if rule == PLAIN {
-        return true;
-    }
-    if rule == OR_NONE {
-        return n > 0;
-    }
-    if rule == CAPPED {
-        return n <= last as u64;
-    }
-    // n is no more than high, so that the product fits
-    last as u64 * n <= rule as u64
 }
 
 // Whether n is a 0 that stands for none.
 pub fn is_none(l: Limit, n: u32) -> bool
-    ensures { result ≡ is_none (limit_of l) n }
+    ensures { result ≡ is_none l n }
 {
-    let rule = l[2];
-    if rule == OR_NONE { n == 0 } else { false }
+    l.rule == Rule::OrNone && n == 0
 }
 
 // Whether n may stand there: within the limit, or a 0 for none.
 fn may_stand(l: Limit, last: u32, n: u32) -> bool
-    ensures { result ≡ holds (limit_of l) last n }
+    ensures { result ≡ holds l last n }
 {
-    if is_none(l, n) {
-        true
-    } else {
-        is_within(l, last, n as u64)
-    }
+    is_none(l, n) || is_within(l, last, u64::from(n))
 }
 
 // Whether each of the numbers, of which there are as many as limits, may stand where it does.
 pub fn all_hold(table: &[Limit], numbers: &[u32]) -> bool
     requires { length table.now ≡ length numbers.now }
-    ensures { result ≡ all_hold (limits_of table.now) 0 numbers.now }
+    ensures { result ≡ all_hold table.now 0 numbers.now }
 {
-    let mut k = 0;
     let mut last = 0;
-    while k < numbers.len() {
-        let n = numbers[k];
-        if may_stand(table[k], last, n) {
-            last = n;
-            k += 1;
-        } else {
+    for (l, n) in table.iter().zip(numbers) {
+        if !may_stand(*l, last, *n) {
             return false;
         }
+        last = *n;
     }
     true
 }
@@ -73,23 +54,14 @@ pub fn all_hold(table: &[Limit], numbers: &[u32]) -> bool
 fn greatest(numbers: &[u32]) -> u32
     ensures { result ≡ foldr max 0 numbers.now }
 {
-    let mut top = 0;
-    let mut k = 0;
-    while k < numbers.len() {
-        let n = numbers[k];
-        if top < n {
-            top = n;
-        }
-        k += 1;
-    }
-    top
+    numbers.iter().fold(0, |top, n| top.max(*n))
 }
 
 // Whether each of the numbers may stand by one limit, whose range goes down to 0, or to 1 with 0 for none: the greatest
 // of them tells, so that the loop has no branch.
 pub fn alike_hold(l: Limit, numbers: &[u32]) -> bool
-    requires { from_zero (limit_of l) ≡ true }
-    ensures { result ≡ all_hold (replicate (length numbers.now) (limit_of l)) 0 numbers.now }
+    requires { from_zero l ≡ true }
+    ensures { result ≡ all_hold (replicate (length numbers.now) l) 0 numbers.now }
 {
-    greatest(numbers) <= l[1]
+    greatest(numbers) <= l.high
 }

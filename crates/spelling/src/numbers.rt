@@ -1,60 +1,43 @@
 // A number read from its field and written with the highest digit first.
-ghost use Rattle.std.specs.Prelude.{◌≡◌, ◌-◌};
-ghost use Rattle.text.specs.Number.{is_digit, number_of, digits_of};
+ghost use Rattle.std.specs.Prelude.{◌≡◌, ◌≢◌, ◌<◌, length, slice_index};
+ghost use Rattle.text.specs.Number.{number_of, digits_of};
 ghost use Rattle.text.specs.Line.{Laid};
 
-use crate::bytes::{shorter, store};
-use text::NumberRead;
+use crate::bytes::store;
 
 // The most digits that a number has.
 const MOST_DIGITS: usize = 10;
 
-// Whether b is a digit.
-fn is_digit(b: u8) -> bool
-    ensures { result ≡ is_digit b }
-{
-    if b < b'0' { false } else { b <= b'9' }
-}
-
-// The worth of a digit.
-fn digit(b: u8) -> u64
-    ensures { result ≡ b - 48 }
-{
-    if b < b'0' { 0 } else { (b - b'0') as u64 }
-}
-
-// The number that a field is.
-pub fn read_number(f: &[u8]) -> NumberRead
+// The number that a field is, or the place of the first byte at fault.
+pub fn read_number(f: &[u8]) -> Result<u64, usize>
     ensures { result ≡ number_of f.now }
 {
-    let len = f.len();
-    if len == 0 {
-        return NumberRead::Malformed(0);
+    match f {
+        [] => Err(0),
+        [b'0'] => Ok(0),
+        [b'0', ..] => Err(1),
+        _ => read_digits(f),
     }
-    if f[0] == b'0' {
-        if len == 1 {
-            return NumberRead::Value(0);
-        } else {
-            return NumberRead::Malformed(1);
-        }
-    }
+}
+
+// The same, of a field that has a first byte, which is no `0`.
+fn read_digits(f: &[u8]) -> Result<u64, usize>
+    requires { (0 < length f.now) × (slice_index f.now 0 ≢ 48) }
+    ensures { result ≡ number_of f.now }
+{
     // an eleventh byte is at fault whatever it is, so that no digit asks for the number before it
-    let end = shorter(len, MOST_DIGITS);
+    let end = f.len().min(MOST_DIGITS);
     let mut n = 0;
-    let mut i = 0;
-    while i < end {
-        let b = f[i];
-        if is_digit(b) {
-            n = 10 * n + digit(b);
-            i += 1;
-        } else {
-            return NumberRead::Malformed(i);
+    for (i, b) in f[..end].iter().enumerate() {
+        if !b.is_ascii_digit() {
+            return Err(i);
         }
+        n = 10 * n + u64::from(*b - b'0');
     }
-    if i < len {
-        NumberRead::Malformed(i)
+    if end < f.len() {
+        Err(end)
     } else {
-        NumberRead::Value(n)
+        Ok(n)
     }
 }
 
@@ -63,11 +46,11 @@ pub fn write_number(out: &mut [u8], n: u64) -> usize
     ensures { Laid (digits_of n) out.old 0 result out.new }
 {
     if n < 10 {
-        store(out, 0, (48 + n) as u8);
+        store(out, 0, b'0' + n as u8);
         1
     } else {
         let at = write_number(out, n / 10);
-        store(out, at, (48 + n % 10) as u8);
+        store(out, at, b'0' + (n % 10) as u8);
         at + 1
     }
 }

@@ -1,12 +1,7 @@
 -- How far `after_lines` has come.
-use mathlib.Core.Path.{◌≡◌}
-use Prim.Native.Nat.{◌-◌, ◌≤◌}
-use lib.ListN.{length, drop}
+use Rattle.std.proofs.Common.{◌≡◌, ◌-◌}
 use Rattle.text.specs.Place.{after_lines}
 use Rattle.spelling.proofs.cuts.after_lines.Given as goal
 
-abbrev pub invariant-loop-n : goal.invariant-loop-n
-invariant-loop-n l = (l.n ≤ l.lines) × (l.at ≤ length l.text) × (drop l.at l.text ≡ after_lines l.n l.text)
-
-abbrev pub decreases-loop-n : goal.decreases-loop-n
-decreases-loop-n l = l.lines - l.n
+abbrev pub invariant-loop : goal.invariant-loop
+invariant-loop l = after_lines (l.lines - l.counter) l.rest ≡ after_lines l.lines l.text

@@ -1,25 +1,50 @@
 -- `first_line` meets its contract.
-use mathlib.Core.Path.{sym, ap, ◌∙◌}
-use native.Mathlib.Omega.{arith}
+use Rattle.std.proofs.Common.{◌≡◌, ℕ, List, [], ◌∷◌, Bool, None, Some, rules, sym, ◌∙◌, ap, arith, take, ◌+◌, ◌≤◌, length}
+use Rattle.std.specs.List.{position_or_len, position}
+use Rattle.std.proofs.lemmas.Grind.{common_steps}
+use Rattle.std.proofs.lemmas.Iterator.{YieldsList-from_slice}
+use Rattle.std.proofs.lemmas.Iterator.Search.{position_from_yields_List}
+use borrow.Author.Tests.{tests, ne_eqb}
+use lib.Dec.{eqb}
 use lib.Seq.{take_all}
-use Rattle.text.specs.Place.{feeds}
-use Rattle.text.proofs.Place.{feeds_none, line_other}
-use Rattle.text.proofs.FirstLine.{first_whole, first_ends}
+use native.Mathlib.Nat.{suc-add}
+use native.Mathlib.Numerals.{one-add}
+use Rattle.ground.proofs.Booleans.{by_equal}
+use Rattle.text.specs.Quoted.{feed}
+use Rattle.text.specs.Place.{first_line}
+use Rattle.text.proofs.FirstLine.{first_none, first_feed, first_other}
 use Rattle.spelling.proofs.cuts.first_line.Goals as goal
+use Rattle.spelling.proofs.cuts.first_line.Goals.{After-position}
 
-pub loop-i-init : goal.loop-i-init
-loop-i-init c = (omega arith, feeds_none)
+abbrev is_feed : ℕ → Bool
+is_feed b = eqb b feed
 
-pub returns-then-text-i-eq10 : goal.returns-then-text-i-eq10
-returns-then-text-i-eq10 c =
-    first_ends _ _ c.loop-i-test.true c.loop-i.invariant.1 c.if-text-i-eq10.true
+through : (t : List ℕ) → take (position_or_len is_feed t + 1) t ≡ first_line t
+through [] = rw first_none
+through (b ∷ t) =
+    by_equal b feed (λ e. rw (e, first_feed t))
+    (λ n.
+    rw (first_other b t n, ne_eqb b feed n, one-add (position_or_len is_feed t), suc-add (position_or_len is_feed t) 1)
+    (ap (λ (l : List ℕ). b ∷ l) (through t)))
 
-pub loop-i-preserved : goal.loop-i-preserved
-loop-i-preserved c =
-    let n = line_other c.args.text.now c.loop-i.i c.loop-i-test.true c.if-text-i-eq10.false in
-    (omega arith, omega (arith, n, c.loop-i.invariant.1))
+at_some : (t : List ℕ) (end : ℕ) → position is_feed t ≡ Some end → position_or_len is_feed t ≡ end
+at_some t end e = grind (arith, common_steps)
 
-pub returns : goal.returns
-returns c =
-    let e = take_all c.loop-i.i c.args.text.now c.loop-i-test.false in
-    sym (first_whole c.args.text.now (sym (ap feeds e) ∙ c.loop-i.invariant.1))
+at_none : (t : List ℕ) → position is_feed t ≡ None → length t ≤ position_or_len is_feed t
+at_none t e = grind (arith, common_steps)
+
+found : (c : After-position) → c.position.result ≡ position is_feed c.args.text.now
+found c =
+    position_from_yields_List is_feed _ _ _ c.position.ensures.ran (YieldsList-from_slice _ c.iter.ensures.rest)
+    (λ x b q k. search (rules, tests))
+
+pub returns-in-Some : goal.returns-in-Some
+returns-in-Some c =
+    let e = at_some c.args.text.now c.in-Some.end (sym (found (goal.at.returns-in-Some c).After-position) ∙ c.in-Some.is) in
+    rw (← e) (through c.args.text.now)
+
+pub returns-in-None : goal.returns-in-None
+returns-in-None c =
+    let t = c.args.text.now in
+    let n = at_none t (sym (found (goal.at.returns-in-None c).After-position) ∙ c.in-None.is) in
+    sym (take_all _ t (omega arith)) ∙ through t

@@ -1,32 +1,31 @@
 -- `all_hold` meets its contract.
-use mathlib.Core.Path.{◌≡◌, sym, ◌∙◌}
-use mathlib.Core.Bool.{Bool, ◌&&◌}
-use Prim.Native.Nat.{◌+◌}
-use lib.ListN.{get_or}
-use Rattle.text.specs.Limit.{all_hold, limits_of}
-use Rattle.text.proofs.Limits.{held_from, hold_step, hold_done}
-use native.Mathlib.Omega.{arith}
+use Rattle.std.proofs.Common.{◌≡◌, ℕ, Bool, List, ◌∷◌, sym, ◌∙◌, arith, length, ap}
+use Rattle.std.specs.Prelude.{◌&&◌}
+use Rattle.std.proofs.lemmas.Iterator.{empty_from_Zip}
+use Rattle.text.specs.declared.Limit.{Limit}
+use Rattle.text.specs.Limit.{all_hold, holds}
 use Rattle.spelling.proofs.limits.all_hold.Goals as goal
-use Rattle.spelling.proofs.limits.all_hold.Goals.{After-may_stand}
 
--- with the number at place k told
-told : (c : After-may_stand) {u : Bool} → c.may_stand.result ≡ u →
-    let table = c.args.table.now in
-    let numbers = c.args.numbers.now in
-    all_hold (limits_of table) 0 numbers
-    ≡ (u && held_from table numbers (get_or numbers c.loop-k.k 0) (c.loop-k.k + 1))
-told c e =
-    c.loop-k.invariant.1
-    ∙ hold_step c.args.table.now c.args.numbers.now c.loop-k.last c.loop-k.k (omega arith) (omega arith)
-    ∙ rw (sym c.may_stand.ensures ∙ e)
+-- one number more
+more : {u : Bool} {l : Limit} {n : ℕ} {ls table : List Limit} {ns numbers : List ℕ} (last : ℕ)
+    → (table ≡ l ∷ ls) × (numbers ≡ n ∷ ns)
+    → u ≡ holds l last n
+    → all_hold table last numbers ≡ (u && all_hold ls n ns)
+unfolding all_hold
+more last e h = rw (e.0, e.1, h)
 
-pub loop-k-preserved : goal.loop-k-preserved
-loop-k-preserved c = (omega arith, told (goal.at.loop-k-preserved c).After-may_stand c.if-may_stand.true)
+pub returns-then-not-may_stand : goal.returns-then-not-may_stand
+returns-then-not-may_stand c =
+    sym (c.loop-l.invariant.1 ∙ more c.loop-l.last c.in-Some.ensures.steps c.if-not-may_stand.ensures)
 
-pub returns-else-may_stand : goal.returns-else-may_stand
-returns-else-may_stand c = sym (told (goal.at.returns-else-may_stand c).After-may_stand c.if-may_stand.false)
+pub loop-l-preserved : goal.loop-l-preserved
+loop-l-preserved c =
+    let e = c.in-Some.ensures.steps in
+    (omega (arith, ap length e.0, ap length e.1), c.loop-l.invariant.1 ∙ more c.loop-l.last e c.if-not-may_stand.ensures)
 
+-- no number left
 pub returns : goal.returns
+unfolding all_hold
 returns c =
-    let done = hold_done c.args.table.now c.args.numbers.now c.loop-k.last c.loop-k.k (omega arith) (omega arith) in
-    sym (c.loop-k.invariant.1 ∙ done)
+    let e = empty_from_Zip c.loop-l.l-iterator c.next.new.self _ c.in-None.is c.next.ensures.steps c.loop-l.invariant.0 in
+    sym (c.loop-l.invariant.1 ∙ rw (e.0, e.1, all_hold))

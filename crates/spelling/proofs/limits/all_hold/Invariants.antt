@@ -1,14 +1,13 @@
--- How far `all_hold` has come.
-use mathlib.Core.Path.{◌≡◌}
-use Prim.Native.Nat.{◌≤◌, ◌-◌}
-use lib.ListN.{length}
-use Rattle.text.specs.Limit.{all_hold, limits_of}
-use Rattle.text.proofs.Limits.{held_from}
+-- How far `all_hold` has come: what is left to look at.
+use Rattle.std.proofs.Common.{◌≡◌, length}
+use Rattle.std.specs.Iterator.Adapters.{zip_first, zip_second}
+use Rattle.std.specs.Slice.Iter.{iter_rest}
+use Rattle.text.specs.Limit.{all_hold}
 use Rattle.spelling.proofs.limits.all_hold.Given as goal
 
-abbrev pub invariant-loop-k : goal.invariant-loop-k
-invariant-loop-k l =
-    (l.k ≤ length l.numbers) × (all_hold (limits_of l.table) 0 l.numbers ≡ held_from l.table l.numbers l.last l.k)
-
-abbrev pub decreases-loop-k : goal.decreases-loop-k
-decreases-loop-k l = length l.numbers - l.k
+abbrev pub invariant-loop-l : goal.invariant-loop-l
+invariant-loop-l l =
+    let table = iter_rest (zip_first l.l-iterator) in
+    let numbers = iter_rest (zip_second l.l-iterator) in
+    (length table ≡ length numbers)
+    × (all_hold l.table 0 l.numbers ≡ all_hold table l.last numbers)
