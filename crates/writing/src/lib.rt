@@ -15,9 +15,8 @@ ghost use Rattle.writing.specs.Pieces.{line_from, Due, fits_text, rest_text};
 use crate::page::Page;
 use answers::{Answer, NO_ROOM, OUTSIDE_LIMITS};
 use sheet::{
-    FIT_COUNT, FIT_WEIGHT, FITTING_LINES, FITTINGS, FORM_LINE, HULL_LINE, LIMITS, LINE_WORDS,
-    MASS_LINE, PWR_LINE, Q_LINE, R_LINE, S_LINE, SEAT_LINE, SHEET_TEXT, T_LINE, TEXT_WORDS,
-    VOL_LINE,
+    FIT_COUNT, FIT_WEIGHT, FITTING_LINES, FORM_LINE, HULL_LINE, LIMITS, LINE_WORDS, MASS_LINE,
+    PWR_LINE, Q_LINE, R_LINE, S_LINE, SEAT_LINE, SHEET_TEXT, T_LINE, TEXT_WORDS, VOL_LINE,
 };
 use std::ops::Range;
 use text::PLAIN;
@@ -67,8 +66,9 @@ fn add_fits(page: &mut Page, fits: &[u32])
     requires room { length page.old + length (fits_text 1 fits.now) ≤ SHEET_TEXT }
     ensures { page.new ≡ page.old ++ fits_text 1 fits.now }
 {
-    for i in 0..FITTINGS {
-        add_fit(page, i as u32 + 1, fits[2 * i], fits[2 * i + 1]);
+    let (lines, _) = fits.as_chunks::<2>();
+    for (i, [weight, count]) in lines.iter().enumerate() {
+        add_fit(page, i as u32 + 1, *weight, *count);
     }
 }
 
