@@ -9,68 +9,50 @@ ghost use Rattle.plate.specs.Input.{bytes_of};
 
 use answers::Answer;
 use printing::MOST_PRINTED;
+use std::io;
 use std::io::Read;
 use std::process::ExitCode;
 
 // One byte more than may be judged, so that an input that is too long is seen to be so.
 const ROOM: usize = 8193;
 
-// What came of reading: so many bytes, or a failure, which has then been said.
-#[derive(Drop)]
-enum Reading {
-    Bytes(usize),
-    Failed,
-}
-
-// Reads once; no bytes are the input's end. A failure is said here.
-fn read_once<R: Read>(rt: &impl Eprint, input: &mut R, room: &mut [u8]) -> Reading
-    ensures { bytes_of result ≤ length room.new }
-{
-    match input.read(room) {
-        Ok(count) => Reading::Bytes(count),
-        Err(error) => {
-            let _ = eprintln!(rt; "standard input: {error}");
-            Reading::Failed
-        }
-    }
-}
-
 // Fills room from its start, until it is full or the input ends. A pipe hands over what it has, if only a byte: a short
 // piece is not the end.
-fn read_input<R: Read>(rt: &impl Eprint, input: &mut R, room: &mut [u8]) -> Reading
+fn read_input<R: Read>(input: &mut R, room: &mut [u8]) -> io::Result<usize>
     ensures { bytes_of result ≤ length room.new }
 {
     let mut end = 0;
     while end < room.len() {
-        let Reading::Bytes(count) = read_once(rt, input, &mut room[end..]) else {
-            return Reading::Failed;
-        };
+        let count = input.read(&mut room[end..])?;
         if count == 0 {
-            return Reading::Bytes(end);
+            break;
         }
         end += count;
     }
-    Reading::Bytes(end)
+    Ok(end)
 }
 
-// Reads a piece that nobody will judge.
-fn pass_piece<R: Read>(rt: &impl Eprint, input: &mut R) -> Reading {
+// Reads on to the input's end, so that its writer is not cut off. A proved loop has to end, and nothing says that an
+// input does: the turns are counted, up to a number that no run comes to.
+fn pass_rest<R: Read>(input: &mut R) -> io::Result<()> {
     let mut piece = [0u8; 4096];
-    read_once(rt, input, &mut piece)
-}
-
-// Reads on to the input's end, so that its writer is not cut off, and answers whether no read failed. A proved loop has
-// to end, and nothing says that an input does: the turns are counted, up to a number that no run comes to.
-fn pass_rest<R: Read>(rt: &impl Eprint, input: &mut R) -> bool {
     for _ in 0..u64::MAX {
-        let Reading::Bytes(count) = pass_piece(rt, input) else {
-            return false;
-        };
-        if count == 0 {
-            return true;
+        if input.read(&mut piece)? == 0 {
+            break;
         }
     }
-    true
+    Ok(())
+}
+
+// Reads the input to its end, into room as far as that goes.
+fn read_whole<R: Read>(input: &mut R, room: &mut [u8; ROOM]) -> io::Result<usize>
+    ensures { bytes_of result ≤ length room.new }
+{
+    let end = read_input(input, room)?;
+    if end == ROOM {
+        pass_rest(input)?;
+    }
+    Ok(end)
 }
 
 // Lays what is printed of an input at the start of out, and answers how many bytes that is. Out has room for the
@@ -85,33 +67,28 @@ fn lay(input: &[u8], out: &mut [u8; MOST_PRINTED]) -> usize
     count as usize
 }
 
-// Writes what is printed of an input, and answers whether that did not fail; a failure is said.
-fn print(rt: &(impl Print + Eprint), input: &[u8]) -> bool {
+// Writes what is printed of an input.
+fn print(rt: &impl Print, input: &[u8]) -> io::Result<()> {
     let mut out = [0u8; MOST_PRINTED];
     let len = lay(input, &mut out);
-    match Print::write_all(rt, &out[..len]) {
-        Ok(()) => true,
-        Err(error) => {
-            let _ = eprintln!(rt; "standard output: {error}");
-            false
-        }
-    }
+    Print::write_all(rt, &out[..len])
 }
 
-// Reads the input to its end, and prints what is to be printed of it. After a failed read, which has been said, nothing
-// is printed.
+// Says what failed, and is the status that tells it.
+fn failed(rt: &impl Eprint, what: &str, error: io::Error) -> ExitCode {
+    let _ = eprintln!(rt; "{what}: {error}");
+    ExitCode::FAILURE
+}
+
+// Reads the input to its end, and prints what is to be printed of it. After a failed read nothing is printed.
 fn main(rt: HostRuntime) -> ExitCode {
-    let mut input = rt.stdin();
     let mut room = [0u8; ROOM];
-    let Reading::Bytes(end) = read_input(&rt, &mut input, &mut room) else {
-        return ExitCode::FAILURE;
+    let end = match read_whole(&mut rt.stdin(), &mut room) {
+        Ok(end) => end,
+        Err(error) => return failed(&rt, "standard input", error),
     };
-    if end == ROOM && !pass_rest(&rt, &mut input) {
-        return ExitCode::FAILURE;
-    }
-    if print(&rt, &room[..end]) {
-        ExitCode::SUCCESS
-    } else {
-        ExitCode::FAILURE
+    match print(&rt, &room[..end]) {
+        Ok(()) => ExitCode::SUCCESS,
+        Err(error) => failed(&rt, "standard output", error),
     }
 }

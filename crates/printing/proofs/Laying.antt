@@ -1,11 +1,18 @@
 -- What the code that lays a print leaves, path by path.
-use mathlib.Core.Path.{◌≡◌, sym}
-use mathlib.Core.Bool.{true}
+use mathlib.Core.Path.{◌≡◌, sym, ◌∙◌}
+use mathlib.Core.Logic.{◌≢◌}
+use mathlib.Core.Bool.{Bool, true, false, true≢false}
 use mathlib.Core.List.{List, ◌++◌}
 use Prim.Native.Nat.{ℕ, ◌+◌, ◌-◌, ◌≤◌}
 use native.Mathlib.Omega.{arith}
+use lib.Dec.{eqb}
 use lib.ListN.{length, take, drop, length-append, length-drop}
 use lib.Seq.{take_all}
+use Rattle.std.specs.List.{starts_with}
+use Rattle.std.proofs.lemmas.Bool.Decides.{Decides-eqb}
+use Rattle.std.proofs.lemmas.Slice.Eq.{starts_is}
+use Rattle.text.specs.Field.{agreed}
+use Rattle.text.proofs.Field.{agreed_whole, agreed_self}
 use Rattle.text.specs.declared.TextRead.TheVariants.{Whole, Wrong}
 use Rattle.text.specs.Line.{Laid}
 use Rattle.ground.proofs.Stores.{put_back, rest_part}
@@ -22,6 +29,14 @@ use Rattle.reading.proofs.EnginesCall.{Held}
 use Rattle.printout.specs.Input.{most_input, sheet_bytes}
 use Rattle.printout.specs.Printed.{input_text, plates_text, rows_printed, printed}
 use Rattle.printout.proofs.Printed.{rows_fault, rows_plates, printed_fault, printed_rows, read_ok}
+
+-- ---- a tag that a text starts with agrees whole, and no other does
+
+pub starts_agreed : (t tag : List ℕ) {r : Bool} → r ≡ starts_with eqb t tag
+    → (r ≡ true → agreed tag t ≡ length tag) × (r ≡ false → agreed tag t ≢ length tag)
+starts_agreed t tag {r} e =
+    let is = starts_is Decides-eqb t tag r e in
+    (λ y. rw (is.0 y) (agreed_self tag _), λ n w. true≢false (sym (is.1 _ (agreed_whole tag t w)) ∙ n))
 
 -- ---- plates A and C, one after the other
 

@@ -20,33 +20,26 @@ pub const MOST_PRINTED: usize = 60;
 
 const FIGURE: Limit = [0, u32::MAX, text::PLAIN];
 
-const LINE_FEED: u8 = 10;
-
 // How many bytes of the input are the sheet's: through the first END line, or all.
 fn sheet_bytes(input: &[u8]) -> usize
-    ensures { result ≡ sheet_bytes true input.now }
+    ensures counted { result ≡ sheet_bytes true input.now }
+    ensures within { result ≤ length input.now }
 {
-    let mut at = 0;
     let mut starting = true;
-    while at < input.len() {
-        if starting {
-            if spelling::agreement(b"END\n", &input[at..]) == 4 {
-                return at + 4;
-            }
+    for (at, b) in input.iter().enumerate() {
+        if starting && input[at..].starts_with(b"END\n") {
+            return at + 4;
         }
-        starting = input[at] == LINE_FEED;
-        at += 1;
+        starting = *b == b'\n';
     }
-    at
+    input.len()
 }
 
 // Lays the line of a faulty input: the refusal with its line and byte.
 fn lay_fault(number: u32, line: u32, byte: u32, out: &mut [u8]) -> usize
     ensures { Laid (input_text number line byte) out.old 0 result out.new }
 {
-    let limits = [FIGURE, FIGURE, FIGURE];
-    let figures = [number, line, byte];
-    spelling::write_line(b"INPUT\t", &limits, &figures, out)
+    spelling::write_line(b"INPUT\t", &[FIGURE; 3], &[number, line, byte], out)
 }
 
 // Lays a plate's line, after the tag of a marked or of a refused one.

@@ -20,10 +20,9 @@ fn read_rows(text: &[u8], powers: &mut [u32], weights: &mut [u32]) -> RowsRead
     ensures { Columns (mapped only_rows (read_parts (engine_part ∷ []) text.now)) text.now result
         powers.new weights.new }
 {
-    let mut rows = 0;
     let mut at = 0;
     let mut next = 1;
-    while rows < MOST_ROWS {
+    for row in 0..MOST_ROWS {
         let limits = [
             [next, ENGINE_POWER_HIGH, PLAIN],
             [0, ENGINE_WEIGHT_HIGH, PLAIN],
@@ -33,13 +32,12 @@ fn read_rows(text: &[u8], powers: &mut [u32], weights: &mut [u32]) -> RowsRead
                 return RowsRead::NoRows(refusal, at + place);
             }
             RowRead::Numbers(power, weight, _, len) => {
-                powers[rows] = power;
-                weights[rows] = weight;
+                powers[row] = power;
+                weights[row] = weight;
                 next = power + 1;
                 at += len;
-                rows += 1;
                 if at >= text.len() {
-                    return RowsRead::Rows(rows);
+                    return RowsRead::Rows(row + 1);
                 }
             }
         }

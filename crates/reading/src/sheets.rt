@@ -86,27 +86,24 @@ fn read_fits(text: &[u8], fits: &mut [u32]) -> LineRead
     ensures { Filled (mapped (fits_from 1) (read_rows fit_part fittings 0 0 text.now))
         text.now result fits.new }
 {
-    let mut read = 0;
     let mut at = 0;
     let mut next = 1;
-    while read < FITTINGS {
-        if spelling::starts(&text[at..], b'F') {
-            let limits = [[next, FITTING_LINES, PLAIN], FIT_WEIGHT, FIT_COUNT];
-            match read_row(b"FIT\t", &limits, &text[at..]) {
-                RowRead::NoRow(refusal, place) => {
-                    return LineRead::Fault(refusal, at + place);
-                }
-                RowRead::Numbers(line, weight, count, len) => {
-                    let word = 2 * (line as usize - 1);
-                    fits[word] = weight;
-                    fits[word + 1] = count;
-                    next = line + 1;
-                    at += len;
-                    read += 1;
-                }
-            }
-        } else {
+    for _read in 0..FITTINGS {
+        if !spelling::starts(&text[at..], b'F') {
             return LineRead::Taken(at);
+        }
+        let limits = [[next, FITTING_LINES, PLAIN], FIT_WEIGHT, FIT_COUNT];
+        match read_row(b"FIT\t", &limits, &text[at..]) {
+            RowRead::NoRow(refusal, place) => {
+                return LineRead::Fault(refusal, at + place);
+            }
+            RowRead::Numbers(line, weight, count, len) => {
+                let word = 2 * (line as usize - 1);
+                fits[word] = weight;
+                fits[word + 1] = count;
+                next = line + 1;
+                at += len;
+            }
         }
     }
     LineRead::Taken(at)

@@ -3,24 +3,13 @@
 // the file stdout has what 01 says. Of the figures that 01 leaves unsaid, the comments below tell how they follow.
 #![tactic(auto)]
 
-ghost use Rattle.std.specs.Prelude.{◌≤◌, length};
-ghost use Rattle.std.specs.Counts.{IsPrefixLen};
-
 use answers::Answer;
 use printing::MOST_PRINTED;
 use std::io;
+use std::io::Write;
 
-// Lays piece in page from a place on, if there is room for it, and answers the place after it.
-fn add(piece: &[u8], page: &mut [u8], at: usize) -> usize
-    requires { at ≤ length page.old }
-    ensures { IsPrefixLen result page.new }
-{
-    if piece.len() > page.len() - at {
-        return at;
-    }
-    spelling::write_bytes(piece, &mut page[at..]);
-    at + piece.len()
-}
+// Room for the longest of the inputs.
+const PAGE: usize = 4096;
 
 // Prints what the plate program prints of an input.
 fn print(rt: &impl Print, input: &[u8]) -> io::Result<()> {
@@ -40,14 +29,16 @@ fn show(rt: &impl Print, label: &[u8], form: &[u8], loads: &[u8]) -> io::Result<
         STN\tT\t1000\t500\t500\t500\t500\t500\t500\n\
         VOL\t0\t0\t0\n";
     let engines = b"END\nENG\t10000\t45000\nENG\t20000\t60000\n";
-    let mut page = [0u8; 4096];
-    let mut at = add(b"HULL\t0\n", &mut page, 0);
-    at = add(form, &mut page, at);
-    at = add(stations, &mut page, at);
-    at = add(loads, &mut page, at);
-    at = add(engines, &mut page, at);
+    let mut page = [0u8; PAGE];
+    let mut room = &mut page[..];
+    room.write_all(b"HULL\t0\n")?;
+    room.write_all(form)?;
+    room.write_all(stations)?;
+    room.write_all(loads)?;
+    room.write_all(engines)?;
+    let len = PAGE.saturating_sub(room.len());
     Print::write_all(rt, label)?;
-    print(rt, &page[..at])
+    print(rt, &page[..len])
 }
 
 // Shows the printed sheet and then the cases, each under its label.

@@ -2,17 +2,18 @@
 use mathlib.Core.Path.{◌≡◌, refl, sym, ap, ◌∙◌}
 use mathlib.Core.Bool.{false}
 use mathlib.Core.List.{List, [], ◌∷◌, ◌++◌, append-nil, append_assoc}
-use Prim.Native.Nat.{ℕ, suc, ◌+◌, ◌*◌, ◌≤◌, ◌<◌}
+use Prim.Native.Nat.{ℕ, zero, suc, ◌+◌, ◌*◌, ◌≤◌, ◌<◌}
 use native.Mathlib.Numerals.{add-one}
 use native.Mathlib.Omega.{arith}
 use borrow.Author.Tests.{eq-eqb, ne_eqb}
 use lib.Dec.{eqb}
-use lib.ListN.{length, drop, get_or, length-append, drop_of_length-le}
+use lib.ListN.{length, take, drop, get_or, length-append, drop_of_length-le}
+use lib.Seq.{drop-drop}
+use Rattle.std.specs.Simd.{first_chunks}
 use Rattle.text.specs.Limit.{ranging}
-use Rattle.text.specs.Line.{Line, Laid, numbers_text, line_text}
+use Rattle.text.specs.Line.{Line, numbers_text, line_text}
 use Rattle.ground.proofs.Booleans.{by_test}
 use Rattle.ground.proofs.Stores.{drop_more}
-use Rattle.text.proofs.Laid.{laid_none, laid_more, laid_length}
 use Rattle.sheet.specs.Lines.{fittings, fit_line}
 use Rattle.sheet.proofs.Writing.{fits_none, fits_empty, fits_line}
 use Rattle.writing.specs.Pieces.{fits_text}
@@ -42,47 +43,49 @@ module _ (n w c : ℕ) where
 
 -- ---- the loop
 
--- i lines are passed, and their fittings are written up to the place `at`
-pub record State (s o₀ o : List ℕ) (i at : ℕ) : Type 0 where
-  pub so : List ℕ
-  pub laid : Laid so o₀ 0 at o
-  pub so_far : fits_text 1 s ≡ so ++ fits_text (i + 1) (drop (2 * i) s)
+pair_at : (k i : ℕ) (s : List ℕ) → i < k → get_or (first_chunks 2 k s) i [] ≡ take 2 (drop (2 * i) s)
+pair_at zero i s h = absurd (omega arith)
+pair_at (suc k) zero s h = refl
+pair_at (suc k) (suc i) s h =
+    let two : 2 * suc i ≡ 2 + 2 * i = omega arith in
+    pair_at k i (drop 2 s) (omega arith) ∙ rw (two, drop-drop (2 * i) 2 s)
 
-pub start : (s o : List ℕ) → State s o o 0 0
-start s o = record { so = []; laid = laid_none o 0; so_far = refl }
+-- after the text so, the fittings from line i on are still to be written of s, and t is all
+pub record Ahead (s so : List ℕ) (i : ℕ) (t : List ℕ) : Type 0 where
+  pub whole : so ++ fits_text (i + 1) (drop (2 * i) s) ≡ t
 
-module _ {s o₀ o : List ℕ} {i at : ℕ} (p : State s o₀ o i at) (n : length s ≡ 2 * fittings) where
-  pub done : fittings ≤ i → Laid (fits_text 1 s) o₀ 0 at o
-  done h = rw (p.so_far, drop_of_length-le s {i = 2 * i} (omega arith), fits_none (i + 1), append-nil) p.laid
+module _ {s so : List ℕ} {i : ℕ} {t : List ℕ} (p : Ahead s so i t) (n : length s ≡ 2 * fittings) where
+  pub done : fittings ≤ i → so ≡ t
+  done h =
+      let none : fits_text (i + 1) (drop (2 * i) s) ≡ [] =
+      rw (drop_of_length-le s {i = 2 * i} (omega arith)) (fits_none (i + 1)) in
+      sym (append-nil so) ∙ (rw none at p.whole)
 
-  module _ (h : i < fittings) where
+  -- the code has the fittings in pairs
+  module _ {pairs : List (List ℕ)} (e : pairs ≡ first_chunks 2 fittings s) (h : i < fittings) where
+    abbrev pair : List ℕ
+    pair = get_or pairs i []
+
     abbrev here : List ℕ
-    here = fits_text (i + 1) (get_or s (2 * i) 0 ∷ get_or s (2 * i + 1) 0 ∷ [])
+    here = fits_text (i + 1) (get_or pair 0 0 ∷ get_or pair 1 0 ∷ [])
 
     abbrev rest : List ℕ
     rest = fits_text (i + 1 + 1) (drop (2 * (i + 1)) s)
 
-    entered : fits_text 1 s ≡ p.so ++ (here ++ rest)
+    entered : so ++ (here ++ rest) ≡ t
     entered =
+        let w : ℕ = get_or s (2 * i) 0 in
+        let c : ℕ = get_or s (2 * i + 1) 0 in
         let next : 2 * i + 1 + 1 ≡ 2 * (i + 1) = omega arith in
-        let e : drop (2 * i) s ≡ get_or s (2 * i) 0 ∷ get_or s (2 * i + 1) 0 ∷ drop (2 * (i + 1)) s =
+        let d : drop (2 * i) s ≡ w ∷ c ∷ drop (2 * (i + 1)) s =
         rw (drop_more s (2 * i) (omega arith), drop_more s (2 * i + 1) (omega arith), next) in
-        p.so_far
-        ∙ rw (
-          e,
-          fits_first (i + 1) (get_or s (2 * i) 0) (get_or s (2 * i + 1) 0) (drop (2 * (i + 1)) s),
-          add-one (i + 1),
-        )
+        let q : pair ≡ w ∷ c ∷ [] = rw (e, pair_at fittings i s h, d) in
+        let f : fits_text (i + 1) (drop (2 * i) s) ≡ here ++ rest =
+        rw (d, fits_first (i + 1) w c (drop (2 * (i + 1)) s), q, add-one (i + 1)) in
+        ap (λ (x : List ℕ). so ++ x) (sym f) ∙ p.whole
 
-    pub room : length (fits_text 1 s) ≤ length o₀ → at + length here ≤ length o
-    room r =
-        let n = length-append p.so (here ++ rest) in
-        omega (arith, p.laid.end, laid_length p.laid, ap length entered, length-append here rest)
+    pub room : length so + length here ≤ length t
+    room = omega (arith, ap length entered, length-append so (here ++ rest), length-append here rest)
 
-    pub step : {r : ℕ} {o₁ : List ℕ} → Laid here o at r o₁ → State s o₀ o₁ (i + 1) r
-    step q =
-        record {
-          so = p.so ++ here;
-          laid = laid_more p.laid q;
-          so_far = entered ∙ sym (append_assoc p.so here rest);
-        }
+    pub step : {so' : List ℕ} → so' ≡ so ++ here → Ahead s so' (i + 1) t
+    step e = record { whole = rw e (append_assoc so here rest ∙ entered) }

@@ -1,34 +1,17 @@
 -- `lay_printed` meets its contract.
-use mathlib.Core.Bool.{true}
-use mathlib.Core.Path.{sym}
-use lib.Seq.{length-take-le}
 use Rattle.printing.proofs.Laying.{sheet_printed, words_ok_lem, rows_printed_lem}
 use Rattle.printout.proofs.Printed.{printed_long}
-use Rattle.printout.proofs.Input.{bytes_most}
-use native.Mathlib.Omega.{arith}
 use Rattle.printing.proofs.lay_printed.Goals as goal
 
 pub returns-then-input-gt-MOST_INPUT : goal.returns-then-input-gt-MOST_INPUT
 returns-then-input-gt-MOST_INPUT c =
     rw (printed_long c.args.input.now c.if-input-gt-MOST_INPUT.true) c.lay_fault.ensures
 
-pub slice_bounds-read_words-end : goal.slice_bounds-read_words-end
-slice_bounds-read_words-end c =
-    sym (length-take-le _ _ (omega (arith, c.sheet_bytes-end.ensures, bytes_most true c.args.input.now)))
-
-pub slice_bounds-lay_rows-count-in-Whole : goal.slice_bounds-lay_rows-count-in-Whole
-slice_bounds-lay_rows-count-in-Whole c =
-    omega (arith, c.sheet_bytes-end.ensures, bytes_most true c.args.input.now)
-
-pub slice_bounds-lay_rows-start-in-Whole : goal.slice_bounds-lay_rows-start-in-Whole
-slice_bounds-lay_rows-start-in-Whole c =
-    omega (arith, c.sheet_bytes-end.ensures, bytes_most true c.args.input.now)
-
 pub lay_rows-requires : goal.lay_rows-requires
 lay_rows-requires c =
     let input = c.args.input.now in
     let short = c.if-input-gt-MOST_INPUT.false in
-    let end = c.sheet_bytes-end.ensures in (
+    let end = c.sheet_bytes-end.ensures.counted in (
       words_ok_lem input short end c.in-Whole.ensures,
       rw (rows_printed_lem input short end c.in-Whole.ensures) c.requires,
     )
@@ -36,11 +19,11 @@ lay_rows-requires c =
 pub returns-in-Wrong : goal.returns-in-Wrong
 returns-in-Wrong c =
     let short = c.if-input-gt-MOST_INPUT.false in
-    rw (← sheet_printed c.args.input.now short c.sheet_bytes-end.ensures c.in-Wrong.ensures)
+    rw (← sheet_printed c.args.input.now short c.sheet_bytes-end.ensures.counted c.in-Wrong.ensures)
     c.lay_fault-in-Wrong.ensures
 
 pub returns-in-Whole : goal.returns-in-Whole
 returns-in-Whole c =
     let short = c.if-input-gt-MOST_INPUT.false in
-    rw (← rows_printed_lem c.args.input.now short c.sheet_bytes-end.ensures c.in-Whole.ensures)
+    rw (← rows_printed_lem c.args.input.now short c.sheet_bytes-end.ensures.counted c.in-Whole.ensures)
     c.lay_rows.ensures

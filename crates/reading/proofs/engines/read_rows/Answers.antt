@@ -6,12 +6,12 @@ use Rattle.reading.proofs.engines.read_rows.Goals as goal
 use Rattle.reading.proofs.engines.read_rows.Goals.{After-read_row}
 
 turn : (c : After-read_row)
-    → Turn c.args.text.now c.args.powers.now c.args.weights.now c.loop-rows.powers c.loop-rows.weights
-    c.loop-rows.rows c.loop-rows.at c.loop-rows.next c.read_row.result
-turn c = record { state = c.loop-rows.invariant; few = c.loop-rows-test.true; row = c.read_row.ensures }
+    → Turn c.args.text.now c.args.powers.now c.args.weights.now c.loop-row.powers c.loop-row.weights
+    c.loop-row.row c.loop-row.at c.loop-row.next c.read_row.result
+turn c = record { state = c.loop-row.invariant; few = c.loop-row-test.true; row = c.read_row.ensures }
 
-pub loop-rows-init : goal.loop-rows-init
-loop-rows-init c = start _ _ _
+pub loop-row-init : goal.loop-row-init
+loop-row-init c = start _ _ _
 
 pub returns-in-NoRow : goal.returns-in-NoRow
 returns-in-NoRow c = fault (turn (goal.at.returns-in-NoRow c).After-read_row) c.in-NoRow.is
@@ -25,9 +25,9 @@ returns-then-at-text c =
     let here = turn (goal.at.returns-then-at-text c).After-read_row in
     last here c.in-Numbers.is c.requires.0 c.requires.1 c.if-at-text.true
 
-pub loop-rows-preserved : goal.loop-rows-preserved
-loop-rows-preserved c =
-    step (turn (goal.at.loop-rows-preserved c).After-read_row) c.in-Numbers.is c.if-at-text.false
+pub loop-row-preserved : goal.loop-row-preserved
+loop-row-preserved c =
+    step (turn (goal.at.loop-row-preserved c).After-read_row) c.in-Numbers.is c.if-at-text.false
 
 pub returns : goal.returns
-returns c = full c.loop-rows.invariant c.loop-rows-test.false
+returns c = full c.loop-row.invariant c.loop-row-test.false

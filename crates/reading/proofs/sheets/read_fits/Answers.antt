@@ -8,12 +8,12 @@ use Rattle.reading.proofs.sheets.read_fits.Goals as goal
 use Rattle.reading.proofs.sheets.read_fits.Goals.{After-read_row, In-Numbers}
 
 turn : (c : After-read_row)
-    → Turn c.args.text.now c.loop-read.fits c.loop-read.read c.loop-read.at c.loop-read.next c.read_row.result
+    → Turn c.args.text.now c.loop-read.fits c.loop-read._read c.loop-read.at c.loop-read.next c.read_row.result
 turn c =
     record {
       state = c.loop-read.invariant;
       few = c.loop-read-test.true;
-      begun = sym c.starts.ensures ∙ c.if-starts.true;
+      begun = sym c.starts.ensures ∙ c.if-not-starts.false;
       row = c.read_row.ensures;
     }
 
@@ -24,7 +24,7 @@ read c =
     room (record {
       state = c.loop-read.invariant;
       few = c.loop-read-test.true;
-      begun = sym c.starts.ensures ∙ c.if-starts.true;
+      begun = sym c.starts.ensures ∙ c.if-not-starts.false;
       row = c.read_row.ensures;
     }) c.in-Numbers.is
 
@@ -50,8 +50,8 @@ overflow_add-next c = omega (arith, read (goal.at.overflow_add-next c).In-Number
 pub loop-read-preserved : goal.loop-read-preserved
 loop-read-preserved c = step (turn (goal.at.loop-read-preserved c).After-read_row) c.in-Numbers.is
 
-pub returns-else-starts : goal.returns-else-starts
-returns-else-starts c = stop c.loop-read.invariant (sym c.starts.ensures ∙ c.if-starts.false)
+pub returns-then-not-starts : goal.returns-then-not-starts
+returns-then-not-starts c = stop c.loop-read.invariant (sym c.starts.ensures ∙ c.if-not-starts.true)
 
 pub returns : goal.returns
 returns c = full c.loop-read.invariant c.loop-read-test.false
