@@ -7,7 +7,7 @@ use Prim.Native.Nat.{ℕ, ◌-◌, ◌<◌}
 use native.Mathlib.Omega.{arith}
 use lib.ListN.{length, take, drop, replicate, length-drop}
 use lib.Seq.{take_all}
-use Rattle.text.specs.declared.TextRead.TheVariants.{Whole}
+use Rattle.text.specs.Read.{Whole}
 use Rattle.sheet.specs.Places.{sheet_words}
 use Rattle.sheet.specs.SheetText.{read_sheet}
 use Rattle.answers.specs.Answer.{Answer}

@@ -47,6 +47,15 @@ pub struct TextFault {
     pub byte: u32,
 }
 
+impl TextFault {
+    // Of a text too long, of which no byte is read.
+    pub const TOO_LONG: TextFault = TextFault {
+        refusal: Refusal::BrokenLine,
+        line: 0,
+        byte: 0,
+    };
+}
+
 // What refuses a call: a refusal by itself, or that of a text.
 #[derive(Clone, Copy, PartialEq, Eq)]
 pub enum Refused {

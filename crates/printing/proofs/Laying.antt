@@ -13,7 +13,7 @@ use Rattle.std.proofs.lemmas.Bool.Decides.{Decides-eqb}
 use Rattle.std.proofs.lemmas.Slice.Eq.{starts_is}
 use Rattle.text.specs.Field.{agreed}
 use Rattle.text.proofs.Field.{agreed_whole, agreed_self}
-use Rattle.text.specs.declared.TextRead.TheVariants.{Whole, Wrong}
+use Rattle.text.specs.Read.{Whole, Wrong}
 use Rattle.text.specs.Line.{Laid}
 use Rattle.ground.proofs.Stores.{put_back, rest_part}
 use Rattle.text.proofs.Laid.{laid_more, laid_part, laid_length}

@@ -12,14 +12,14 @@ use Rattle.answers.specs.Answer.{Answer}
 use Rattle.answers.specs.Answer.{Refused, RefusedAt, Count}
 use Rattle.answers.specs.Settled.{Settled}
 use Rattle.form.specs.Parts.{Row}
-use Rattle.text.specs.declared.TextRead.TheVariants.{Whole, Wrong}
+use Rattle.text.specs.Read.{Whole, Wrong}
 use Rattle.text.specs.Place.{line_at, byte_at}
 use Rattle.form.specs.Outcome.{Found, took, lost, Verdict, right, placed}
 use Rattle.form.proofs.Verdict.{form_long, form_said}
 use Rattle.sheet.specs.Lines.{most_bytes}
 use Rattle.sheet.specs.EngineText.{engine_form, only_rows, read_engines, powers_of, weights_of}
 use Rattle.sheet.specs.TextCalls.{rows_fit, engines_answer, columns_into}
-use Rattle.reading.specs.declared.RowsRead.TheVariants.{Rows, NoRows}
+use Rattle.reading.specs.Rows.{Rows, NoRows}
 use Rattle.reading.specs.Rows.{rows_ended, Columns, HeardRows}
 use Rattle.reading.proofs.Heard.{told_wrong, told_right}
 use Rattle.reading.proofs.Columns.{engines_at}

@@ -10,7 +10,7 @@ use Rattle.sheet.specs.Lines.{most_rows}
 use Rattle.sheet.specs.EngineText.{engine_part, powers_of, weights_of}
 use Rattle.reading.specs.Rows.{Columns}
 use Rattle.reading.proofs.RowsLoop.{Upto}
-use Rattle.reading.specs.declared.RowsRead.TheVariants.{NoRows}
+use Rattle.reading.specs.Rows.{NoRows}
 use Rattle.reading.proofs.RowsLoop as loop
 use Rattle.reading.proofs.Columns.{engines_at}
 use Rattle.reading.proofs.Columns.{rows_before}

@@ -19,12 +19,12 @@ use Rattle.form.proofs.OneLine.{line_else}
 use Rattle.sheet.specs.Lines.{engine_line, engine_power_high, most_rows}
 use Rattle.sheet.specs.EngineText.{engine_part, powers_of, weights_of}
 use Rattle.sheet.proofs.EngineText.{powers_length, weights_length}
-use Rattle.reading.specs.declared.RowRead.{RowRead}
-use Rattle.reading.specs.declared.RowRead.TheVariants.{Numbers, NoRow}
+use Rattle.reading.specs.Rows.{RowRead}
+use Rattle.reading.specs.Rows.{Numbers, NoRow}
 use Rattle.reading.specs.Rows.{row_as, row_reach, RowOf, Columns}
 use Rattle.reading.proofs.Row.{Rowed, rowed, first_in}
 use Rattle.reading.proofs.RowsLoop.{Upto, part_in}
-use Rattle.reading.specs.declared.RowsRead.TheVariants.{Rows as Many, NoRows}
+use Rattle.reading.specs.Rows.{Rows as Many, NoRows}
 use Rattle.reading.proofs.RowsLoop as loop
 use Rattle.reading.proofs.Columns.{engines_at, engine_from, engine_letter, engines_away}
 use Rattle.reading.proofs.Columns.{rows_last, rows_lost, column_snoc, column_first}

@@ -16,8 +16,8 @@ use Rattle.form.specs.Reading.{kind_at}
 use Rattle.form.proofs.Letters.{kind_here}
 use Rattle.sheet.specs.Lines.{fittings, fit_line}
 use Rattle.sheet.specs.SheetText.{fit_part, empty_lines, fits_from}
-use Rattle.reading.specs.declared.RowRead.{RowRead}
-use Rattle.reading.specs.declared.RowRead.TheVariants.{Numbers, NoRow}
+use Rattle.reading.specs.Rows.{RowRead}
+use Rattle.reading.specs.Rows.{Numbers, NoRow}
 use Rattle.reading.specs.Filled.{Filled}
 use Rattle.reading.specs.Rows.{row_reach, RowOf}
 use Rattle.reading.proofs.Row.{Rowed, rowed, first_in}

@@ -4,7 +4,7 @@ use mathlib.Core.List.{List}
 use Prim.Native.Nat.{ℕ}
 use native.Mathlib.Omega.{arith}
 use lib.ListN.{length}
-use Rattle.text.specs.declared.TextRead.TheVariants.{Whole, Wrong}
+use Rattle.text.specs.Read.{Whole, Wrong}
 use Rattle.form.specs.Outcome.{Verdict, right, wrong}
 use Rattle.reading.specs.Filled.{told_as, Heard}
 

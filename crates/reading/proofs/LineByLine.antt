@@ -77,26 +77,19 @@ module _ {l : Line} {ls : List Line} {t o : List ℕ} {from k : ℕ} (h : 0 < le
       omega (arith, a.many, length-append a.so (read_line l (drop k t)).numbers, line_count l (drop k t) f e)
   more_many (Fault number at) e = refl
 
-pub one_more : {limits : List (List ℕ)} {l : Line} {ls : List Line} {t o o' : List ℕ} {from : ℕ} {r r' : LineRead}
-    → 0 < length l.tag → Past (l ∷ ls) t from r o → ReadsOn limits r l t from o r' o' → full l.limits ≡ true
-    → Past ls t (from + length l.limits) r' o'
-one_more {limits} {l} {ls} {t} {from = from} {r} h a b f = go r a b
-  where
-    go : {o o' : List ℕ} (r : LineRead) {r' : LineRead} → Past (l ∷ ls) t from r o → ReadsOn limits r l t from o r' o'
-        → Past ls t (from + length l.limits) r' o'
-    go (Taken k) a b =
-        record {
-          so = a.so ++ (read_line l (drop k t)).numbers;
-          goes = rw b.answer (more_goes h f a (read_line l (drop k t)).ended refl);
-          stored = more_stored h f a b.stored;
-          many = rw b.answer (more_many h f a (read_line l (drop k t)).ended refl);
-          within = b.within;
-        }
-    go (Fault number at) a b =
-        record {
-          so = a.so;
-          goes = rw b.answer a.goes;
-          stored = b.stored ∙ a.stored;
-          many = rw b.answer;
-          within = b.within;
-        }
+pub one_more : {l : Line} {ls : List Line} {t o o' : List ℕ} {from k : ℕ} {r : LineRead}
+    → 0 < length l.tag → Past (l ∷ ls) t from (Taken k) o → ReadsOn k l t from o r o' → full l.limits ≡ true
+    → Past ls t (from + length l.limits) r o'
+one_more {l} {ls} {t} {k = k} h a b f =
+    record {
+      so = a.so ++ (read_line l (drop k t)).numbers;
+      goes = rw b.answer (more_goes h f a (read_line l (drop k t)).ended refl);
+      stored = more_stored h f a b.stored;
+      many = rw b.answer (more_many h f a (read_line l (drop k t)).ended refl);
+      within = b.within;
+    }
+
+-- after a fault no line is read, however many are left
+pub no_more : {ls ms : List Line} {t o : List ℕ} {from n number at : ℕ}
+    → Past ls t from (Fault number at) o → Past ms t n (Fault number at) o
+no_more a = record { so = a.so; goes = a.goes; stored = a.stored; many = refl; within = a.within }

@@ -21,8 +21,8 @@ use Rattle.form.specs.Outcome.{Found, took, lost, outcome, mapped}
 use Rattle.form.specs.Reading.{read_rows}
 use Rattle.form.proofs.OneLine.{one_agree}
 use Rattle.form.proofs.Chain.{lost_not_found}
-use Rattle.reading.specs.declared.RowRead.{RowRead}
-use Rattle.reading.specs.declared.RowRead.TheVariants.{Numbers, NoRow}
+use Rattle.reading.specs.Rows.{RowRead}
+use Rattle.reading.specs.Rows.{Numbers, NoRow}
 use Rattle.reading.specs.Rows.{row_as, RowOf}
 
 -- a line that was read gave a number for each limit, where none may be left out

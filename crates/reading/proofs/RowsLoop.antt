@@ -13,8 +13,8 @@ use Rattle.form.specs.Parts.{Part, Row, Rows, line_row, letter_of, raised, next_
 use Rattle.form.specs.Outcome.{Found, took, lost, outcome, mapped, chained}
 use Rattle.form.specs.Reading.{kind_at, no_more, read_rows}
 use Rattle.form.proofs.RowsTrip.{rows_none, rows_more}
-use Rattle.reading.specs.declared.RowRead.{RowRead}
-use Rattle.reading.specs.declared.RowRead.TheVariants.{NoRow}
+use Rattle.reading.specs.Rows.{RowRead}
+use Rattle.reading.specs.Rows.{NoRow}
 use Rattle.reading.specs.Steps.{onward}
 use Rattle.reading.specs.Rows.{RowOf}
 use Rattle.reading.proofs.Row.{row_lost, Rowed}

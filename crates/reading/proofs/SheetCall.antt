@@ -7,7 +7,7 @@ use lib.ListN.{length, take, drop, replicate, length-drop, drop_of_length-le}
 use lib.Seq.{take_at, drop_at}
 use Rattle.text.specs.Read.{LineRead}
 use Rattle.text.specs.Read.{Taken, Fault}
-use Rattle.text.specs.declared.TextRead.TheVariants.{Whole, Wrong}
+use Rattle.text.specs.Read.{Whole, Wrong}
 use Rattle.text.specs.Line.{shift_by}
 use Rattle.text.specs.Place.{line_at, byte_at}
 use Rattle.ground.proofs.Stores.{put_back, rest_part, sets_zeros}

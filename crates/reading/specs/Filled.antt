@@ -3,8 +3,8 @@
 use Rattle.std.specs.Prelude.{ℕ, ◌≤◌, ◌≡◌, List, length}
 use Rattle.text.specs.Read.{LineRead}
 use Rattle.text.specs.Read.{Taken, Fault}
-use Rattle.text.specs.declared.TextRead.{TextRead}
-use Rattle.text.specs.declared.TextRead.TheVariants.{Whole, Wrong}
+use Rattle.text.specs.Read.{TextRead}
+use Rattle.text.specs.Read.{Whole, Wrong}
 use Rattle.form.specs.Outcome.{Found, took, lost, Verdict, right, wrong}
 use Rattle.sheet.specs.TextCalls.{read_into}
 

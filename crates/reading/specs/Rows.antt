@@ -1,18 +1,27 @@
 -- A row as the code reads it, and rows as two columns.
-use Rattle.std.specs.Prelude.{ℕ, ◌≤◌, ◌≡◌, List, length, get_or}
+use Rattle.std.specs.Prelude.{ℕ, ◌≤◌, ◌≡◌, List, length, get_or, Result, Ok, Err}
+use Rattle.answers.specs.Refusals.{number}
 use Rattle.ground.specs.Lists.{put_first}
+use Rattle.text.specs.declared.Fault as Why
 use Rattle.text.specs.Line.{Line, read_line}
 use Rattle.form.specs.Parts.{Row}
-use Rattle.text.specs.declared.TextRead.{TextRead}
+use Rattle.text.specs.Read.{TextRead}
 use Rattle.form.specs.Outcome.{Found, took, lost, outcome, Verdict, right, wrong}
 use Rattle.sheet.specs.EngineText.{powers_of, weights_of}
 use Rattle.reading.specs.Filled.{told_as}
-use Rattle.reading.specs.declared.RowsRead.{RowsRead}
-use Rattle.reading.specs.declared.RowsRead.TheVariants.{Rows, NoRows}
-use Rattle.reading.specs.declared.RowRead.{RowRead}
-use Rattle.reading.specs.declared.RowRead.TheVariants.{Numbers, NoRow}
 
 -- ---- a row
+
+-- how the reading of a row ended: its numbers, the third of them 1 where the line has but two, and how many bytes it
+-- took; or a refusal's number and its place
+pub data RowRead : Type 0 where
+  Numbers : ℕ → ℕ → ℕ → ℕ → RowRead
+  NoRow : ℕ → ℕ → RowRead
+
+-- what the code answers, in these words
+abbrev pub row_told : Result (List ℕ × ℕ) Why.Fault → RowRead
+row_told (Ok (row, k)) = Numbers (get_or row 0 0) (get_or row 1 0) (get_or row 2 0) k
+row_told (Err f) = NoRow (number f.refusal) f.at
 
 -- what a row gives that was found so; a line of two numbers has a third, 1
 abbrev pub row_as : Found (List ℕ) → RowRead
@@ -29,6 +38,15 @@ pub record RowOf (l : Line) (t : List ℕ) (r : RowRead) : Type 0 where
   pub within : row_reach r ≤ length t
 
 -- ---- rows
+
+-- how the reading of rows ended: how many there are, or a refusal's number and its place
+pub data RowsRead : Type 0 where
+  Rows : ℕ → RowsRead
+  NoRows : ℕ → ℕ → RowsRead
+
+abbrev pub rows_told : Result ℕ Why.Fault → RowsRead
+rows_told (Ok n) = Rows n
+rows_told (Err f) = NoRows (number f.refusal) f.at
 
 -- how many rows there are, or the fault
 abbrev pub rows_ended : Found (List Row) → RowsRead

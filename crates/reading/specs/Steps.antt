@@ -3,36 +3,27 @@ use Rattle.std.specs.Prelude.{ℕ, ◌+◌, ◌≤◌, ◌≡◌, List, [], ◌+
 use Rattle.std.proofs.lemmas.List.Edits.{sets}
 use Rattle.text.specs.Read.{LineRead}
 use Rattle.text.specs.Read.{Taken, Fault}
-use Rattle.text.specs.Line.{Line, Reading, refused, after, read_line}
+use Rattle.text.specs.Line.{Line, shift_by, read_line}
 use Rattle.form.specs.Outcome.{Found, took, lost, mapped}
 use Rattle.form.specs.Reading.{read_parts}
 use Rattle.sheet.specs.Lines.{lines}
-use Rattle.sheet.specs.Sheet.{limit_rows}
 use Rattle.sheet.specs.Places.{fittings_at, text_words}
 use Rattle.sheet.specs.SheetText.{each_once, numbers_on, last_parts}
 use Rattle.reading.specs.Filled.{reached}
 
 -- ---- a line
 
--- line l of t after what was read; a fault stays
-abbrev next_line : LineRead → Line → List ℕ → Reading
-next_line (Taken k) l t = after [] k (read_line l (drop k t))
-next_line (Fault number at) l t = refused number at
-
--- what is asked before a line is read into from..to of a sheet's words: the limits are the sheet's, and there is room
-pub record Due (limits : List (List ℕ)) (o : List ℕ) (from to : ℕ) (read : LineRead) (t : List ℕ) : Type 0 where
-  pub table : limits ≡ limit_rows
+-- what is asked before a line is read from the place `at` of t on, into from..to of a sheet's words
+pub record Due (o : List ℕ) (from to at : ℕ) (t : List ℕ) : Type 0 where
   pub room : length o ≡ text_words
   pub order : from ≤ to
   pub end : to ≤ 1 + fittings_at
-  pub within : reached read ≤ length t
+  pub within : at ≤ length t
 
--- line l of t was read after what was read, and went into a sheet's words o from the place n on
-pub record ReadsOn (limits : List (List ℕ)) (read : LineRead) (l : Line) (t : List ℕ) (n : ℕ) (o₀ : List ℕ)
-    (r : LineRead) (o : List ℕ) : Type 0 where
-  pub table : limits ≡ limit_rows
-  pub answer : r ≡ (next_line read l t).ended
-  pub stored : o ≡ sets o₀ n (next_line read l t).numbers
+-- line l was read from the place `at` of t on, and went into a sheet's words o from the place n on
+pub record ReadsOn (at : ℕ) (l : Line) (t : List ℕ) (n : ℕ) (o₀ : List ℕ) (r : LineRead) (o : List ℕ) : Type 0 where
+  pub answer : r ≡ shift_by at (read_line l (drop at t)).ended
+  pub stored : o ≡ sets o₀ n (read_line l (drop at t)).numbers
   pub kept : length o ≡ text_words
   pub within : reached r ≤ length t
 
