@@ -13,15 +13,13 @@ pub fn wrong_at(refusal: u32, text: &[u8], at: usize) -> TextRead
 {
     let mut line = 1;
     let mut byte = 1;
-    let mut i = 0;
-    while i < at {
-        if text[i] == b'\n' {
+    for b in &text[..at] {
+        if *b == b'\n' {
             line += 1;
             byte = 1;
         } else {
             byte += 1;
         }
-        i += 1;
     }
     TextRead::Wrong(refusal, line, byte)
 }

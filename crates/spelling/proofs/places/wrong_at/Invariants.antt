@@ -1,11 +1,7 @@
 -- How far `wrong_at` has come.
-use mathlib.Core.Path.{◌≡◌}
-use Prim.Native.Nat.{◌≤◌, ◌-◌}
+use Rattle.std.proofs.Common.{◌≡◌}
 use Rattle.text.specs.Place.{line_at, byte_at}
 use Rattle.spelling.proofs.places.wrong_at.Given as goal
 
-abbrev pub invariant-loop-i : goal.invariant-loop-i
-invariant-loop-i l = (l.i ≤ l.at) × (l.line ≡ line_at l.text l.i) × (l.byte ≡ byte_at l.text l.i)
-
-abbrev pub decreases-loop-i : goal.decreases-loop-i
-decreases-loop-i l = l.at - l.i
+abbrev pub invariant-loop-b : goal.invariant-loop-b
+invariant-loop-b l = (l.line ≡ line_at l.b-items l.b-index) × (l.byte ≡ byte_at l.b-items l.b-index)
