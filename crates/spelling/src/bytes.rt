@@ -1,5 +1,5 @@
 // Bytes by themselves: how a text begins, the field finder, and what is stored into a lent slice as far as it goes.
-ghost use Rattle.std.specs.Prelude.{◌≡◌, min, set};
+ghost use Rattle.std.specs.Prelude.{◌≡◌, set};
 ghost use Rattle.std.proofs.lemmas.List.Edits.{sets};
 ghost use Rattle.text.specs.Field.{field_of, begins, agreed};
 
@@ -26,13 +26,6 @@ pub fn find_field(text: &[u8]) -> &[u8]
 {
     let end = text.iter().position(|b| *b == b'\t' || *b == b'\n');
     &text[..end.unwrap_or(text.len())]
-}
-
-// The lesser of two lengths.
-pub fn shorter(a: usize, b: usize) -> usize
-    ensures { result ≡ min a b }
-{
-    if a < b { a } else { b }
 }
 
 // Puts x at a place of out, if out has that place.

@@ -1,12 +1,12 @@
 // One reader and one writer for every line, of a sheet or of engine rows: its tag, then numbers by a table of limits.
-ghost use Rattle.std.specs.Prelude.{◌≡◌, ◌&&◌, cond, ◌+◌, ◌≤◌, ◌<◌, ◌^◌, eqb, length, drop, set};
+ghost use Rattle.std.specs.Prelude.{◌≡◌, ◌*◌, ◌≤◌, ◌&&◌, cond, eqb, length};
 ghost use Rattle.text.specs.Field.{begins};
 ghost use Rattle.text.specs.Quoted.{tab, feed, dash};
 ghost use Rattle.text.specs.Limit.{or_none, limit_of, limits_of};
 ghost use Rattle.text.specs.Line.{line_of, read_entry, read_numbers, read_line, entry_text, numbers_text, line_text, Reads};
 ghost use Rattle.text.specs.Line.{Laid, stops_short};
 
-use crate::bytes::{agreement, find_field, shorter, starts, store, write_bytes};
+use crate::bytes::{agreement, find_field, starts, store, write_bytes};
 use crate::limits::{is_none, is_within};
 use crate::numbers::{read_number, write_number};
 use answers::{BROKEN_LINE, OUTSIDE_LIMITS};
@@ -23,12 +23,7 @@ fn ender_before(left: usize) -> u8
 fn is_dash(l: Limit, text: &[u8]) -> bool
     ensures { result ≡ (eqb (limit_of l).rule or_none && begins dash text.now) }
 {
-    let rule = l[2];
-    if rule == OR_NONE {
-        starts(text, b'-')
-    } else {
-        false
-    }
+    l[2] == OR_NONE && starts(text, b'-')
 }
 
 // Reads a number, or a `-`, and the byte that must end it: the form first, then the limits.
@@ -38,51 +33,33 @@ fn read_entry(l: Limit, last: u32, ender: u8, text: &[u8]) -> EntryRead
     if is_dash(l, text) {
         if starts(&text[1..], ender) {
             return EntryRead::Number(0, 2);
-        } else {
-            return EntryRead::Misread(BROKEN_LINE, 1);
         }
+        return EntryRead::Misread(BROKEN_LINE, 1);
     }
     let f = find_field(text);
     let len = f.len();
-    match read_number(f) {
-        NumberRead::Malformed(at) => EntryRead::Misread(BROKEN_LINE, at),
-        NumberRead::Value(n) => {
-            if starts(&text[len..], ender) {
-                if is_within(l, last, n) {
-                    EntryRead::Number(n as u32, len + 1)
-                } else {
-                    EntryRead::Misread(OUTSIDE_LIMITS, 0)
-                }
-            } else {
-                EntryRead::Misread(BROKEN_LINE, len)
-            }
-        }
+    let n = match read_number(f) {
+        NumberRead::Malformed(at) => return EntryRead::Misread(BROKEN_LINE, at),
+        NumberRead::Value(n) => n,
+    };
+    if !starts(&text[len..], ender) {
+        return EntryRead::Misread(BROKEN_LINE, len);
     }
+    if !is_within(l, last, n) {
+        return EntryRead::Misread(OUTSIDE_LIMITS, 0);
+    }
+    EntryRead::Number(n as u32, len + 1)
 }
 
-// Puts n at a place of out, if out has that place.
-fn store_number(out: &mut [u32], at: usize, n: u32)
-    ensures { out.new ≡ set out.old at n }
+// Whether a line ends with the first field of text, and the numbers of the table are left out of it. Where they may not
+// be, no byte is looked at.
+fn stops_short(table: &[Limit], text: &[u8]) -> bool
+    ensures { result ≡ stops_short (limits_of table.now) text.now }
 {
-    if at < out.len() {
-        out[at] = n;
+    match table {
+        [l, ..] if l[2] > CAPPED => starts(&text[find_field(text).len()..], b'\n'),
+        _ => false,
     }
-}
-
-// Whether a line ends with the first field of text, and the numbers from place k of the table on are left out of it.
-// Where they may not be, no byte is looked at.
-fn stops_short(table: &[Limit], k: usize, text: &[u8]) -> bool
-    ensures { result ≡ stops_short (limits_of (drop k table.now)) text.now }
-{
-    if k >= table.len() {
-        return false;
-    }
-    let l = table[k];
-    if l[2] <= CAPPED {
-        return false;
-    }
-    let len = find_field(text).len();
-    starts(&text[len..], b'\n')
 }
 
 // What must end a number that is read, with `left` more after it by the table: the line feed too where those are left
@@ -99,26 +76,20 @@ fn read_numbers(table: &[Limit], text: &[u8], out: &mut [u32]) -> LineRead
     ensures { Reads (read_numbers (limits_of table.now) 0 text.now) out.old result
         out.new }
 {
-    let count = table.len();
-    let mut k = 0;
     let mut last = 0;
     let mut at = 0;
-    while k < count {
-        let short = stops_short(table, k + 1, &text[at..]);
-        let ender = ender_read(short, count - k - 1);
-        match read_entry(table[k], last, ender, &text[at..]) {
-            EntryRead::Misread(refusal, place) => {
-                return LineRead::Fault(refusal, at + place);
-            }
-            EntryRead::Number(n, len) => {
-                store_number(out, k, n);
-                last = n;
-                at += len;
-                if short {
-                    return LineRead::Taken(at);
-                }
-                k += 1;
-            }
+    for (k, l) in table.iter().enumerate() {
+        let short = stops_short(&table[k + 1..], &text[at..]);
+        let ender = ender_read(short, table.len() - k - 1);
+        let (n, len) = match read_entry(*l, last, ender, &text[at..]) {
+            EntryRead::Misread(refusal, place) => return LineRead::Fault(refusal, at + place),
+            EntryRead::Number(n, len) => (n, len),
+        };
+        store(out, k, n);
+        last = n;
+        at += len;
+        if short {
+            return LineRead::Taken(at);
         }
     }
     LineRead::Taken(at)
@@ -141,33 +112,30 @@ pub fn read_line(tag: &[u8], table: &[Limit], text: &[u8], out: &mut [u32]) -> L
     }
 }
 
-// Writes n, or the `-` that it stands for, from a place on, and answers the place after it.
-fn write_entry(l: Limit, n: u32, out: &mut [u8], at: usize) -> usize
-    requires { at + 11 < 2 ^ 64 }
-    ensures { Laid (entry_text (limit_of l) n) out.old at result out.new }
+// Writes n, or the `-` that it stands for, from the start of out, and answers how long it is.
+fn write_entry(l: Limit, n: u32, out: &mut [u8]) -> usize
+    ensures { Laid (entry_text (limit_of l) n) out.old 0 result out.new }
 {
     if is_none(l, n) {
-        store(out, at, b'-');
-        return at + 1;
+        store(out, 0, b'-');
+        1
+    } else {
+        write_number(out, u64::from(n))
     }
-    let from = shorter(at, out.len());
-    at + write_number(&mut out[from..], n as u64)
 }
 
-// Writes a number for each limit of the table from a place on, and answers the place after them.
-fn write_numbers(table: &[Limit], numbers: &[u32], out: &mut [u8], start: usize) -> usize
-    requires { (start < 2 ^ 63) × (length table.now ≤ length numbers.now) }
-    ensures { Laid (numbers_text (limits_of table.now) numbers.now) out.old
-        start result out.new }
+// Writes a number for each limit of the table from the start of out, and answers how long they are.
+fn write_numbers(table: &[Limit], numbers: &[u32], out: &mut [u8]) -> usize
+    requires { length table.now ≤ length numbers.now }
+    ensures laid { Laid (numbers_text (limits_of table.now) numbers.now) out.old 0 result out.new }
+    ensures most { result ≤ 11 * length table.now }
 {
-    let count = table.len();
-    let mut k = 0;
-    let mut at = start;
-    while k < count {
-        at = write_entry(table[k], numbers[k], out, at);
-        store(out, at, ender_before(count - k - 1));
+    let mut at: usize = 0;
+    for (k, l) in table.iter().enumerate() {
+        let from = at.min(out.len());
+        at += write_entry(*l, numbers[k], &mut out[from..]);
+        store(out, at, ender_before(table.len() - k - 1));
         at += 1;
-        k += 1;
     }
     at
 }
@@ -180,5 +148,6 @@ pub fn write_line(tag: &[u8], table: &[Limit], numbers: &[u32], out: &mut [u8]) 
         out.old 0 result out.new }
 {
     write_bytes(tag, out);
-    write_numbers(table, numbers, out, tag.len())
+    let from = tag.len().min(out.len());
+    tag.len() + write_numbers(table, numbers, &mut out[from..])
 }

@@ -10,7 +10,7 @@ use Rattle.text.proofs.Field.{field_most}
 use Rattle.text.proofs.Entry.{Dashed, Entered, dash_ended, dash_unended, no_number, unended, outside, taken}
 use native.Mathlib.Omega.{arith}
 use Rattle.spelling.proofs.lines.read_entry.Goals as goal
-use Rattle.spelling.proofs.lines.read_entry.Goals.{After-read_number, After-starts-in-Value, Then-is_dash}
+use Rattle.spelling.proofs.lines.read_entry.Goals.{After-read_number, After-starts-2, Then-is_dash}
 
 -- ---- a `-` for none
 
@@ -22,10 +22,10 @@ returns-then-starts c =
     let ended = sym (rw rest_part at c.starts.ensures) ∙ c.if-starts.true in
     sym (dash_ended (dashed (goal.at.returns-then-starts c).Then-is_dash) ended)
 
-pub returns-else-starts : goal.returns-else-starts
-returns-else-starts c =
+pub returns-then-is_dash : goal.returns-then-is_dash
+returns-then-is_dash c =
     let unended = sym (rw rest_part at c.starts.ensures) ∙ c.if-starts.false in
-    sym (dash_unended (dashed (goal.at.returns-else-starts c).Then-is_dash) unended)
+    sym (dash_unended (dashed (goal.at.returns-then-is_dash c).Then-is_dash) unended)
 
 -- ---- a field
 
@@ -38,15 +38,15 @@ found c e =
       read = sym c.read_number.ensures ∙ e;
     }
 
-ended : (c : After-starts-in-Value) {u : Bool} → c.starts-in-Value.result ≡ u
+ended : (c : After-starts-2) {u : Bool} → c.starts-2.result ≡ u
     → begins c.args.ender (drop (length c.find_field-f.result.now) c.args.text.now) ≡ u
-ended c e = sym (rw rest_part at c.starts-in-Value.ensures) ∙ e
+ended c e = sym (rw rest_part at c.starts-2.ensures) ∙ e
 
-pub slice_bounds-starts-count-in-Value : goal.slice_bounds-starts-count-in-Value
-slice_bounds-starts-count-in-Value c = omega (arith, field_most c.args.text.now, ap length c.find_field-f.ensures)
+pub slice_bounds-starts-count-2 : goal.slice_bounds-starts-count-2
+slice_bounds-starts-count-2 c = omega (arith, field_most c.args.text.now, ap length c.find_field-f.ensures)
 
-pub slice_bounds-starts-start-in-Value : goal.slice_bounds-starts-start-in-Value
-slice_bounds-starts-start-in-Value c = omega (arith, field_most c.args.text.now, ap length c.find_field-f.ensures)
+pub slice_bounds-starts-start-2 : goal.slice_bounds-starts-start-2
+slice_bounds-starts-start-2 c = omega (arith, field_most c.args.text.now, ap length c.find_field-f.ensures)
 
 pub returns-in-Malformed : goal.returns-in-Malformed
 returns-in-Malformed c =
@@ -54,19 +54,19 @@ returns-in-Malformed c =
 
 -- ---- a number
 
-pub returns-then-is_within : goal.returns-then-is_within
-returns-then-is_within c =
-    let read = found (goal.at.returns-then-is_within c).After-read_number c.in-Value.is in
-    let e = ended (goal.at.returns-then-is_within c).After-starts-in-Value c.if-starts-2.true in
-    sym (taken read e (sym c.is_within.ensures ∙ c.if-is_within.true))
+pub returns-then-not-starts : goal.returns-then-not-starts
+returns-then-not-starts c =
+    let read = found (goal.at.returns-then-not-starts c).After-read_number c.in-Value.is in
+    sym (unended read (ended (goal.at.returns-then-not-starts c).After-starts-2 c.if-not-starts.true))
 
-pub returns-else-is_within : goal.returns-else-is_within
-returns-else-is_within c =
-    let read = found (goal.at.returns-else-is_within c).After-read_number c.in-Value.is in
-    let e = ended (goal.at.returns-else-is_within c).After-starts-in-Value c.if-starts-2.true in
-    sym (outside read e (sym c.is_within.ensures ∙ c.if-is_within.false))
+pub returns-then-not-is_within : goal.returns-then-not-is_within
+returns-then-not-is_within c =
+    let read = found (goal.at.returns-then-not-is_within c).After-read_number c.in-Value.is in
+    let e = ended (goal.at.returns-then-not-is_within c).After-starts-2 c.if-not-starts.false in
+    sym (outside read e (sym c.is_within.ensures ∙ c.if-not-is_within.true))
 
-pub returns-else-starts-2 : goal.returns-else-starts-2
-returns-else-starts-2 c =
-    let read = found (goal.at.returns-else-starts-2 c).After-read_number c.in-Value.is in
-    sym (unended read (ended (goal.at.returns-else-starts-2 c).After-starts-in-Value c.if-starts-2.false))
+pub returns : goal.returns
+returns c =
+    let read = found (goal.at.returns c).After-read_number c.in-Value.is in
+    let e = ended (goal.at.returns c).After-starts-2 c.if-not-starts.false in
+    sym (taken read e (sym c.is_within.ensures ∙ c.if-not-is_within.false))

@@ -2,7 +2,7 @@
 use mathlib.Core.Path.{◌≡◌, refl, sym, ◌∙◌}
 use mathlib.Core.Bool.{Bool}
 use Rattle.text.specs.declared.EntryRead.{EntryRead}
-use Rattle.ground.proofs.Stores.{rest_part}
+use Rattle.std.proofs.lemmas.List.{take_rest}
 use Rattle.text.proofs.Reading.{Next, done, entry_in, fault, stop, step}
 use native.Mathlib.Omega.{arith}
 use Rattle.spelling.proofs.lines.read_numbers.Goals as goal
@@ -16,9 +16,9 @@ next : (c : After-read_entry) {u : Bool} {r : EntryRead}
 next c s e =
     record {
       more = c.loop-k-test.true;
-      stops = sym (rw rest_part at c.stops_short-short.ensures) ∙ s;
+      stops = sym (simp take_rest at c.stops_short-short.ensures) ∙ s;
       ended = rw s at c.ender_read-ender.ensures;
-      entry = sym (rw rest_part at c.read_entry.ensures) ∙ e;
+      entry = sym (rw take_rest at c.read_entry.ensures) ∙ e;
     }
 
 pub overflow_add-result : goal.overflow_add-result
@@ -39,12 +39,12 @@ overflow_add-at c =
 pub returns-then-short : goal.returns-then-short
 returns-then-short c =
     let n = next (goal.at.returns-then-short c).After-read_entry c.if-short.true c.in-Number.is in
-    rw c.store_number.ensures (stop c.loop-k.invariant n)
+    rw c.store.ensures (stop c.loop-k.invariant n)
 
 pub loop-k-preserved : goal.loop-k-preserved
 loop-k-preserved c =
     let n = next (goal.at.loop-k-preserved c).After-read_entry c.if-short.false c.in-Number.is in
-    rw c.store_number.ensures (step c.loop-k.invariant n)
+    rw c.store.ensures (step c.loop-k.invariant n)
 
 pub returns : goal.returns
 returns c = done c.loop-k.invariant c.loop-k-test.false
