@@ -22,3 +22,9 @@ module _ {T E D : Type 0} {r : Result T E} {s : Result T D} (Q : E → D → Typ
       go (Ok y) s m h = let z : ◌≡◌ {A = Result T D} (Ok y) (Err d) = sym m ∙ h in absurd (cc)
       go (Err e) (Ok y) m h = absurd m
       go (Err e) (Err c) m h = let z : c ≡ d = cc in (e, refl, rw (← z) m)
+
+  -- such an error, as `?` sends it out in z
+  pub sent : {X : Type 0} {d : D} (z : Result X D) → s ≡ Err d → IsErrAnd z (λ y. y ≡ d)
+      → (e : E) × (r ≡ Err e) × (z ≡ Err d) × Q e d
+  sent (Ok x) h m = absurd m
+  sent (Err y) h m = let w = was_err h in (w.0, w.1, rw m, w.2)

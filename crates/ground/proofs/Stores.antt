@@ -1,12 +1,13 @@
 -- Runs of stores into a lent slice, `sets` of lib.Seq, where what would go past the end is dropped.
 use mathlib.Core.Path.{◌≡◌, refl, sym, ap, ◌∙◌}
 use mathlib.Core.List.{List, [], ◌∷◌, ◌++◌, append-nil, append_assoc}
-use Prim.Native.Nat.{ℕ, zero, suc, ◌+◌, ◌-◌, ◌≤◌, ◌<◌, min}
-use native.Mathlib.Nat.{add-zero, zero-add, add-suc, suc-add, sub-zero, zero-sub, suc-sub-suc}
+use Prim.Native.Nat.{ℕ, suc, ◌+◌, ◌-◌, ◌≤◌, ◌<◌, min}
+use native.Mathlib.Nat.{add-zero, zero-add, add-suc, suc-add}
 use native.Mathlib.Omega.{arith}
 use native.Mathlib.Numerals.{add-one}
 use lib.ListN.{length, get_or, take, drop, set, replicate, length-append, length-drop, length-replicate}
 use lib.ListN.{replicate-append-replicate, take-append-drop, drop_of_length-le}
+use Rattle.std.proofs.lemmas.List.{drop-replicate}
 use lib.Seq.{sets, sets-eq, drop-cons, take_all, set_out, length-take-le, take-set-le}
 use lib.Seq.{drop-set-add, length-sets}
 use Rattle.ground.proofs.Booleans.{by_less}
@@ -87,15 +88,10 @@ part_sets o a bs =
 
 -- ---- stores into a list of zeros
 
-drop_replicate : (k m a : ℕ) → drop k (replicate m a) ≡ replicate (m - k) a
-drop_replicate zero m a = rw (sub-zero m)
-drop_replicate (suc k) zero a = rw (zero-sub (suc k))
-drop_replicate (suc k) (suc m) a = drop_replicate k m a ∙ rw (suc-sub-suc m k)
-
 pub sets_zeros : (m : ℕ) (xs : List ℕ) → length xs ≤ m → sets (replicate m 0) 0 xs ≡ xs ++ replicate (m - length xs) 0
 sets_zeros m xs h =
     let n : length {A = ℕ} (replicate m 0) ≡ m = length-replicate m 0 in
-    sets_start (replicate m 0) xs (omega arith) ∙ rw (drop_replicate (length xs) m 0)
+    sets_start (replicate m 0) xs (omega arith) ∙ rw (drop-replicate {X = ℕ} (length xs) m 0)
 
 -- zeros stored over zeros
 pub zeros_stored : (m j : ℕ) (xs : List ℕ)

@@ -1,4 +1,4 @@
-// What every crate stands on: laws of Booleans and of stores into lists, and the one loop that copies numbers.
+// What every crate stands on: laws of Booleans and of stores into lists, and the copying of numbers.
 #![tactic(auto)]
 
 ghost use Rattle.std.specs.Prelude.{◌≡◌, ◌≤◌, length};

@@ -1,5 +1,5 @@
 // One reader and one writer for every line, of a sheet or of engine rows: its tag, then numbers by a table of limits.
-ghost use Rattle.std.specs.Prelude.{◌≡◌, ◌&&◌, cond, ◌≤◌, eqb, length};
+ghost use Rattle.std.specs.Prelude.{◌≡◌, ◌*◌, ◌≤◌, ◌&&◌, cond, eqb, length};
 ghost use Rattle.answers.specs.declared.Refusal.TheVariants.{BrokenLine};
 ghost use Rattle.text.specs.Field.{begins};
 ghost use Rattle.text.specs.Read.{entry_told, line_told};
@@ -100,7 +100,7 @@ fn read_numbers(table: &[Limit], text: &[u8], out: &mut [u32]) -> Result<usize, 
         last = taken.number;
         at += taken.len;
         if short {
-            break;
+            return Ok(at);
         }
     }
     Ok(at)
@@ -140,10 +140,10 @@ fn write_entry(l: Limit, n: u32, out: &mut [u8]) -> usize
 // Writes a number for each limit of the table from the start of out, and answers how long they are.
 fn write_numbers(table: &[Limit], numbers: &[u32], out: &mut [u8]) -> usize
     requires { length table.now ≤ length numbers.now }
-    ensures { Laid (numbers_text table.now numbers.now) out.old 0 result
-        out.new }
+    ensures laid { Laid (numbers_text table.now numbers.now) out.old 0 result out.new }
+    ensures most { result ≤ 11 * length table.now }
 {
-    let mut at = 0;
+    let mut at: usize = 0;
     for (k, l) in table.iter().enumerate() {
         let from = at.min(out.len());
         at += write_entry(*l, numbers[k], &mut out[from..]);

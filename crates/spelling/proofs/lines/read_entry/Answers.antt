@@ -3,12 +3,9 @@ use mathlib.Core.Path.{◌≡◌, sym, ap, ◌∙◌}
 use mathlib.Core.Bool.{Bool}
 use lib.ListN.{length, drop}
 use native.Mathlib.Omega.{arith}
-use Rattle.std.proofs.lemmas.Result.{err_from_is_err_and}
-use Rattle.ground.proofs.Results.{was_ok, was_err}
+use Rattle.ground.proofs.Results.{was_ok, sent}
 use Rattle.ground.proofs.Stores.{rest_part}
 use Rattle.std.specs.Prelude.{Err}
-use Rattle.text.specs.declared.Fault.{Fault}
-use Rattle.text.specs.Read.{entry_told}
 use Rattle.text.specs.Number.{NumberRead}
 use Rattle.text.specs.Field.{begins}
 use Rattle.text.proofs.Field.{field_most}
@@ -45,10 +42,8 @@ found c e =
 -- the field is no number: what that is mapped to goes out
 pub returns-in_err-n : goal.returns-in_err-n
 returns-in_err-n c =
-    let out = err_from_is_err_and c.from_residual.result c.from_residual.ensures.1 in
-    let was = was_err _ c.map_err.ensures.cases c.in_err-n.was in
-    let gone = no_number (found (goal.at.returns-in_err-n c).After-read_number was.1) in
-    rw out.1 (ap (λ (f : Fault). entry_told (Err f)) (out.2 ∙ was.2) ∙ sym gone)
+    let k = sent _ c.map_err.ensures.cases c.from_residual.result c.in_err-n.was c.from_residual.ensures.1 in
+    rw (k.2 ∙ ap Err k.3) (sym (no_number (found (goal.at.returns-in_err-n c).After-read_number k.1)))
 
 pub slice_bounds-starts-count-2 : goal.slice_bounds-starts-count-2
 slice_bounds-starts-count-2 c = omega (arith, field_most c.args.text.now, ap length c.find_field-f.ensures)

@@ -7,8 +7,8 @@ use Rattle.spelling.proofs.lines.stops_short.Goals as goal
 
 pub slice_bounds-starts-count : goal.slice_bounds-starts-count
 slice_bounds-starts-count c =
-    omega (arith, field_most c.args.text.now, ap length c.find_field-len.ensures)
+    omega (arith, field_most c.args.text.now, ap length c.find_field.ensures)
 
 pub slice_bounds-starts-start : goal.slice_bounds-starts-start
 slice_bounds-starts-start c =
-    omega (arith, field_most c.args.text.now, ap length c.find_field-len.ensures)
+    omega (arith, field_most c.args.text.now, ap length c.find_field.ensures)
