@@ -8,7 +8,7 @@ use lib.Seq.{drop-drop}
 use Rattle.ground.proofs.Booleans.{false_true}
 use Rattle.text.specs.Read.{LineRead}
 use Rattle.text.specs.Read.{Taken, Fault}
-use Rattle.text.specs.Line.{shift_by}
+use Rattle.text.specs.Read.{shift_by}
 use Rattle.text.proofs.Led.{Led}
 use Rattle.fault.specs.Rules.{Rule, Then}
 use Rattle.fault.proofs.Rules.{Some, Sure, later, Goes}

@@ -20,7 +20,8 @@ use Rattle.text.specs.Field.{field_of, begins}
 use Rattle.text.specs.Number.{eleven_digits, digits_of}
 use Rattle.text.specs.declared.Limit.{Limit}
 use Rattle.text.specs.Limit.{holds, spare, all_hold}
-use Rattle.text.specs.Line.{Line, shift_by, ender, stops_short, read_entry, read_numbers, read_line, entry_text}
+use Rattle.text.specs.Line.{Line, ender, stops_short, read_entry, read_numbers, read_line, entry_text}
+use Rattle.text.specs.Read.{shift_by}
 use Rattle.text.proofs.Field.{field_stop, agreed_self}
 use Rattle.text.proofs.NumberTrip.{written_reads, field_digits, no_dash}
 use Rattle.text.proofs.Limits.{narrow, readable, readable_narrow, holds_small}

@@ -6,7 +6,7 @@ use native.Mathlib.Nat.{add-zero, zero-add, add_assoc}
 use native.Mathlib.Omega.{arith}
 use Rattle.text.specs.Read.{LineRead}
 use Rattle.text.specs.Read.{Taken, Fault}
-use Rattle.text.specs.Line.{shift_by}
+use Rattle.text.specs.Read.{shift_by}
 use Rattle.form.specs.Outcome.{Found, took, lost, mapped, ahead}
 use Rattle.reading.specs.Filled.{ended_as, Filled}
 use Rattle.reading.specs.Steps.{onward}

@@ -8,7 +8,8 @@ use lib.ListN.{length, drop, replicate, length-append}
 use lib.Seq.{sets, drop-drop}
 use Rattle.text.specs.Read.{LineRead}
 use Rattle.text.specs.Read.{Taken, Fault}
-use Rattle.text.specs.Line.{Line, shift_by, read_line}
+use Rattle.text.specs.Line.{Line, read_line}
+use Rattle.text.specs.Read.{shift_by}
 use Rattle.ground.proofs.Stores.{sets_append}
 use Rattle.text.proofs.Limits.{full}
 use Rattle.form.specs.Parts.{Rows, numbers_of}

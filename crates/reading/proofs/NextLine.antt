@@ -7,12 +7,13 @@ use lib.ListN.{length, take, drop, length-drop}
 use lib.Seq.{sets, length-sets}
 use Rattle.text.specs.Read.{LineRead}
 use Rattle.text.specs.Read.{Taken, Fault}
-use Rattle.text.specs.Line.{Line, Reads, line_of, shift_by, read_line}
+use Rattle.text.specs.Line.{Line, Reads, line_of, read_line}
+use Rattle.text.specs.Read.{shift_by}
 use Rattle.ground.proofs.Stores.{put_back, rest_part, part_sets}
 use Rattle.text.proofs.Line.{line_extent}
 use Rattle.sheet.specs.Sheet.{limit_rows}
 use Rattle.sheet.specs.Places.{fittings_at}
-use Rattle.reading.specs.Filled.{reached}
+use Rattle.text.specs.Read.{reached}
 use Rattle.reading.specs.Steps.{Due, ReadsOn}
 
 pub reached_shift : (k : ℕ) (r : LineRead) → reached (shift_by k r) ≡ k + reached r

@@ -7,7 +7,8 @@ use lib.ListN.{length, take, drop, length-drop}
 use Rattle.text.specs.Read.{LineRead}
 use Rattle.text.specs.Read.{Taken, Fault}
 use Rattle.text.specs.Field.{agreed}
-use Rattle.text.specs.Line.{read_numbers, read_line, shift_by}
+use Rattle.text.specs.Line.{read_numbers, read_line}
+use Rattle.text.specs.Read.{shift_by}
 use Rattle.ground.proofs.Stores.{rest_part}
 use Rattle.text.proofs.Field.{agreed_fits}
 use Rattle.text.proofs.Line.{line_tagged, line_untagged}
@@ -16,7 +17,8 @@ use Rattle.form.specs.Outcome.{Found, took, lost, mapped, ahead}
 use Rattle.form.specs.Reading.{read_parts}
 use Rattle.sheet.specs.Lines.{end_line}
 use Rattle.sheet.specs.SheetText.{fit_part, fits_from, fits_of, numbers_on}
-use Rattle.reading.specs.Filled.{ended_as, reached, Filled, found_into}
+use Rattle.reading.specs.Filled.{ended_as, Filled, found_into}
+use Rattle.text.specs.Read.{reached}
 use Rattle.reading.specs.Steps.{rest_on}
 use Rattle.reading.proofs.Found.{found_taken, found_fault, ended_mapped}
 use Rattle.reading.proofs.RowsLoop.{rows_at, part_in}

@@ -8,7 +8,7 @@ use lib.Seq.{take_at, drop_at}
 use Rattle.text.specs.Read.{LineRead}
 use Rattle.text.specs.Read.{Taken, Fault}
 use Rattle.text.specs.Read.{Whole, Wrong}
-use Rattle.text.specs.Line.{shift_by}
+use Rattle.text.specs.Read.{shift_by}
 use Rattle.text.specs.Place.{line_at, byte_at}
 use Rattle.ground.proofs.Stores.{put_back, rest_part, sets_zeros}
 use Rattle.answers.specs.Answer.{RefusedAt, Done}
@@ -20,7 +20,8 @@ use Rattle.sheet.specs.Lines.{lines, fittings, most_bytes}
 use Rattle.sheet.specs.Places.{text_words, fittings_at}
 use Rattle.sheet.specs.SheetText.{sheet_form, sheet_of, read_sheet}
 use Rattle.sheet.specs.TextCalls.{read_answer, read_into}
-use Rattle.reading.specs.Filled.{ended_as, reached, found_into, Filled, Heard}
+use Rattle.reading.specs.Filled.{ended_as, found_into, Filled, Heard}
+use Rattle.text.specs.Read.{reached}
 use Rattle.reading.specs.Steps.{onward, rest_on, Past}
 use Rattle.reading.proofs.Found.{ended_onward, filled_fault, filled_taken}
 use Rattle.reading.proofs.Heard.{told_wrong, heard_right}

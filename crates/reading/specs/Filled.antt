@@ -1,7 +1,7 @@
 -- What was found stands in a lent list; and what a whole text says. Where the text had a fault, nothing is said of the
 -- list.
 use Rattle.std.specs.Prelude.{ℕ, ◌≤◌, ◌≡◌, List, length}
-use Rattle.text.specs.Read.{LineRead}
+use Rattle.text.specs.Read.{LineRead, reached}
 use Rattle.text.specs.Read.{Taken, Fault}
 use Rattle.text.specs.Read.{TextRead}
 use Rattle.text.specs.Read.{Whole, Wrong}
@@ -12,11 +12,6 @@ use Rattle.sheet.specs.TextCalls.{read_into}
 abbrev pub ended_as : {A : Type 0} → Found A → LineRead
 ended_as (took k a) = Taken k
 ended_as (lost number at) = Fault number at
-
--- the place in the text that was reached
-abbrev pub reached : LineRead → ℕ
-reached (Taken k) = k
-reached (Fault number at) = at
 
 -- what was found, in the place of what was before
 abbrev pub found_into : Found (List ℕ) → List ℕ → List ℕ

@@ -3,13 +3,14 @@ use Rattle.std.specs.Prelude.{ℕ, ◌+◌, ◌≤◌, ◌≡◌, List, [], ◌+
 use Rattle.std.proofs.lemmas.List.Edits.{sets}
 use Rattle.text.specs.Read.{LineRead}
 use Rattle.text.specs.Read.{Taken, Fault}
-use Rattle.text.specs.Line.{Line, shift_by, read_line}
+use Rattle.text.specs.Line.{Line, read_line}
+use Rattle.text.specs.Read.{shift_by}
 use Rattle.form.specs.Outcome.{Found, took, lost, mapped}
 use Rattle.form.specs.Reading.{read_parts}
 use Rattle.sheet.specs.Lines.{lines}
 use Rattle.sheet.specs.Places.{fittings_at, text_words}
 use Rattle.sheet.specs.SheetText.{each_once, numbers_on, last_parts}
-use Rattle.reading.specs.Filled.{reached}
+use Rattle.text.specs.Read.{reached}
 
 -- ---- a line
 

@@ -12,7 +12,8 @@ ghost use Rattle.sheet.specs.Sheet.{limit_rows};
 ghost use Rattle.sheet.specs.Places.{text_words, fittings_at};
 ghost use Rattle.sheet.specs.SheetText.{fit_part, fits_from, read_sheet};
 ghost use Rattle.sheet.specs.TextCalls.{read_answer, read_into};
-ghost use Rattle.reading.specs.Filled.{reached, ended_as, Filled, Heard};
+ghost use Rattle.reading.specs.Filled.{ended_as, Filled, Heard};
+ghost use Rattle.text.specs.Read.{reached};
 ghost use Rattle.reading.specs.Steps.{Due, ReadsOn, rest_on, Past};
 
 use crate::rows::read_row;

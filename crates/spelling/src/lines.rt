@@ -11,6 +11,7 @@ ghost use Rattle.text.specs.Line.{Laid, stops_short};
 use crate::bytes::{agreement, find_field, starts, store, write_bytes};
 use crate::limits::{is_none, is_within};
 use crate::numbers::{read_number, write_number};
+use crate::places::told_after;
 use answers::Refusal;
 use text::{Fault, Limit, Rule, Taken};
 
@@ -94,8 +95,10 @@ fn read_numbers(table: &[Limit], text: &[u8], out: &mut [u32]) -> Result<usize, 
     for (k, l) in table.iter().enumerate() {
         let short = stops_short(&table[k + 1..], &text[at..]);
         let ender = ender_read(short, table.len() - k - 1);
-        let taken =
-            read_entry(*l, last, ender, &text[at..]).map_err(|fault| fault.after(at))?;
+        let taken = match read_entry(*l, last, ender, &text[at..]) {
+            Ok(taken) => taken,
+            Err(fault) => return Err(fault.after(at)),
+        };
         store(out, k, taken.number);
         last = taken.number;
         at += taken.len;
@@ -120,9 +123,7 @@ pub fn read_line(
     if same != tag.len() {
         return Err(broken(same));
     }
-    let len =
-        read_numbers(table, &text[same..], out).map_err(|fault| fault.after(same))?;
-    Ok(same + len)
+    told_after(same, read_numbers(table, &text[same..], out))
 }
 
 // Writes n, or the `-` that it stands for, from the start of out, and answers how long it is.

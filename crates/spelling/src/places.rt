@@ -1,5 +1,6 @@
-// Where a text is wrong, as whoever wrote it counts: by line and byte.
-ghost use Rattle.std.specs.Prelude.{◌≡◌, ◌≤◌, ◌<◌, ◌^◌, length};
+// Places of a text: told from an earlier start; and where it is wrong, as whoever wrote it counts, by line and byte.
+ghost use Rattle.std.specs.Prelude.{◌≡◌, ◌+◌, ◌≤◌, ◌<◌, ◌^◌, length};
+ghost use Rattle.text.specs.Read.{line_told, reached, shift_by};
 ghost use Rattle.text.specs.Place.{line_at, byte_at};
 
 use answers::TextFault;
@@ -29,5 +30,16 @@ pub fn wrong_at(fault: Fault, text: &[u8]) -> TextFault
         refusal: fault.refusal,
         line,
         byte,
+    }
+}
+
+// How the reading of a line ended, told from a start so many bytes before it.
+pub fn told_after(before: usize, ended: Result<usize, Fault>) -> Result<usize, Fault>
+    requires { before + reached (line_told ended) < 2 ^ 64 }
+    ensures { line_told result ≡ shift_by before (line_told ended) }
+{
+    match ended {
+        Ok(len) => Ok(before + len),
+        Err(fault) => Err(fault.after(before)),
     }
 }

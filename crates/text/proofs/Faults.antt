@@ -19,7 +19,8 @@ use Rattle.text.specs.Field.{field_of, begins, agreed}
 use Rattle.text.specs.Number.{number_of}
 use Rattle.text.specs.declared.Limit.{Limit}
 use Rattle.text.specs.Limit.{or_none, within}
-use Rattle.text.specs.Line.{Line, Reading, shift_by, judged, ender, stops_short, read_entry, read_numbers, read_line}
+use Rattle.text.specs.Line.{Line, Reading, judged, ender, stops_short, read_entry, read_numbers, read_line}
+use Rattle.text.specs.Read.{shift_by}
 use Rattle.ground.proofs.Booleans.{either, by_test, by_equal}
 use Rattle.text.proofs.Entry.{by_entry}
 use Rattle.text.proofs.Line.{numbers_short, numbers_whole, line_tagged, line_untagged}

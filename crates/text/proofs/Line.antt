@@ -16,7 +16,8 @@ use Rattle.text.specs.Quoted.{feed}
 use Rattle.text.specs.declared.Limit.{Limit}
 use Rattle.text.specs.Limit.{spare}
 use Rattle.text.specs.Field.{field_of, begins, agreed}
-use Rattle.text.specs.Line.{Line, line_of, Reads, shift_by, after, nothing, refused, ender, stops_short, on_entry}
+use Rattle.text.specs.Line.{Line, line_of, Reads, after, nothing, refused, ender, stops_short, on_entry}
+use Rattle.text.specs.Read.{shift_by}
 use Rattle.text.specs.Line.{read_entry, read_numbers, read_line}
 use Rattle.text.proofs.Field.{agreed_fits}
 use Rattle.text.proofs.Entry.{reach, entry_reach, by_entry}

@@ -14,7 +14,8 @@ use Rattle.text.specs.Quoted.{tab, feed}
 use Rattle.text.specs.Number.{eleven_digits}
 use Rattle.text.specs.declared.Limit.{Limit}
 use Rattle.text.specs.Limit.{counts, holds, spare, all_hold}
-use Rattle.text.specs.Line.{Reading, shift_by, ender, stops_short, read_entry, read_numbers}
+use Rattle.text.specs.Line.{Reading, ender, stops_short, read_entry, read_numbers}
+use Rattle.text.specs.Read.{shift_by}
 use Rattle.text.specs.Line.{entry_text, closer, numbers_text}
 use Rattle.ground.proofs.Booleans.{both_hold, false_true, by_test}
 use Rattle.text.proofs.Line.{numbers_short, numbers_whole, short_spare}

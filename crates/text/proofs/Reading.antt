@@ -14,7 +14,8 @@ use Rattle.text.specs.Read.{LineRead}
 use Rattle.text.specs.Read.{Taken, Fault}
 use Rattle.text.specs.Quoted.{tab, feed}
 use Rattle.text.specs.declared.Limit.{Limit}
-use Rattle.text.specs.Line.{Reading, Reads, shift_by, after, nothing, refused, ender, stops_short, on_entry}
+use Rattle.text.specs.Line.{Reading, Reads, after, nothing, refused, ender, stops_short, on_entry}
+use Rattle.text.specs.Read.{shift_by}
 use Rattle.text.specs.Line.{read_entry, read_numbers}
 use Rattle.ground.proofs.Stores.{sets_snoc}
 use Rattle.text.proofs.Limits.{limit_at, limits_more, limits_end}

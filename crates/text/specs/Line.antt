@@ -10,7 +10,7 @@ use Rattle.text.specs.Field.{field_of, begins, agreed}
 use Rattle.text.specs.Number.{NumberRead, number_of, digits_of}
 use Rattle.text.specs.declared.Limit.{Limit}
 use Rattle.text.specs.Limit.{or_none, is_none, within, spare}
-use Rattle.text.specs.Read.{EntryRead, Number, Misread, LineRead, Taken, Fault}
+use Rattle.text.specs.Read.{EntryRead, Number, Misread, LineRead, Taken, Fault, shift_by}
 
 -- a line's form
 pub record Line : Type 0 where
@@ -41,11 +41,6 @@ refused number at = record { ended = Fault number at; numbers = [] }
 
 abbrev pub nothing : Reading
 nothing = record { ended = Taken 0; numbers = [] }
-
--- how a reading ended, told from a start k bytes before it
-abbrev pub shift_by : ℕ → LineRead → LineRead
-shift_by k (Taken n) = Taken (k + n)
-shift_by k (Fault number at) = Fault number (k + at)
 
 -- the first k bytes gave ns; then p was read
 abbrev pub after : List ℕ → ℕ → Reading → Reading

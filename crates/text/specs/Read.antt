@@ -1,6 +1,6 @@
 -- How the reading of a number with its end, of a line, and of a whole text ended: what was taken, or a refusal's number
 -- with the place of the first byte at fault.
-use Rattle.std.specs.Prelude.{ℕ, Result, Ok, Err}
+use Rattle.std.specs.Prelude.{ℕ, ◌+◌, Result, Ok, Err}
 use Rattle.answers.specs.declared.TextFault.{TextFault}
 use Rattle.answers.specs.Refusals.{number}
 use Rattle.text.specs.declared.Taken as Code
@@ -15,6 +15,16 @@ pub data EntryRead : Type 0 where
 pub data LineRead : Type 0 where
   Taken : ℕ → LineRead
   Fault : ℕ → ℕ → LineRead
+
+-- the place in the text that was reached
+abbrev pub reached : LineRead → ℕ
+reached (Taken k) = k
+reached (Fault number at) = at
+
+-- how a reading ended, told from a start k bytes before it
+abbrev pub shift_by : ℕ → LineRead → LineRead
+shift_by k (Taken n) = Taken (k + n)
+shift_by k (Fault number at) = Fault number (k + at)
 
 -- a count of what the text says, the words of a sheet or rows; or the refusal with its line and byte
 pub data TextRead : Type 0 where

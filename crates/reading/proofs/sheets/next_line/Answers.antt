@@ -3,7 +3,8 @@ use Rattle.text.specs.Read.{LineRead}
 use mathlib.Core.Path.{◌≡◌}
 use Prim.Native.Nat.{◌-◌}
 use lib.ListN.{take, drop}
-use Rattle.text.specs.Line.{line_of, shift_by}
+use Rattle.text.specs.Line.{line_of}
+use Rattle.text.specs.Read.{shift_by}
 use Rattle.ground.proofs.Stores.{put_back}
 use Rattle.sheet.proofs.Table.{rows_long}
 use Rattle.sheet.specs.Sheet.{limit_rows}

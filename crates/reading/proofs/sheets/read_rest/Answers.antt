@@ -2,7 +2,7 @@
 use Rattle.text.specs.Read.{LineRead}
 use mathlib.Core.Path.{◌≡◌}
 use mathlib.Core.List.{[]}
-use Rattle.text.specs.Line.{shift_by}
+use Rattle.text.specs.Read.{shift_by}
 use Rattle.reading.specs.Filled.{Filled}
 use Rattle.reading.specs.Steps.{rest_on}
 use Rattle.reading.proofs.Rest.{rest_fault, rest_read}

@@ -6,6 +6,8 @@ use native.Mathlib.Omega.{arith}
 use Rattle.ground.proofs.Results.{was_ok, sent}
 use Rattle.ground.proofs.Stores.{rest_part}
 use Rattle.std.specs.Prelude.{Err}
+use Rattle.text.specs.declared.Fault.{Fault}
+use Rattle.text.specs.Read.{entry_told}
 use Rattle.text.specs.Number.{NumberRead}
 use Rattle.text.specs.Field.{begins}
 use Rattle.text.proofs.Field.{field_most}
@@ -43,7 +45,8 @@ found c e =
 pub returns-in_err-n : goal.returns-in_err-n
 returns-in_err-n c =
     let k = sent _ c.map_err.ensures.cases c.from_residual.result c.in_err-n.was c.from_residual.ensures.1 in
-    rw (k.2 ∙ ap Err k.3) (sym (no_number (found (goal.at.returns-in_err-n c).After-read_number k.1)))
+    let gone = no_number (found (goal.at.returns-in_err-n c).After-read_number k.1) in
+    rw k.2 (ap (λ (f : Fault). entry_told (Err f)) k.3 ∙ sym gone)
 
 pub slice_bounds-starts-count-2 : goal.slice_bounds-starts-count-2
 slice_bounds-starts-count-2 c = omega (arith, field_most c.args.text.now, ap length c.find_field-f.ensures)
