@@ -36,8 +36,10 @@ fn read_rows(text: &[u8], powers: &mut [u32], weights: &mut [u32]) -> Result<usi
                 rule: Rule::Plain,
             },
         ];
-        let ([power, weight, _], len) =
-            read_row(b"ENG\t", &limits, &text[at..]).map_err(|fault| fault.after(at))?;
+        let ([power, weight, _], len) = match read_row(b"ENG\t", &limits, &text[at..]) {
+            Ok(row) => row,
+            Err(fault) => return Err(fault.after(at)),
+        };
         powers[row] = power;
         weights[row] = weight;
         next = power + 1;
@@ -65,7 +67,10 @@ pub fn read_columns(
     if text.len() > MOST_TEXT {
         return Err(TextFault::TOO_LONG);
     }
-    read_rows(text, powers, weights).map_err(|fault| spelling::wrong_at(fault, text))
+    match read_rows(text, powers, weights) {
+        Ok(rows) => Ok(rows),
+        Err(fault) => Err(spelling::wrong_at(fault, text)),
+    }
 }
 
 // Reads engine rows from a text of at most 4,096 bytes into two lent slices and answers how many there are. A refusal,

@@ -39,9 +39,10 @@ fn read_line(
         range.start words.old (line_told result) words.new }
 {
     let into = &mut words[range.start..];
-    let len = spelling::read_line(tag, &LIMITS[range], &text[at..], into)
-        .map_err(|fault| fault.after(at))?;
-    Ok(at + len)
+    spelling::told_after(
+        at,
+        spelling::read_line(tag, &LIMITS[range], &text[at..], into),
+    )
 }
 
 // Reads the lines HULL to SEAT, and answers the place after them. The words are all 0 before it.
@@ -83,8 +84,10 @@ fn read_fits(text: &[u8], fits: &mut [u32]) -> Result<usize, Fault>
             FIT_WEIGHT,
             FIT_COUNT,
         ];
-        let ([line, weight, count], len) =
-            read_row(b"FIT\t", &limits, &text[at..]).map_err(|fault| fault.after(at))?;
+        let ([line, weight, count], len) = match read_row(b"FIT\t", &limits, &text[at..]) {
+            Ok(row) => row,
+            Err(fault) => return Err(fault.after(at)),
+        };
         let word = 2 * (line as usize - 1);
         fits[word] = weight;
         fits[word + 1] = count;
@@ -115,8 +118,7 @@ fn read_rest(text: &[u8], fits: &mut [u32]) -> Result<usize, Fault>
     ensures { Filled (rest_on [] text.now) text.now (line_told result) fits.new }
 {
     let at = read_fits(text, fits)?;
-    let len = read_end(&text[at..]).map_err(|fault| fault.after(at))?;
-    Ok(at + len)
+    spelling::told_after(at, read_end(&text[at..]))
 }
 
 // Reads every part of a sheet. The words are all 0 before it.
@@ -125,8 +127,7 @@ fn read_parts(text: &[u8], words: &mut [u32]) -> Result<usize, Fault>
     ensures { Filled (rest_on lines text.now) text.now (line_told result) words.new }
 {
     let at = read_lines(text, words)?;
-    let len = read_rest(&text[at..], &mut words[LINE_WORDS..]).map_err(|fault| fault.after(at))?;
-    Ok(at + len)
+    spelling::told_after(at, read_rest(&text[at..], &mut words[LINE_WORDS..]))
 }
 
 // Reads a sheet from a text of at most 4,096 bytes and answers how many words it has. They are all 0 before it.
@@ -137,8 +138,10 @@ pub fn read_words(text: &[u8], words: &mut [u32]) -> Result<usize, TextFault>
     if text.len() > MOST_TEXT {
         return Err(TextFault::TOO_LONG);
     }
-    read_parts(text, words).map_err(|fault| spelling::wrong_at(fault, text))?;
-    Ok(TEXT_WORDS)
+    match read_parts(text, words) {
+        Ok(_) => Ok(TEXT_WORDS),
+        Err(fault) => Err(spelling::wrong_at(fault, text)),
+    }
 }
 
 // Reads a sheet, its HULL number first, from a text of at most 4,096 bytes. A refusal, 2 or 3 with its place, leaves
