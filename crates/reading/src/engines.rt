@@ -73,10 +73,7 @@ pub fn read_engines(text: &[u8], powers: &mut [u32], weights: &mut [u32]) -> Ans
     match read_columns(text, &mut read_powers, &mut read_weights) {
         TextRead::Wrong(refusal, line, byte) => Answer::RefusedAt(refusal, line, byte),
         TextRead::Whole(rows) => {
-            if powers.len() < rows {
-                return Answer::Refused(NO_ROOM);
-            }
-            if weights.len() < rows {
+            if powers.len() < rows || weights.len() < rows {
                 return Answer::Refused(NO_ROOM);
             }
             ground::copy_numbers(&read_powers[..rows], powers);
