@@ -33,7 +33,3 @@ pub record Upto (n : ℕ) (s so : List ℕ) : Type 0 where
 -- the text of the fitting lines from n on
 abbrev pub fits_text : ℕ → List ℕ → List ℕ
 fits_text n s = rows_text fit_part.kinds (fit_rows n s)
-
--- the text of what follows the line SEAT: of the fittings, and END
-abbrev pub rest_text : List ℕ → List ℕ
-rest_text s = parts_text last_parts (rows_on [] s)
