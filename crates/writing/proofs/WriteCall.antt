@@ -2,23 +2,22 @@
 use mathlib.Core.Path.{◌≡◌, sym, ap, ◌∙◌}
 use mathlib.Core.Bool.{true}
 use mathlib.Core.List.{List, [], ◌++◌, append_assoc}
-use Prim.Native.Nat.{ℕ, ◌+◌, ◌-◌, ◌*◌, ◌≤◌, ◌<◌}
+use Prim.Native.Nat.{ℕ, ◌+◌, ◌-◌, ◌≤◌}
 use native.Mathlib.Omega.{arith}
-use borrow.Author.Tests.{le-leb, lt-leb}
-use lib.ListN.{length, take, drop, length-append, length-drop}
+use borrow.Author.Tests.{le-leb}
+use lib.ListN.{length, take, drop, length-append}
 use lib.Seq.{sets}
 use Rattle.text.specs.Line.{line_text}
 use Rattle.ground.proofs.Stores.{rest_part, sets_start}
-use Rattle.answers.specs.Answer.{Refused, Count}
-use Rattle.answers.specs.Refusals.{no_room}
+use Rattle.answers.specs.Answer.{Count}
 use Rattle.answers.specs.Settled.{Settled}
-use Rattle.sheet.specs.Lines.{fittings, end_line}
+use Rattle.sheet.specs.Lines.{end_line}
 use Rattle.sheet.specs.Sheet.{sheet_ok}
-use Rattle.sheet.specs.Places.{text_words, fittings_at}
+use Rattle.sheet.specs.Places.{fittings_at}
 use Rattle.sheet.specs.SheetText.{sheet_text}
 use Rattle.sheet.specs.TextCalls.{write_answer, write_into}
-use Rattle.sheet.proofs.Writing.{text_fits}
-use Rattle.writing.specs.Pieces.{fits_text, rest_text}
+use Rattle.sheet.proofs.Writing.{text_on, text_fits}
+use Rattle.writing.specs.Pieces.{fits_text}
 
 -- ---- a whole sheet
 
@@ -30,14 +29,11 @@ fits_from = 1 + fittings_at
 abbrev pub fits_of : List ℕ → List ℕ
 fits_of s = take (length s - fits_from) (drop fits_from s)
 
-pub fits_many : (s : List ℕ) → length s ≡ text_words → length (fits_of s) ≡ 2 * fittings
-fits_many s n = ap length (rest_part s fits_from) ∙ length-drop fits_from s ∙ rw n
-
 -- after the lines so, the fittings and END make the text
-module _ (s so : List ℕ) (p : so ++ rest_text (drop fits_from s) ≡ sheet_text s) where
+module _ (s so : List ℕ) (p : so ++ text_on [] (drop fits_from s) ≡ sheet_text s) where
   pub parted : (so ++ fits_text 1 (fits_of s)) ++ line_text end_line [] ≡ sheet_text s
   parted =
-      let rest : fits_text 1 (fits_of s) ++ line_text end_line [] ≡ rest_text (drop fits_from s) =
+      let rest : fits_text 1 (fits_of s) ++ line_text end_line [] ≡ text_on [] (drop fits_from s) =
       rw (rest_part s fits_from) (sym (text_fits (drop fits_from s))) in
       append_assoc so (fits_text 1 (fits_of s)) (line_text end_line []) ∙ ap (λ (x : List ℕ). so ++ x) rest ∙ p
 
@@ -51,11 +47,6 @@ module _ (s so : List ℕ) (p : so ++ rest_text (drop fits_from s) ≡ sheet_tex
 -- ---- the call, where the sheet is within the limits and text is its text
 
 module _ (s o : List ℕ) {text : List ℕ} (ok : sheet_ok s ≡ true) (e : text ≡ sheet_text s) where
-  pub settled_short : length o < length text → Settled (write_answer s (length o)) (write_into s o) (Refused no_room) o
-  settled_short h =
-      let n = lt-leb (length (sheet_text s)) (length o) (omega (arith, ap length e)) in
-      record { answered = rw (ok, n); kept = rw (ok, n) }
-
   pub settled_written : {o₁ : List ℕ} → length text ≤ length o
       → o₁ ≡ sets o 0 text
       → Settled (write_answer s (length o)) (write_into s o) (Count (length text)) o₁

@@ -3,14 +3,13 @@
 
 mod page;
 
-ghost use Rattle.std.specs.Prelude.{◌≡◌, [], ◌∷◌, ◌++◌, ◌+◌, ◌*◌, ◌≤◌, length, drop};
-ghost use Rattle.text.specs.Line.{line_text};
+ghost use Rattle.std.specs.Prelude.{◌≡◌, [], ◌∷◌, ◌++◌, ◌+◌, ◌*◌, ◌≤◌, length};
 ghost use Rattle.answers.specs.Settled.{Settled};
 ghost use Rattle.sheet.specs.Lines.{fittings};
-ghost use Rattle.sheet.specs.Places.{text_words, fittings_at};
+ghost use Rattle.sheet.specs.Places.{text_words};
 ghost use Rattle.sheet.specs.SheetText.{sheet_text};
 ghost use Rattle.sheet.specs.TextCalls.{write_answer, write_into};
-ghost use Rattle.writing.specs.Pieces.{line_from, Due, fits_text, rest_text};
+ghost use Rattle.writing.specs.Pieces.{Next, Upto, fits_text};
 
 use crate::page::Page;
 use answers::{Answer, NO_ROOM, OUTSIDE_LIMITS};
@@ -21,21 +20,21 @@ use sheet::{
 use std::ops::Range;
 use text::PLAIN;
 
-// Adds the line of a tag and of some words of a sheet.
+// Adds the line of a tag and of some words of a sheet, which is the next one.
 fn add_words(page: &mut Page, tag: &[u8], sheet: &[u32], words: Range<usize>)
-    requires { Due tag.now sheet.now words.start words.end page.old }
-    ensures { page.new ≡ page.old ++ line_text (line_from tag.now words.start words.end) (drop words.start sheet.now) }
+    requires next { Next tag.now words.start words.end }
+    requires so_far { Upto words.start sheet.now page.old }
+    ensures { Upto words.end sheet.now page.new }
 {
     let numbers = &sheet[words.start..];
     page.add(tag, &LIMITS[words], numbers);
 }
 
-// Adds the lines HULL to SEAT to an empty page.
+// Adds the lines HULL to SEAT.
+#[tactic(auto, unfolding(sheet::specs::Sheet::limit_rows, sheet::specs::Sheet::limits_on))]
 fn add_lines(page: &mut Page, sheet: &[u32])
-    requires empty { page.old ≡ [] }
-    requires many { length sheet.now ≡ text_words }
-    requires room { length (sheet_text sheet.now) ≤ SHEET_TEXT }
-    ensures { page.new ++ rest_text (drop (1 + fittings_at) sheet.now) ≡ sheet_text sheet.now }
+    requires { Upto HULL_LINE sheet.now page.old }
+    ensures { Upto LINE_WORDS sheet.now page.new }
 {
     add_words(page, b"HULL\t", sheet, HULL_LINE..FORM_LINE);
     add_words(page, b"FORM\t", sheet, FORM_LINE..Q_LINE);
