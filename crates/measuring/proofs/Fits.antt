@@ -1,11 +1,11 @@
 -- The fitting lines, judged one by one.
-use mathlib.Core.Path.{◌≡◌, sym, ◌∙◌}
+use mathlib.Core.Path.{◌≡◌, refl, sym, ◌∙◌}
 use mathlib.Core.Logic.{◌≢◌}
 use mathlib.Core.Bool.{true, false, ◌&&◌}
 use mathlib.Core.List.{List}
-use Prim.Native.Nat.{ℕ, zero, suc, ◌+◌, ◌-◌, ◌*◌, ◌≤◌, ◌<◌}
+use Prim.Native.Nat.{ℕ, suc, ◌+◌, ◌-◌, ◌*◌, ◌≤◌, ◌<◌}
 use native.Mathlib.Omega.{arith}
-use borrow.Author.Tests.{ne_eqb, le-leb, lt-leb}
+use borrow.Author.Tests.{eqb-true, eqb-false, ne_eqb, le-leb, lt-leb}
 use lib.Dec.{eqb, leb}
 use lib.ListN.{length, drop, get_or, drop_of_length-le}
 use Rattle.text.specs.Limit.{all_hold}
@@ -17,25 +17,28 @@ use Rattle.sheet.proofs.FitRow.{Pieces, fit_pieces, pieces_fit}
 
 -- ---- one line
 
-pub fit_empty : (w c : ℕ) → w ≡ 0 → eqb c 0 ≡ fit_ok w c
-unfolding all_hold
-fit_empty w zero e = rw e
-fit_empty w (suc c) e = rw (e, ne_eqb (suc c) 0 (λ z. omega arith))
+fit_fails : (w c : ℕ) → (w ≡ 0 → ⊥) → (Pieces w c → ⊥) → false ≡ fit_ok w c
+fit_fails w c some n = by_test (fit_ok w c) (λ e. absurd (n (fit_pieces w c (ne_eqb w 0 some) e))) sym
 
-module _ (w c : ℕ) (some : w ≢ 0) where
-  fit_fails : (Pieces w c → ⊥) → false ≡ fit_ok w c
-  fit_fails n = by_test (fit_ok w c) (λ e. absurd (n (fit_pieces w c (ne_eqb w 0 some) e))) sym
+pub fit_uncounted : (w c : ℕ) → c ≡ 0 → eqb w 0 ≡ fit_ok w c
+fit_uncounted w c z =
+    by_test (eqb w 0) (λ e. rw (e, z) refl)
+    (λ e. e ∙ fit_fails w c (eqb-false w 0 e) (λ p. omega (arith, p.counted.least)))
 
-  pub fit_uncounted : c ≡ 0 → false ≡ fit_ok w c
-  fit_uncounted z = fit_fails (λ p. omega (arith, p.counted.least))
+module _ (w c : ℕ) (counted : c ≢ 0) where
+  pub fit_unweighed : w ≡ 0 → false ≡ fit_ok w c
+  unfolding all_hold
+  fit_unweighed z = rw (z, ne_eqb c 0 counted) refl
 
   pub fit_many : fitting_count < c → false ≡ fit_ok w c
-  fit_many h = fit_fails (λ p. omega (arith, p.counted.most))
+  fit_many h =
+      by_test (eqb w 0) (λ e. fit_unweighed (eqb-true w 0 e))
+      (λ e. fit_fails w c (eqb-false w 0 e) (λ p. omega (arith, p.counted.most)))
 
-  pub fit_tells : c ≢ 0 → c ≤ fitting_count → leb (w * c) fitting_high ≡ fit_ok w c
-  fit_tells counted few =
+  pub fit_tells : w ≢ 0 → c ≤ fitting_count → leb (w * c) fitting_high ≡ fit_ok w c
+  fit_tells some few =
       by_less fitting_high (w * c)
-      (λ h. lt-leb (w * c) fitting_high h ∙ fit_fails (λ p. omega (arith, p.counted.product)))
+      (λ h. lt-leb (w * c) fitting_high h ∙ fit_fails w c some (λ p. omega (arith, p.counted.product)))
       (λ h.
       let p : Pieces w c =
       record { some = omega arith; counted = record { least = omega arith; most = few; product = h } } in

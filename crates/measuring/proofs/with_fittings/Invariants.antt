@@ -7,10 +7,6 @@ use Rattle.measuring.proofs.with_fittings.Given as goal
 
 abbrev pub invariant-loop-line : goal.invariant-loop-line
 invariant-loop-line l =
-    (l.line ≤ fittings)
-    × (fits_ok fittings l.fits ≡ fits_ok (fittings - l.line) (drop (2 * l.line) l.fits))
+    (fits_ok fittings l.fits ≡ fits_ok (fittings - l.line) (drop (2 * l.line) l.fits))
     × (l.total + added_up (drop (2 * l.line) l.fits) ≡ l.bare + added_up l.fits)
     × (l.total ≤ l.bare + fitting_high * l.line)
-
-abbrev pub decreases-loop-line : goal.decreases-loop-line
-decreases-loop-line l = fittings - l.line
