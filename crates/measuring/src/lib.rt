@@ -98,9 +98,8 @@ fn with_fittings(bare: u32, fits: &[u32]) -> Option<u32>
     ensures { result ≡ cond (fits_ok fittings fits.now) (Some (bare + added_up fits.now)) None }
 {
     let mut total = bare as u64;
-    for line in 0..FITTINGS {
-        let weight = fits[2 * line];
-        let count = fits[2 * line + 1];
+    let (lines, _) = fits.as_chunks::<2>();
+    for &[weight, count] in lines {
         if !fit_ok(weight, count) {
             return None;
         }
