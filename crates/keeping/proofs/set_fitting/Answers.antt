@@ -7,15 +7,15 @@ use Rattle.keeping.proofs.set_fitting.Goals as goal
 pub overflow_mul-boat-2 : goal.overflow_mul-boat-2
 overflow_mul-boat-2 c =
     let weighed = line_weighs c.args.mem.now c.args.desk c.args.line c.requires.line.first c.requires.line.last in
-    omega arith
+    rw c.fitting_word.ensures (omega arith)
 
 pub overflow_sub-boat : goal.overflow_sub-boat
 overflow_sub-boat c =
     let weighed = line_weighs c.args.mem.now c.args.desk c.args.line c.requires.line.first c.requires.line.last in
-    omega arith
+    rw c.fitting_word.ensures (omega arith)
 
 pub returns : goal.returns
 unfolding fitted
 returns c =
     let weighed = line_weighs c.args.mem.now c.args.desk c.args.line c.requires.line.first c.requires.line.last in
-    rw (← weighed, add-one)
+    rw (c.fitting_word.ensures, ← weighed, add-one)
