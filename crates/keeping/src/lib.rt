@@ -164,6 +164,7 @@ fn fitting_word(line: u32) -> usize
 // ---- the changes
 
 // Copies a sheet, with the weight before it, from one place to another that it does not overlap.
+#[tactic(auto, using(crate::proofs::Writes::copied_as))]
 fn copy_weighed(mem: &mut [u32], from: usize, to: usize)
     requires { ToCopy mem.old from to }
     ensures { mem.new ≡ sets mem.old to (part mem.old from weighed_words) }
@@ -181,6 +182,7 @@ fn lay_weighed(mem: &mut [u32], at: usize, weight: u32, sheet: &[u32])
 }
 
 // Enters a new hull, of a boat that weighs so much, with edit number 0, and answers its number.
+#[tactic(auto, using(crate::proofs::Writes::entered_as))]
 pub fn enter_hull(mem: &mut [u32], weight: u32, sheet: &[u32]) -> u32
     requires { ToEnter mem.old weight sheet.now }
     ensures value { result ≡ hull_count mem.old }
@@ -195,6 +197,7 @@ pub fn enter_hull(mem: &mut [u32], weight: u32, sheet: &[u32]) -> u32
 }
 
 // Opens a hull at a desk, whose draft is then the hull's sheet and weight, and answers the hull's edit number.
+#[tactic(auto, using(crate::proofs::Writes::opened_as))]
 pub fn open_draft(mem: &mut [u32], desk: u32, hull: u32) -> u32
     requires { ToOpen mem.old desk hull }
     ensures value { result ≡ edit mem.old hull }
@@ -212,6 +215,7 @@ pub fn open_draft(mem: &mut [u32], desk: u32, hull: u32) -> u32
 
 // Sets the weight of one piece on a fitting line of a desk's draft, and how many there are; both 0 for an empty line.
 // The boat's weight moves by the difference.
+#[tactic(auto, using(memory::proofs::Fittings::line_weighs), unfolding(memory::specs::Updates::fitted))]
 pub fn set_fitting(mem: &mut [u32], desk: u32, line: u32, weight: u32, count: u32)
     requires { ToSet mem.old desk line weight count }
     ensures { mem.new ≡ fitted mem.old desk line weight count }
@@ -225,6 +229,7 @@ pub fn set_fitting(mem: &mut [u32], desk: u32, line: u32, weight: u32, count: u3
 }
 
 // Makes a desk's draft another sheet, of a boat that weighs so much.
+#[tactic(auto, using(crate::proofs::Writes::replaced_as))]
 pub fn replace_sheet(mem: &mut [u32], desk: u32, weight: u32, sheet: &[u32])
     requires { ToReplace mem.old desk weight sheet.now }
     ensures { mem.new ≡ replaced mem.old desk sheet.now }
@@ -238,6 +243,7 @@ pub fn replace_sheet(mem: &mut [u32], desk: u32, weight: u32, sheet: &[u32])
 }
 
 // Ends a desk's draft.
+#[tactic(auto, unfolding(memory::specs::Updates::dropped))]
 pub fn drop_draft(mem: &mut [u32], desk: u32)
     requires { AtDesk mem.old desk }
     ensures { mem.new ≡ dropped mem.old desk }
@@ -246,6 +252,7 @@ pub fn drop_draft(mem: &mut [u32], desk: u32)
 }
 
 // Saves a desk's draft as its hull's sheet and weight and ends it; answers the hull's edit number, which is one more.
+#[tactic(auto, using(crate::proofs::Writes::saved_as))]
 pub fn save_draft(mem: &mut [u32], desk: u32) -> u32
     requires { ToSave mem.old desk }
     ensures value { result ≡ edit mem.old (draft_hull mem.old desk) + 1 }
