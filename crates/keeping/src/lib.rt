@@ -6,10 +6,10 @@ ghost use Rattle.std.specs.Prelude.{◌≡◌, ℕ, List, ◌+◌, ◌*◌, ◌�
 ghost use Rattle.std.proofs.lemmas.List.Edits.{sets};
 ghost use Rattle.sheet.specs.Lines.{fittings};
 ghost use Rattle.sheet.specs.Places.{sheet_words, fitting_word};
-ghost use Rattle.memory.specs.Layout.{most_hulls, desks, hull_words, draft_words, register_words, weighed_words, part};
+ghost use Rattle.memory.specs.Layout.{Sized, most_hulls, desks, hull_words, draft_words, register_words, weighed_words, part};
 ghost use Rattle.memory.specs.Layout.{hull_count, edit, hull_weight, hull_sheet};
 ghost use Rattle.memory.specs.Layout.{held, draft_hull, opening, draft_weight, draft_sheet, fitting};
-ghost use Rattle.memory.specs.Asked.{AtDesk, ToEnter, ToOpen, ToSet, ToReplace, ToSave, ToLay, ToCopy};
+ghost use Rattle.memory.specs.Asked.{AtHull, AtDesk, ToEnter, ToOpen, ToSet, ToReplace, ToSave, ToLay, ToCopy};
 ghost use Rattle.memory.specs.Updates.{entered, opened, fitted, replaced, dropped, saved};
 
 use memory::{
@@ -20,6 +20,14 @@ use sheet::{FITTED, SHEET_WORDS};
 
 // A memory of the right size.
 pub type Memory = [u32; REGISTER_WORDS];
+
+// A memory of the right size, lent on as what it is.
+pub fn whole(mem: &[u32]) -> &Memory
+    requires { Sized mem.now }
+    ensures { result.now ≡ mem.now }
+{
+    mem.as_array::<REGISTER_WORDS>().unwrap()
+}
 
 // ---- the words of each slot
 
@@ -63,7 +71,18 @@ pub struct Hull<'a> {
     pub ghost there: { number < most_hulls },
 }
 
-impl Hull<'_> {
+impl<'a> Hull<'a> {
+    // That of a memory of the right size.
+    pub fn of(mem: &'a [u32], number: u32) -> Self
+        requires { AtHull mem.now number }
+        ensures { (result.mem.now ≡ mem.now) × (result.number ≡ number) }
+    {
+        Hull {
+            mem: whole(mem),
+            number,
+        }
+    }
+
     // How far its words stand from those of hull 0.
     fn offset(&self) -> usize
         ensures { result ≡ hull_words * self.now.number }
@@ -101,7 +120,18 @@ pub struct Desk<'a> {
     pub ghost there: { number < desks },
 }
 
-impl Desk<'_> {
+impl<'a> Desk<'a> {
+    // That of a memory of the right size.
+    pub fn of(mem: &'a [u32], number: u32) -> Self
+        requires { AtDesk mem.now number }
+        ensures { (result.mem.now ≡ mem.now) × (result.number ≡ number) }
+    {
+        Desk {
+            mem: whole(mem),
+            number,
+        }
+    }
+
     // How far its words stand from those of desk 0.
     fn offset(&self) -> usize
         ensures { result ≡ draft_words * self.now.number }
