@@ -21,12 +21,13 @@ use sheet::{FITTED, SHEET_WORDS};
 // A memory of the right size.
 pub type Memory = [u32; REGISTER_WORDS];
 
-// A memory of the right size, lent on as what it is.
+// A memory of the right size, lent on as what it is: the one chunk that it has, so that its length is not asked again.
 pub fn whole(mem: &[u32]) -> &Memory
     requires { Sized mem.now }
     ensures { result.now ≡ mem.now }
 {
-    mem.as_array::<REGISTER_WORDS>().unwrap()
+    let (chunks, _) = mem.as_chunks::<REGISTER_WORDS>();
+    &chunks[0]
 }
 
 // ---- the words of each slot
