@@ -4,8 +4,8 @@
 
 ghost use Rattle.std.specs.Prelude.{◌<◌, ◌≡◌, ◌∷◌, length};
 ghost use Rattle.sheet.specs.Places.{sheet_words};
-ghost use Rattle.memory.specs.Layout.{most_hulls, hull_weight, hull_sheet, draft_hull, draft_weight, draft_sheet};
-ghost use Rattle.memory.specs.Asked.{AtHull, AtDesk};
+ghost use Rattle.memory.specs.Layout.{most_hulls, draft_hull, draft_sheet};
+ghost use Rattle.memory.specs.Asked.{AtDesk};
 ghost use Rattle.capacity.specs.Kinds.{kind_a, kind_c, kind_u};
 ghost use Rattle.register.specs.Refusals.{hull_refusal, desk_refusal, room_refusal, open_refusal, set_own, save_own};
 ghost use Rattle.register.specs.Calls.{set_fitting, replace, try_plate, plate, weigh, write, new_hull, open_hull, work};
@@ -15,13 +15,15 @@ use answers::{
     Answer, BAD_MEMORY, EDITED_SINCE, EDITS_SPENT, EMPTY_LINE, FULL, NO_DESK, NO_DRAFT, NO_HULL,
     OUTSIDE_LIMITS,
 };
+use keeping::{Desk, Hull, Slot};
 use memory::{COUNT, DESKS, MOST_EDITS, MOST_HULLS, REGISTER_WORDS};
-use sheet::{FITTING_LINES, TEXT_WORDS};
+use sheet::{FITTING_LINES, IN_TEXT, TEXT_WORDS};
 use text::TextRead;
 
 // ---- the shared checks; 0 where nothing is refused
 
 // What refuses a call on a hull: the memory first, then the hull.
+#[tactic(auto, using(crate::proofs::Sheets::sized), unfolding(register::specs::Refusals::hull_refusal))]
 fn hull_refusal(mem: &[u32], hull: u32) -> u32
     ensures { result ≡ hull_refusal mem.now hull }
 {
@@ -33,15 +35,15 @@ fn hull_refusal(mem: &[u32], hull: u32) -> u32
 }
 
 // What refuses a call on a desk's draft: the memory first, then the desk, then that it holds no draft.
+#[tactic(auto, using(crate::proofs::Sheets::sized), unfolding(register::specs::Refusals::desk_refusal))]
 fn desk_refusal(mem: &[u32], desk: u32) -> u32
     ensures { result ≡ desk_refusal mem.now desk }
 {
     if judging::is_formed(mem) {
-        let d = desk as usize;
-        if DESKS <= d {
+        if DESKS as u32 <= desk {
             return NO_DESK;
         }
-        if keeping::held(mem, d) == 0 {
+        if Desk::of(mem, desk).held() == 0 {
             NO_DRAFT
         } else {
             0
@@ -49,41 +51,6 @@ fn desk_refusal(mem: &[u32], desk: u32) -> u32
     } else {
         BAD_MEMORY
     }
-}
-
-// ---- the weights and sheets that the calls read, once nothing refuses them
-
-// What a hull's boat weighs. Nothing is asked of the memory but its size, so that only the word that is held will do;
-// and so below.
-fn hull_weight(mem: &[u32], hull: u32) -> u32
-    requires { AtHull mem.now hull }
-    ensures { result ≡ hull_weight mem.now hull }
-{
-    keeping::hull_weight(mem, hull as usize)
-}
-
-// A hull's sheet, still the caller's own words.
-fn hull_sheet(mem: &[u32], hull: u32) -> &[u32]
-    requires { hull_refusal mem.now hull ≡ 0 }
-    ensures { result.now ≡ hull_sheet mem.now hull }
-{
-    keeping::hull_sheet(mem, hull as usize)
-}
-
-// What the boat of a desk's draft weighs.
-fn draft_weight(mem: &[u32], desk: u32) -> u32
-    requires { AtDesk mem.now desk }
-    ensures { result ≡ draft_weight mem.now desk }
-{
-    keeping::draft_weight(mem, desk as usize)
-}
-
-// The sheet of a desk's draft, still the caller's own words.
-fn draft_sheet(mem: &[u32], desk: u32) -> &[u32]
-    requires { desk_refusal mem.now desk ≡ 0 }
-    ensures { result.now ≡ draft_sheet mem.now desk }
-{
-    keeping::draft_sheet(mem, desk as usize)
 }
 
 // ---- hulls
@@ -95,16 +62,17 @@ pub fn fresh(mem: &mut [u32]) -> Answer
     if mem.len() != REGISTER_WORDS {
         return Answer::Refused(BAD_MEMORY);
     }
-    keeping::clear(mem);
+    mem.fill(0);
     Answer::Done
 }
 
 // What refuses a new hull before its text is read: the memory first, then a full register.
+#[tactic(auto, using(crate::proofs::Sheets::sized), unfolding(register::specs::Refusals::room_refusal))]
 fn room_refusal(mem: &[u32]) -> u32
     ensures { result ≡ room_refusal mem.now }
 {
     if judging::is_formed(mem) {
-        if keeping::hull_count(mem) < MOST_HULLS {
+        if mem[COUNT] < MOST_HULLS as u32 {
             0
         } else {
             FULL
@@ -118,7 +86,7 @@ fn room_refusal(mem: &[u32]) -> u32
 pub fn new_hull(mem: &mut [u32], text: &[u8]) -> Answer
     ensures { Changes (step mem.old (new_hull text.now)) result mem.new }
 {
-    let refusal = room_refusal(&mem[..]);
+    let refusal = room_refusal(mem);
     if refusal != 0 {
         return Answer::Refused(refusal);
     }
@@ -126,13 +94,14 @@ pub fn new_hull(mem: &mut [u32], text: &[u8]) -> Answer
     match reading::read_words(text, &mut words) {
         TextRead::Wrong(fault, line, byte) => Answer::RefusedAt(fault, line, byte),
         TextRead::Whole(_) => {
-            let weight = measuring::weigh(&words[1..]);
+            let weight = measuring::weigh(&words[1..]).unwrap();
             Answer::Count(keeping::enter_hull(mem, weight, &words[1..]))
         }
     }
 }
 
 // Plate A of a hull.
+#[tactic(auto, using(crate::proofs::Sheets::at_hull, crate::proofs::Sheets::hull_in_limits))]
 pub fn plate_a(mem: &[u32], hull: u32) -> Answer
     ensures { result ≡ (step mem.now (ask hull (plate kind_a))).answer }
 {
@@ -140,10 +109,12 @@ pub fn plate_a(mem: &[u32], hull: u32) -> Answer
     if refusal != 0 {
         return Answer::Refused(refusal);
     }
-    figuring::plate_a(hull_weight(mem, hull), hull_sheet(mem, hull))
+    let hull = Hull::of(mem, hull);
+    figuring::plate_a(hull.weight(), hull.sheet())
 }
 
 // Plate C of a hull.
+#[tactic(auto, using(crate::proofs::Sheets::at_hull, crate::proofs::Sheets::hull_in_limits))]
 pub fn plate_c(mem: &[u32], hull: u32, powers: &[u32], weights: &[u32]) -> Answer
     ensures { result
         ≡ (step mem.now
@@ -153,15 +124,12 @@ pub fn plate_c(mem: &[u32], hull: u32, powers: &[u32], weights: &[u32]) -> Answe
     if refusal != 0 {
         return Answer::Refused(refusal);
     }
-    figuring::plate_c(
-        hull_weight(mem, hull),
-        hull_sheet(mem, hull),
-        powers,
-        weights,
-    )
+    let hull = Hull::of(mem, hull);
+    figuring::plate_c(hull.weight(), hull.sheet(), powers, weights)
 }
 
 // Plate U of a hull.
+#[tactic(auto, using(crate::proofs::Sheets::at_hull, crate::proofs::Sheets::hull_in_limits))]
 pub fn plate_u(mem: &[u32], hull: u32) -> Answer
     ensures { result ≡ (step mem.now (ask hull (plate kind_u))).answer }
 {
@@ -169,10 +137,12 @@ pub fn plate_u(mem: &[u32], hull: u32) -> Answer
     if refusal != 0 {
         return Answer::Refused(refusal);
     }
-    figuring::plate_u(hull_weight(mem, hull), hull_sheet(mem, hull))
+    let hull = Hull::of(mem, hull);
+    figuring::plate_u(hull.weight(), hull.sheet())
 }
 
 // What a hull's boat weighs, with its fittings, as it is held: nothing is summed.
+#[tactic(auto, using(crate::proofs::Sheets::at_hull))]
 pub fn weight(mem: &[u32], hull: u32) -> Answer
     ensures { result ≡ (step mem.now (ask hull weigh)).answer }
 {
@@ -180,7 +150,7 @@ pub fn weight(mem: &[u32], hull: u32) -> Answer
     if refusal != 0 {
         return Answer::Refused(refusal);
     }
-    Answer::Count(hull_weight(mem, hull))
+    Answer::Count(Hull::of(mem, hull).weight())
 }
 
 // The words of a sheet with a hull's number before them.
@@ -188,13 +158,13 @@ fn numbered(number: u32, sheet: &[u32]) -> [u32; TEXT_WORDS]
     requires { length sheet.now ≡ sheet_words }
     ensures { result ≡ number ∷ sheet.now }
 {
-    let mut words = [0u32; TEXT_WORDS];
-    words[0] = number;
-    ground::copy_numbers(sheet, &mut words[1..]);
+    let mut words = [number; TEXT_WORDS];
+    words[IN_TEXT..].copy_from_slice(sheet);
     words
 }
 
 // Writes a hull's sheet, under the register's number, from the start of out and answers how many bytes it has.
+#[tactic(auto, using(crate::proofs::Sheets::at_hull))]
 pub fn write_hull(mem: &[u32], hull: u32, out: &mut [u8]) -> Answer
     ensures { Writes (step mem.now (ask hull (write out.old))) result out.new }
 {
@@ -202,18 +172,19 @@ pub fn write_hull(mem: &[u32], hull: u32, out: &mut [u8]) -> Answer
     if refusal != 0 {
         return Answer::Refused(refusal);
     }
-    let words = numbered(hull, hull_sheet(mem, hull));
+    let words = numbered(hull, Hull::of(mem, hull).sheet());
     writing::write_sheet(&words, out)
 }
 
 // ---- drafts
 
 // What refuses an open: the memory first, then the desk, then the hull.
+#[tactic(auto, using(crate::proofs::Sheets::sized), unfolding(register::specs::Refusals::open_refusal))]
 fn open_refusal(mem: &[u32], desk: u32, hull: u32) -> u32
     ensures { result ≡ open_refusal mem.now desk hull }
 {
     if judging::is_formed(mem) {
-        if DESKS <= desk as usize {
+        if DESKS as u32 <= desk {
             return NO_DESK;
         }
         if mem[COUNT] <= hull {
@@ -229,15 +200,16 @@ fn open_refusal(mem: &[u32], desk: u32, hull: u32) -> u32
 pub fn open_hull(mem: &mut [u32], desk: u32, hull: u32) -> Answer
     ensures { Changes (step mem.old (open_hull desk hull)) result mem.new }
 {
-    let refusal = open_refusal(&mem[..], desk, hull);
+    let refusal = open_refusal(mem, desk, hull);
     if refusal != 0 {
         return Answer::Refused(refusal);
     }
-    Answer::Count(keeping::open_draft(mem, desk as usize, hull))
+    Answer::Count(keeping::open_draft(mem, desk, hull))
 }
 
 // What refuses a fitting line that is to be set, of a draft that is there: a line, a weight or a count outside the
 // limits, 0 and 0 being within them, and then an empty line that is to be emptied.
+#[tactic(auto, using(register::proofs::Own::line_word, sheet::proofs::FitRow::empty_count))]
 fn set_own(mem: &[u32], desk: u32, line: u32, weight: u32, count: u32) -> u32
     requires { AtDesk mem.now desk }
     ensures { result ≡ set_own (draft_sheet mem.now desk) line weight count }
@@ -252,7 +224,7 @@ fn set_own(mem: &[u32], desk: u32, line: u32, weight: u32, count: u32) -> u32
         if weight != 0 {
             return 0;
         }
-        if keeping::fitting(mem, desk as usize, line as usize) == 0 {
+        if Desk::of(mem, desk).fitting(line) == 0 {
             EMPTY_LINE
         } else {
             0
@@ -263,19 +235,20 @@ fn set_own(mem: &[u32], desk: u32, line: u32, weight: u32, count: u32) -> u32
 }
 
 // Sets a fitting line of a desk's draft to so many pieces of a weight, in place of what is there; 0 and 0 empty it.
+#[tactic(auto, using(crate::proofs::Sheets::at_desk_lem))]
 pub fn set_fitting(mem: &mut [u32], desk: u32, line: u32, weight: u32, count: u32) -> Answer
     ensures { Changes (step mem.old (work desk (set_fitting line weight count))) result
         mem.new }
 {
-    let refusal = desk_refusal(&mem[..], desk);
+    let refusal = desk_refusal(mem, desk);
     if refusal != 0 {
         return Answer::Refused(refusal);
     }
-    let own = set_own(&mem[..], desk, line, weight, count);
+    let own = set_own(mem, desk, line, weight, count);
     if own != 0 {
         return Answer::Refused(own);
     }
-    keeping::set_fitting(mem, desk as usize, line as usize, weight, count);
+    keeping::set_fitting(mem, desk, line, weight, count);
     Answer::Done
 }
 
@@ -283,7 +256,7 @@ pub fn set_fitting(mem: &mut [u32], desk: u32, line: u32, weight: u32, count: u3
 pub fn replace(mem: &mut [u32], desk: u32, text: &[u8]) -> Answer
     ensures { Changes (step mem.old (work desk (replace text.now))) result mem.new }
 {
-    let refusal = desk_refusal(&mem[..], desk);
+    let refusal = desk_refusal(mem, desk);
     if refusal != 0 {
         return Answer::Refused(refusal);
     }
@@ -291,14 +264,15 @@ pub fn replace(mem: &mut [u32], desk: u32, text: &[u8]) -> Answer
     match reading::read_words(text, &mut words) {
         TextRead::Wrong(fault, line, byte) => Answer::RefusedAt(fault, line, byte),
         TextRead::Whole(_) => {
-            let weight = measuring::weigh(&words[1..]);
-            keeping::replace_sheet(mem, desk as usize, weight, &words[1..]);
+            let weight = measuring::weigh(&words[1..]).unwrap();
+            keeping::replace_sheet(mem, desk, weight, &words[1..]);
             Answer::Done
         }
     }
 }
 
 // Plate A of a desk's draft, as a trial.
+#[tactic(auto, using(crate::proofs::Sheets::at_desk_lem, crate::proofs::Sheets::draft_in_limits))]
 pub fn trial_a(mem: &[u32], desk: u32) -> Answer
     ensures { result ≡ (step mem.now (work desk (try_plate kind_a))).answer }
 {
@@ -306,10 +280,12 @@ pub fn trial_a(mem: &[u32], desk: u32) -> Answer
     if refusal != 0 {
         return Answer::Refused(refusal);
     }
-    figuring::plate_a(draft_weight(mem, desk), draft_sheet(mem, desk))
+    let desk = Desk::of(mem, desk);
+    figuring::plate_a(desk.weight(), desk.sheet())
 }
 
 // Plate C of a desk's draft, as a trial.
+#[tactic(auto, using(crate::proofs::Sheets::at_desk_lem, crate::proofs::Sheets::draft_in_limits))]
 pub fn trial_c(mem: &[u32], desk: u32, powers: &[u32], weights: &[u32]) -> Answer
     ensures { result
         ≡ (step mem.now
@@ -319,15 +295,12 @@ pub fn trial_c(mem: &[u32], desk: u32, powers: &[u32], weights: &[u32]) -> Answe
     if refusal != 0 {
         return Answer::Refused(refusal);
     }
-    figuring::plate_c(
-        draft_weight(mem, desk),
-        draft_sheet(mem, desk),
-        powers,
-        weights,
-    )
+    let desk = Desk::of(mem, desk);
+    figuring::plate_c(desk.weight(), desk.sheet(), powers, weights)
 }
 
 // Plate U of a desk's draft, as a trial.
+#[tactic(auto, using(crate::proofs::Sheets::at_desk_lem, crate::proofs::Sheets::draft_in_limits))]
 pub fn trial_u(mem: &[u32], desk: u32) -> Answer
     ensures { result ≡ (step mem.now (work desk (try_plate kind_u))).answer }
 {
@@ -335,7 +308,8 @@ pub fn trial_u(mem: &[u32], desk: u32) -> Answer
     if refusal != 0 {
         return Answer::Refused(refusal);
     }
-    figuring::plate_u(draft_weight(mem, desk), draft_sheet(mem, desk))
+    let desk = Desk::of(mem, desk);
+    figuring::plate_u(desk.weight(), desk.sheet())
 }
 
 // What refuses a save of a draft that is there: an edit of the hull since the open, then that no edit number is left.
@@ -344,9 +318,13 @@ fn save_own(mem: &[u32], desk: u32) -> u32
     requires desk_bound { draft_hull mem.now desk < most_hulls }
     ensures { result ≡ save_own mem.now desk }
 {
-    let d = desk as usize;
-    let edits = keeping::edit(mem, keeping::draft_hull(mem, d));
-    if edits != keeping::opening(mem, d) {
+    let desk = Desk::of(mem, desk);
+    let hull = Hull {
+        mem: desk.mem,
+        number: desk.hull(),
+    };
+    let edits = hull.edit();
+    if edits != desk.opening() {
         return EDITED_SINCE;
     }
     if edits == MOST_EDITS {
@@ -356,28 +334,30 @@ fn save_own(mem: &[u32], desk: u32) -> u32
 }
 
 // Saves a desk's draft as its hull's sheet, ends it, and answers the hull's edit number.
+#[tactic(auto, using(crate::proofs::Sheets::at_desk_lem, crate::proofs::Sheets::draft_hull_in, crate::proofs::Sheets::to_save))]
 pub fn save(mem: &mut [u32], desk: u32) -> Answer
     ensures { Changes (step mem.old (save desk)) result mem.new }
 {
-    let refusal = desk_refusal(&mem[..], desk);
+    let refusal = desk_refusal(mem, desk);
     if refusal != 0 {
         return Answer::Refused(refusal);
     }
-    let own = save_own(&mem[..], desk);
+    let own = save_own(mem, desk);
     if own != 0 {
         return Answer::Refused(own);
     }
-    Answer::Count(keeping::save_draft(mem, desk as usize))
+    Answer::Count(keeping::save_draft(mem, desk))
 }
 
 // Ends a desk's draft.
+#[tactic(auto, using(crate::proofs::Sheets::at_desk_lem))]
 pub fn drop_draft(mem: &mut [u32], desk: u32) -> Answer
     ensures { Changes (step mem.old (drop_draft desk)) result mem.new }
 {
-    let refusal = desk_refusal(&mem[..], desk);
+    let refusal = desk_refusal(mem, desk);
     if refusal != 0 {
         return Answer::Refused(refusal);
     }
-    keeping::drop_draft(mem, desk as usize);
+    keeping::drop_draft(mem, desk);
     Answer::Done
 }

@@ -2,51 +2,38 @@
 // memory once, slot by slot, without copies.
 #![tactic(auto)]
 
-ghost use Rattle.std.specs.Prelude.{◌≡◌, length};
-ghost use Rattle.sheet.specs.Places.{sheet_words};
+ghost use Rattle.std.specs.Prelude.{◌≡◌, ◌≤◌};
 ghost use Rattle.capacity.specs.Weights.{weighed_ok};
-ghost use Rattle.memory.specs.Layout.{desks, hull_count};
-ghost use Rattle.memory.specs.Asked.{AtHull, AtHulls, AtDraft};
+ghost use Rattle.memory.specs.Layout.{most_hulls, desks, hull_count};
 ghost use Rattle.memory.specs.Formed.{each, hull_ok, draft_ok, formed};
 
+use keeping::{Desk, Hull, Memory, Slot};
 use memory::{DESKS, MOST_EDITS, MOST_HULLS, REGISTER_WORDS};
 
-// Whether a sheet is within limits and its boat weighs so much. It is read once, and weighed as it is judged.
-fn weighed_ok(weight: u32, sheet: &[u32]) -> bool
-    requires { length sheet.now ≡ sheet_words }
-    ensures { result ≡ weighed_ok weight sheet.now }
+// Whether a slot's sheet is within limits and its boat weighs what stands beside it. It is read once, and weighed as it
+// is judged.
+fn weighed_ok<S: Slot>(slot: &S) -> bool
+    ensures { result ≡ weighed_ok (S.boat slot.now) (S.words slot.now) }
 {
-    if weight == 0 {
-        return false;
-    }
-    weight == measuring::weigh(sheet)
+    measuring::weigh(slot.sheet()) == Some(slot.weight())
 }
 
 // Whether a hull is well formed: its edit number, then its sheet with the weight beside it.
-fn hull_ok(mem: &[u32], hull: usize) -> bool
-    requires { AtHull mem.now hull }
-    ensures { result ≡ hull_ok mem.now hull }
+#[tactic(auto, unfolding(memory::specs::Formed::hull_ok))]
+fn hull_ok(hull: &Hull) -> bool
+    ensures { result ≡ hull_ok hull.now.mem.now hull.now.number }
 {
-    if keeping::edit(mem, hull) <= MOST_EDITS {
-        weighed_ok(
-            keeping::hull_weight(mem, hull),
-            keeping::hull_sheet(mem, hull),
-        )
-    } else {
-        false
-    }
+    hull.edit() <= MOST_EDITS && weighed_ok(hull)
 }
 
 // The same of the first hulls, so many of them.
-fn hulls_ok(mem: &[u32], hulls: usize) -> bool
-    requires { AtHulls mem.now hulls }
+#[tactic(auto, using(memory::proofs::Each::each_none, memory::proofs::Each::each_more))]
+fn hulls_ok(mem: &Memory, hulls: u32) -> bool
+    requires { hulls ≤ most_hulls }
     ensures { result ≡ each hulls (hull_ok mem.now) }
 {
-    let mut i = 0;
-    while i < hulls {
-        if hull_ok(mem, i) {
-            i += 1;
-        } else {
+    for number in 0..hulls {
+        if !hull_ok(&Hull { mem, number }) {
             return false;
         }
     }
@@ -55,40 +42,32 @@ fn hulls_ok(mem: &[u32], hulls: usize) -> bool
 
 // Whether a desk is well formed: it holds no draft, or one of a hull that is there, of an edit number not above the
 // hull's, with a sheet within limits and what its boat weighs.
-fn draft_ok(mem: &[u32], desk: usize) -> bool
-    requires { AtDraft mem.now desk }
-    ensures { result ≡ draft_ok mem.now desk }
+#[tactic(auto, unfolding(memory::specs::Formed::draft_ok))]
+fn draft_ok(desk: &Desk) -> bool
+    requires { hull_count desk.now.mem.now ≤ most_hulls }
+    ensures { result ≡ draft_ok desk.now.mem.now desk.now.number }
 {
-    let held = keeping::held(mem, desk);
-    if held == 0 {
-        return true;
+    match desk.held() {
+        0 => true,
+        1 => {
+            let mem = desk.mem;
+            let number = desk.hull();
+            number < keeping::hull_count(mem)
+                && desk.opening() <= (Hull { mem, number }).edit()
+                && weighed_ok(desk)
+        }
+        _ => false,
     }
-    if held != 1 {
-        return false;
-    }
-    let hull = keeping::draft_hull(mem, desk);
-    if keeping::hull_count(mem) <= hull {
-        return false;
-    }
-    if keeping::edit(mem, hull) < keeping::opening(mem, desk) {
-        return false;
-    }
-    weighed_ok(
-        keeping::draft_weight(mem, desk),
-        keeping::draft_sheet(mem, desk),
-    )
 }
 
 // The same of every desk.
-fn drafts_ok(mem: &[u32]) -> bool
-    requires { AtHulls mem.now (hull_count mem.now) }
+#[tactic(auto, using(memory::proofs::Each::each_none, memory::proofs::Each::each_more))]
+fn drafts_ok(mem: &Memory) -> bool
+    requires { hull_count mem.now ≤ most_hulls }
     ensures { result ≡ each desks (draft_ok mem.now) }
 {
-    let mut desk = 0;
-    while desk < DESKS {
-        if draft_ok(mem, desk) {
-            desk += 1;
-        } else {
+    for number in 0..DESKS as u32 {
+        if !draft_ok(&Desk { mem, number }) {
             return false;
         }
     }
@@ -96,22 +75,17 @@ fn drafts_ok(mem: &[u32]) -> bool
 }
 
 // Whether the memory is well formed: refusal 1 is given where it is not.
+#[tactic(auto, unfolding(memory::specs::Formed::formed))]
 pub fn is_formed(mem: &[u32]) -> bool
     ensures { result ≡ formed mem.now }
 {
-    // Lent on as a part of itself, it goes in registers and takes no stack (DECISIONS).
-    let mem = &mem[..];
-    if mem.len() != REGISTER_WORDS {
+    let Some(mem) = mem.as_array::<REGISTER_WORDS>() else {
         return false;
-    }
+    };
     let hulls = keeping::hull_count(mem);
-    if MOST_HULLS < hulls {
+    if hulls > MOST_HULLS as u32 {
         return false;
     }
     // The drafts first, so that the loop over the hulls keeps nothing for them over its calls (DECISIONS).
-    if drafts_ok(mem) {
-        hulls_ok(mem, hulls)
-    } else {
-        false
-    }
+    drafts_ok(mem) && hulls_ok(mem, hulls)
 }

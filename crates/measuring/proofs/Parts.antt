@@ -3,6 +3,7 @@
 use mathlib.Core.Path.{◌≡◌, refl, sym, ap, ◌∙◌}
 use mathlib.Core.Bool.{Bool, true, false, ◌&&◌, cond}
 use mathlib.Core.List.{List, ◌++◌, map-append}
+use Rattle.std.specs.Prelude.{Option, Some, None}
 use Prim.Native.Nat.{ℕ, ◌+◌, ◌-◌, ◌≤◌}
 use native.Mathlib.Omega.{arith}
 use lib.Dec.{lit<}
@@ -117,12 +118,12 @@ module _ (ws : List ℕ) (n : length ws ≡ sheet_words) where
     unfolding part_ok
     bare_few p = run_most ws (rw rows_lines at (sym told ∙ p)) bare_at (lit< tt)
 
-    pub fits_tell : {weight : ℕ}
+    pub fits_tell : {weight : Option ℕ}
         → first ≡ true
-        → weight ≡ cond (fits_ok fittings (fit_words ws)) (get_or ws bare_at 0 + added_up (fit_words ws)) 0
-        → weight ≡ cond (words_ok ws) (boat_m ws) 0
+        → weight ≡ cond (fits_ok fittings (fit_words ws)) (Some (get_or ws bare_at 0 + added_up (fit_words ws))) None
+        → weight ≡ cond (words_ok ws) (Some (boat_m ws)) None
     unfolding boat_m
     fits_tell p q = q ∙ rw (← rw p at whole, rest_part ws fittings_at)
 
-    pub words_fail : first ≡ false → 0 ≡ cond (words_ok ws) (boat_m ws) 0
+    pub words_fail : first ≡ false → None ≡ cond (words_ok ws) (Some (boat_m ws)) None
     words_fail p = rw (← rw p at whole)

@@ -3,7 +3,7 @@
 // each weighed as it is judged.
 #![tactic(auto)]
 
-ghost use Rattle.std.specs.Prelude.{◌≡◌, cond, ◌+◌, ◌*◌, ◌≤◌, ◌<◌, length};
+ghost use Rattle.std.specs.Prelude.{◌≡◌, Some, None, cond, ◌+◌, ◌*◌, ◌≤◌, ◌<◌, length};
 ghost use Rattle.sheet.specs.Lines.{fittings};
 ghost use Rattle.sheet.specs.Sheet.{fit_ok, fits_ok, words_ok, sheet_ok};
 ghost use Rattle.sheet.specs.Places.{readings, stations, station_at, aft_at, bare_at, fittings_at, sheet_words, text_words};
@@ -19,61 +19,65 @@ use text::Limit;
 // The stations stand between FORM and VOL.
 const STATIONS: usize = (AFT - STATION_Q) / READINGS;
 
-// Whether the words from a place up to an end are within their limits.
-fn part_ok(limits: &[Limit], words: &[u32], at: usize, end: usize) -> bool
-    requires { Lent limits.now words.now × WordPart at end }
-    ensures { result ≡ part_ok words.now at end }
-{
-    spelling::all_hold(&limits[at..end], &words[at..end])
+// The words of a sheet, without its HULL number, and the limits of those before the fittings.
+#[derive(Clone, Copy)]
+struct Judged<'a> {
+    limits: &'a [Limit],
+    words: &'a [u32],
+    ghost lent: { Lent limits.now words.now },
 }
 
-// The same of places whose limits are alike.
-fn run_ok(limits: &[Limit], words: &[u32], at: usize, end: usize) -> bool
-    requires { Lent limits.now words.now × AlikePart at end }
-    ensures { result ≡ part_ok words.now at end }
-{
-    spelling::alike_hold(limits[at], &words[at..end])
-}
-
-// The same of a station, Q to T by its number: one word B, and six of alike limits.
-fn station_ok(limits: &[Limit], words: &[u32], station: usize) -> bool
-    requires { Lent limits.now words.now × (station < stations) }
-    ensures { result ≡ part_ok words.now (station_at station) (station_at station + readings) }
-{
-    let at = STATION_Q + READINGS * station;
-    if run_ok(limits, words, at, at + 1) {
-        run_ok(limits, words, at + 1, at + READINGS)
-    } else {
-        false
+impl Judged<'_> {
+    // Whether the words from a place up to an end are within their limits.
+    fn part_ok(&self, at: usize, end: usize) -> bool
+        requires { WordPart at end }
+        ensures { result ≡ part_ok self.now.words.now at end }
+    {
+        spelling::all_hold(&self.limits[at..end], &self.words[at..end])
     }
-}
 
-// The same from the line VOL up to the fittings: MASS, PWR and SEAT have limits of many kinds.
-fn from_vol(limits: &[Limit], words: &[u32]) -> bool
-    requires { Lent limits.now words.now }
-    ensures { result ≡ part_ok words.now aft_at fittings_at }
-{
-    if run_ok(limits, words, AFT, BARE) {
-        part_ok(limits, words, BARE, FITTED)
-    } else {
-        false
+    // The same of places whose limits are alike.
+    fn run_ok(&self, at: usize, end: usize) -> bool
+        requires { AlikePart at end }
+        ensures { result ≡ part_ok self.now.words.now at end }
+    {
+        spelling::alike_hold(self.limits[at], &self.words[at..end])
     }
-}
 
-// The same from the first station up to the fittings.
-fn from_stations(limits: &[Limit], words: &[u32]) -> bool
-    requires { Lent limits.now words.now }
-    ensures { result ≡ part_ok words.now (station_at 0) fittings_at }
-{
-    let mut station = 0;
-    while station < STATIONS {
-        if station_ok(limits, words, station) {
-            station += 1;
-        } else {
-            return false;
+    // The same of a station, Q to T by its number: one word B, and six of alike limits.
+    fn station_ok(&self, station: usize) -> bool
+        requires { station < stations }
+        ensures { result ≡ part_ok self.now.words.now (station_at station) (station_at station + readings) }
+    {
+        let at = STATION_Q + READINGS * station;
+        self.run_ok(at, at + 1) && self.run_ok(at + 1, at + READINGS)
+    }
+
+    // The same from the line VOL up to the fittings: MASS, PWR and SEAT have limits of many kinds.
+    fn from_vol(&self) -> bool
+        ensures { result ≡ part_ok self.now.words.now aft_at fittings_at }
+    {
+        self.run_ok(AFT, BARE) && self.part_ok(BARE, FITTED)
+    }
+
+    // The same from the first station up to the fittings.
+    fn from_stations(&self) -> bool
+        ensures { result ≡ part_ok self.now.words.now (station_at 0) fittings_at }
+    {
+        for station in 0..STATIONS {
+            if !self.station_ok(station) {
+                return false;
+            }
         }
+        self.from_vol()
     }
-    from_vol(limits, words)
+
+    // The same of all before the fittings.
+    fn before_fittings(&self) -> bool
+        ensures { result ≡ part_ok self.now.words.now 0 fittings_at }
+    {
+        self.part_ok(LENGTH, STATION_Q) && self.from_stations()
+    }
 }
 
 // Whether a fitting line is empty, or its weight and count are within their limits. One piece is no heavier than all,
@@ -81,53 +85,45 @@ fn from_stations(limits: &[Limit], words: &[u32]) -> bool
 pub fn fit_ok(weight: u32, count: u32) -> bool
     ensures { result ≡ fit_ok weight count }
 {
-    if weight == 0 {
-        return count == 0;
+    match count {
+        0 => weight == 0,
+        1..=FITTING_COUNT => weight != 0 && weight as u64 * count as u64 <= FITTING_HIGH as u64,
+        _ => false,
     }
-    if count == 0 {
-        return false;
-    }
-    if count > FITTING_COUNT {
-        return false;
-    }
-    weight as u64 * count as u64 <= FITTING_HIGH as u64
 }
 
-// What a bare boat weighs with its fittings, which are judged on the way: 0 where a line is outside the limits.
-fn with_fittings(bare: u32, fits: &[u32]) -> u32
+// What a bare boat weighs with its fittings, which are judged on the way; none where a line is outside the limits.
+fn with_fittings(bare: u32, fits: &[u32]) -> Option<u32>
     requires { (bare ≤ high_at bare_at) × (length fits.now ≡ 2 * fittings) }
-    ensures { result ≡ cond (fits_ok fittings fits.now) (bare + added_up fits.now) 0 }
+    ensures { result ≡ cond (fits_ok fittings fits.now) (Some (bare + added_up fits.now)) None }
 {
     let mut total = bare as u64;
-    let mut line = 0;
-    while line < FITTINGS {
-        let weight = fits[2 * line];
-        let count = fits[2 * line + 1];
-        if fit_ok(weight, count) {
-            total += weight as u64 * count as u64;
-            line += 1;
-        } else {
-            return 0;
+    let (lines, _) = fits.as_chunks::<2>();
+    for &[weight, count] in lines {
+        if !fit_ok(weight, count) {
+            return None;
         }
+        total += weight as u64 * count as u64;
     }
-    total as u32
+    Some(total as u32)
 }
 
-// M, what the boat weighs by the words of a sheet, without its HULL number, that are within their limits. It is 0 of
-// others alone, since no boat weighs nothing.
-pub fn weigh(words: &[u32]) -> u32
+// M, what the boat weighs by the words of a sheet, without its HULL number; none where they are outside the limits.
+pub fn weigh(words: &[u32]) -> Option<u32>
     requires { length words.now ≡ sheet_words }
-    ensures { result ≡ cond (words_ok words.now) (boat_m words.now) 0 }
+    ensures { result ≡ cond (words_ok words.now) (Some (boat_m words.now)) None }
 {
     // Lent on as a part of itself, it goes in registers and takes no stack (DECISIONS).
     let words = &words[..];
     let limits = LIMITS;
-    if part_ok(&limits[1..], words, LENGTH, STATION_Q) {
-        if from_stations(&limits[1..], words) {
-            return with_fittings(words[BARE], &words[FITTED..]);
-        }
+    let sheet = Judged {
+        limits: &limits[1..],
+        words,
+    };
+    if !sheet.before_fittings() {
+        return None;
     }
-    0
+    with_fittings(words[BARE], &words[FITTED..])
 }
 
 // Whether the words of a sheet, without its HULL number, are within their limits.
@@ -135,7 +131,7 @@ pub fn words_ok(words: &[u32]) -> bool
     requires { length words.now ≡ sheet_words }
     ensures { result ≡ words_ok words.now }
 {
-    weigh(words) != 0
+    weigh(words).is_some()
 }
 
 // Whether a sheet's numbers, its HULL number first, are within their limits.
@@ -144,9 +140,5 @@ pub fn sheet_ok(sheet: &[u32]) -> bool
     ensures { result ≡ sheet_ok sheet.now }
 {
     let limits = LIMITS;
-    if spelling::all_hold(&limits[..1], &sheet[..1]) {
-        words_ok(&sheet[1..])
-    } else {
-        false
-    }
+    spelling::all_hold(&limits[..1], &sheet[..1]) && words_ok(&sheet[1..])
 }

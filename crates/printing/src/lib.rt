@@ -71,7 +71,7 @@ fn lay_plates(sheet: &[u32], powers: &[u32], weights: &[u32], out: &mut [u8]) ->
     ensures { Laid (plates_text sheet.now powers.now weights.now)
         out.old 0 result out.new }
 {
-    let weight = measuring::weigh(sheet);
+    let weight = measuring::weigh(sheet).unwrap();
     let end = lay_plate(
         b"PLATE\tA\t",
         b"REFUSED\tA\t",

@@ -2,7 +2,8 @@
 use Rattle.register.proofs.Refusals.{room_goes}
 use Rattle.memory.specs.Updates.{entered}
 use Rattle.answers.specs.Answer.{Count}
-use Rattle.answering.proofs.Sheets.{read_lent, read_weighs, read_long}
+use Rattle.answering.proofs.Sheets.{read_lent, read_within, read_long}
+use Rattle.measuring.proofs.Weighed.{weight_there, weight_right}
 use Rattle.reading.proofs.Heard.{heard_right}
 use Rattle.answering.proofs.Settling.{passed, text_passed}
 use Rattle.memory.proofs.Sound.{sound}
@@ -17,8 +18,11 @@ enter_hull-requires c =
       size = (sound c.args.mem.now g.ok).size;
       room = g.room;
       sheet = read_long c.args.text.now read;
-      weight = read_weighs c.args.text.now read c.weigh-weight.ensures;
+      weight = weight_right _ c.weigh.ensures (read_within c.args.text.now read) c.unwrap-weight.ensures;
     }
+
+pub unwrap-weight-requires : goal.unwrap-weight-requires
+unwrap-weight-requires c = weight_there _ c.weigh.ensures (read_within c.args.text.now c.in-Whole.ensures)
 
 pub returns-in-Whole : goal.returns-in-Whole
 returns-in-Whole c =
@@ -27,6 +31,5 @@ returns-in-Whole c =
     (text_passed _ _ _ _ (heard_right read)
     (record {
       answered = ap Count c.enter_hull.ensures.value;
-      kept = c.enter_hull.ensures.mem_after
-          ∙ ap (entered c.args.mem.now) (read_lent c.args.text.now read);
+      kept = c.enter_hull.ensures.mem_after ∙ ap (entered c.args.mem.now) (read_lent c.args.text.now read);
     }))

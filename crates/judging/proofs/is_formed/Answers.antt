@@ -1,43 +1,29 @@
 -- `is_formed` meets its contract.
-use mathlib.Core.Bool.{and-true, and-false}
-use borrow.Author.Tests.{eq-eqb, ne_eqb, le-leb, lt-leb}
-use Rattle.memory.specs.Formed.{formed}
+use Rattle.std.proofs.Common.{◌≡◌, ◌∙◌, ◌≤◌, ℕ, List, ◌&&◌, length}
+use Rattle.std.proofs.Math.Bool.{and_comm}
+use borrow.Author.Tests.{eq-eqb, le-leb}
+use Rattle.memory.specs.Layout.{most_hulls, desks, register_words, hull_count}
+use Rattle.memory.specs.Formed.{each, hull_ok, draft_ok, formed}
 use Rattle.judging.proofs.is_formed.Goals as goal
 
-pub returns-then-mem-ne-REGISTER_WORDS : goal.returns-then-mem-ne-REGISTER_WORDS
+-- of a memory of the right size, lent on as an array, with n hulls that it has room for
+sized : {m o : List ℕ} {n : ℕ} → length m ≡ register_words → o ≡ m → n ≡ hull_count o → n ≤ most_hulls
+    → (each desks (draft_ok o) && each n (hull_ok o)) ≡ formed m
 unfolding formed
-returns-then-mem-ne-REGISTER_WORDS c = simp (ne_eqb _ _ c.if-mem-ne-REGISTER_WORDS.true)
-
-pub returns-then-hulls-gt-MOST_HULLS : goal.returns-then-hulls-gt-MOST_HULLS
-unfolding formed
-returns-then-hulls-gt-MOST_HULLS c =
-    simp (
-      eq-eqb _ _ c.if-mem-ne-REGISTER_WORDS.false,
-      ← c.hull_count-hulls.ensures,
-      lt-leb _ _ c.if-hulls-gt-MOST_HULLS.true,
-    )
+sized {m} l e q f =
+    rw (q, e, eq-eqb _ _ l, le-leb (hull_count m) most_hulls (rw (q, e) at f))
+    (and_comm (each desks (draft_ok m)) (each (hull_count m) (hull_ok m)))
 
 pub returns-then-drafts_ok : goal.returns-then-drafts_ok
-unfolding formed
 returns-then-drafts_ok c =
-    simp (
-      eq-eqb _ _ c.if-mem-ne-REGISTER_WORDS.false,
-      ← c.hull_count-hulls.ensures,
-      le-leb _ _ c.if-hulls-gt-MOST_HULLS.false,
-      ← c.drafts_ok.ensures,
-      c.if-drafts_ok.true,
-      ← c.hulls_ok.ensures,
-      and-true,
-    )
+    let lent = c.in-Some.ensures.cases in
+    c.hulls_ok.ensures
+    ∙ rw (← c.drafts_ok.ensures, c.if-drafts_ok.true) at
+    (sized lent.long lent.same c.hull_count-hulls.ensures c.if-hulls.false)
 
 pub returns-else-drafts_ok : goal.returns-else-drafts_ok
-unfolding formed
 returns-else-drafts_ok c =
-    simp (
-      eq-eqb _ _ c.if-mem-ne-REGISTER_WORDS.false,
-      ← c.hull_count-hulls.ensures,
-      le-leb _ _ c.if-hulls-gt-MOST_HULLS.false,
-      ← c.drafts_ok.ensures,
-      c.if-drafts_ok.false,
-      and-false,
-    )
+    let lent = c.in-Some.ensures.cases in
+    c.if-drafts_ok.false
+    ∙ rw (← c.drafts_ok.ensures, c.if-drafts_ok.false) at
+    (sized lent.long lent.same c.hull_count-hulls.ensures c.if-hulls.false)

@@ -1,4 +1,5 @@
 -- `sheet_ok` meets its contract.
+use Rattle.std.proofs.Common.{◌∙◌}
 use Rattle.sheet.specs.Sheet.{limit_rows, limits_on}
 use Rattle.measuring.proofs.Hull.{words_tell, hull_fails}
 use Rattle.measuring.proofs.sheet_ok.Goals as goal
@@ -10,4 +11,4 @@ returns-then-all_hold c =
 
 pub returns-else-all_hold : goal.returns-else-all_hold
 unfolding limit_rows limits_on
-returns-else-all_hold c = hull_fails _ c.all_hold.ensures c.if-all_hold.false
+returns-else-all_hold c = c.if-all_hold.false ∙ hull_fails _ c.all_hold.ensures c.if-all_hold.false

@@ -5,12 +5,8 @@ use Rattle.sheet.specs.Sheet.{fits_ok}
 use Rattle.capacity.specs.Weights.{added_up}
 use Rattle.measuring.proofs.with_fittings.Given as goal
 
-abbrev pub invariant-loop-line : goal.invariant-loop-line
-invariant-loop-line l =
-    (l.line ≤ fittings)
-    × (fits_ok fittings l.fits ≡ fits_ok (fittings - l.line) (drop (2 * l.line) l.fits))
-    × (l.total + added_up (drop (2 * l.line) l.fits) ≡ l.bare + added_up l.fits)
-    × (l.total ≤ l.bare + fitting_high * l.line)
-
-abbrev pub decreases-loop-line : goal.decreases-loop-line
-decreases-loop-line l = fittings - l.line
+abbrev pub invariant-loop-weight : goal.invariant-loop-weight
+invariant-loop-weight l =
+    (fits_ok fittings l.fits ≡ fits_ok (fittings - l.weight-index) (drop (2 * l.weight-index) l.fits))
+    × (l.total + added_up (drop (2 * l.weight-index) l.fits) ≡ l.bare + added_up l.fits)
+    × (l.total ≤ l.bare + fitting_high * l.weight-index)

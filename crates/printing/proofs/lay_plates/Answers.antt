@@ -6,6 +6,7 @@ use Rattle.sheet.proofs.Words.{words_length}
 use Rattle.capacity.specs.Weights.{boat_m}
 use Rattle.capacity.specs.Kinds.{PlateKind, kind_a, kind_c, plate_by, plate_of}
 use Rattle.printout.specs.Printed.{plates_text}
+use Rattle.measuring.proofs.Weighed.{weight_there, weight_right}
 use Rattle.printing.proofs.Laying.{first_in, both_long, both_laid}
 use native.Mathlib.Omega.{arith}
 use Rattle.printing.proofs.lay_plates.Goals as goal
@@ -16,15 +17,18 @@ by_sheet : (k : PlateKind) (s : List ℕ) {w : ℕ} → w ≡ boat_m s → plate
 by_sheet k s weight = ap (λ (n : ℕ). plate_by k n s) weight
 
 plate_a_is : (c : After-plate_a) → c.plate_a.result ≡ plate_of kind_a c.args.sheet.now
-plate_a_is c = c.plate_a.ensures ∙ by_sheet kind_a c.args.sheet.now (rw c.requires.0 at c.weigh-weight.ensures)
+plate_a_is c = c.plate_a.ensures ∙ by_sheet kind_a c.args.sheet.now (weight_right _ c.weigh.ensures c.requires.0 c.unwrap-weight.ensures)
 
 plate_c_is : (c : After-plate_c)
     → c.plate_c.result ≡ plate_of (kind_c c.args.powers.now c.args.weights.now) c.args.sheet.now
 plate_c_is c =
-    c.plate_c.ensures ∙ by_sheet (kind_c _ _) c.args.sheet.now (rw c.requires.0 at c.weigh-weight.ensures)
+    c.plate_c.ensures ∙ by_sheet (kind_c _ _) c.args.sheet.now (weight_right _ c.weigh.ensures c.requires.0 c.unwrap-weight.ensures)
 
-pub weigh-weight-requires : goal.weigh-weight-requires
-weigh-weight-requires c = omega (arith, words_length)
+pub weigh-requires : goal.weigh-requires
+weigh-requires c = omega (arith, words_length)
+
+pub unwrap-weight-requires : goal.unwrap-weight-requires
+unwrap-weight-requires c = weight_there _ c.weigh.ensures c.requires.0
 
 pub slice_bounds-lay_plate-count : goal.slice_bounds-lay_plate-count
 unfolding plates_text

@@ -1,7 +1,0 @@
--- `save_draft` meets its contract.
-use Rattle.keeping.proofs.Writes.{saved_as}
-use Rattle.keeping.proofs.save_draft.Goals as goal
-
-pub returns-clause-mem_after : goal.returns-clause-mem_after
-returns-clause-mem_after c =
-    saved_as _ _ c.requires.size c.requires.desk c.draft_hull-to.ensures c.copy_weighed.ensures
