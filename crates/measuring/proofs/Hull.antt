@@ -4,17 +4,17 @@ use mathlib.Core.Bool.{Bool, true, false, ◌&&◌}
 use mathlib.Core.List.{List}
 use Prim.Native.Nat.{ℕ, ◌-◌}
 use lib.ListN.{length, take, drop}
-use Rattle.text.specs.Limit.{all_hold, limits_of}
+use Rattle.text.specs.Limit.{all_hold}
 use Rattle.ground.proofs.Stores.{rest_part}
 use Rattle.sheet.specs.Sheet.{limits_on, limit_rows, ok_on, sheet_ok, words_ok}
 
 module _ (s : List ℕ) where
-  parted : sheet_ok s ≡ (all_hold (limits_of (take 1 limit_rows)) 0 (take 1 s) && words_ok (take (length s - 1) (drop 1 s)))
+  parted : sheet_ok s ≡ (all_hold (take 1 limit_rows) 0 (take 1 s) && words_ok (take (length s - 1) (drop 1 s)))
   unfolding limit_rows limits_on ok_on
   parted = rw (rest_part s 1) refl
 
   -- by what the code has found of the HULL number
-  module _ {first : Bool} (told : first ≡ all_hold (limits_of (take 1 limit_rows)) 0 (take 1 s)) where
+  module _ {first : Bool} (told : first ≡ all_hold (take 1 limit_rows) 0 (take 1 s)) where
     joined : (first && words_ok (take (length s - 1) (drop 1 s))) ≡ sheet_ok s
     joined = rw told (sym parted)
 

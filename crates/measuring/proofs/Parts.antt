@@ -10,7 +10,8 @@ use lib.Dec.{lit<}
 use lib.ListN.{length, get_or, take, drop, length-drop, length-map}
 use lib.Seq.{take-add, drop-drop, length-take-le}
 use Rattle.ground.proofs.Stores.{rest_part}
-use Rattle.text.specs.Limit.{all_hold, limit_of, limits_of}
+use Rattle.text.specs.declared.Limit.{Limit}
+use Rattle.text.specs.Limit.{all_hold}
 use Rattle.sheet.specs.Lines.{lines, fittings}
 use Rattle.sheet.specs.Sheet.{limits_on, limit_rows, fits_ok, words_ok}
 use Rattle.sheet.specs.Places.{bare_at, fittings_at, sheet_words}
@@ -33,7 +34,7 @@ lent_parts {A} l a b e h k =
     ∙ ap (λ (r : List A). take (b - a) (drop a l) ++ take (e - b) r)
     (drop-drop (b - a) a l ∙ ap (λ (i : ℕ). drop i l) m)
 
-pub rows_many : {rows : List (List ℕ)} → rows ≡ word_rows → length rows ≡ fittings_at
+pub rows_many : {rows : List Limit} → rows ≡ word_rows → length rows ≡ fittings_at
 unfolding limit_rows limits_on
 rows_many e = ap length e
 
@@ -47,7 +48,7 @@ part_long l a b n p = length-take-le (b - a) (drop a l) (omega (arith, length-dr
 pub record Parting (a b e : ℕ) : Type 0 where
   pub first : WordPart a b
   pub second : WordPart b e
-  pub free : opens (limits_of (take (e - b) (drop b word_rows))) ≡ true
+  pub free : opens (take (e - b) (drop b word_rows)) ≡ true
 
 module _ {a b e : ℕ} (c : Parting a b e) (ws : List ℕ) (n : length ws ≡ sheet_words) where
   parts_join : part_ok ws a e ≡ (part_ok ws a b && part_ok ws b e)
@@ -55,16 +56,15 @@ module _ {a b e : ℕ} (c : Parting a b e) (ws : List ℕ) (n : length ws ≡ sh
   parts_join =
       let h = c.first.order in
       let k = c.second.order in
-      let ls : List (List ℕ) = take (b - a) (drop a word_rows) in
-      let ms : List (List ℕ) = take (e - b) (drop b word_rows) in
+      let ls : List Limit = take (b - a) (drop a word_rows) in
+      let ms : List Limit = take (e - b) (drop b word_rows) in
       rw (
         lent_parts word_rows a b e (omega arith) (omega arith),
         lent_parts ws a b e (omega arith) (omega arith),
-        map-append limit_of ls ms,
       )
-      (hold_parts (limits_of ls) (limits_of ms) 0 (take (b - a) (drop a ws)) (take (e - b) (drop b ws))
+      (hold_parts ls ms 0 (take (b - a) (drop a ws)) (take (e - b) (drop b ws))
       (part_long ws a b (omega arith) c.first
-      ∙ sym (length-map ls limit_of ∙ part_long word_rows a b (omega (arith, rows_many refl)) c.first))
+      ∙ sym (part_long word_rows a b (omega (arith, rows_many refl)) c.first))
       c.free)
 
   -- by what the code has found of the first part
@@ -78,14 +78,14 @@ module _ {a b e : ℕ} (c : Parting a b e) (ws : List ℕ) (n : length ws ≡ sh
     pub first_fails : first ≡ false → false ≡ part_ok ws a e
     first_fails p = rw p at joined
 
-pub part_judged : {rows : List (List ℕ)} → rows ≡ word_rows → (ws : List ℕ) (at end : ℕ)
-    → all_hold (limits_of (take (end - at) (drop at rows))) 0 (take (end - at) (drop at ws)) ≡ part_ok ws at end
+pub part_judged : {rows : List Limit} → rows ≡ word_rows → (ws : List ℕ) (at end : ℕ)
+    → all_hold (take (end - at) (drop at rows)) 0 (take (end - at) (drop at ws)) ≡ part_ok ws at end
 unfolding part_ok
 part_judged e ws at end = rw e
 
 -- ---- the words before the fittings, and the fittings
 
-rows_lines : limits_of (take fittings_at word_rows) ≡ limits_on (drop 1 lines)
+rows_lines : (take fittings_at word_rows) ≡ limits_on (drop 1 lines)
 unfolding limit_rows limits_on
 rows_lines = refl
 

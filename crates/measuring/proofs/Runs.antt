@@ -7,35 +7,24 @@ use native.Mathlib.Omega.{arith}
 use borrow.Author.Rules.{rules}
 use lib.ListN.{length, take, drop, get_or, replicate}
 use Rattle.text.specs.declared.Limit.{Limit}
-use Rattle.text.specs.Limit.{all_hold, limit_of, limits_of, from_zero}
+use Rattle.text.specs.Limit.{ranging, all_hold, from_zero}
 use Rattle.sheet.specs.Sheet.{limits_on, limit_rows}
 use Rattle.sheet.proofs.Held.{opens}
 use Rattle.sheet.specs.Places.{length_at, readings, stations, station_at, aft_at, bare_at, fittings_at, sheet_words}
 use Rattle.measuring.specs.Part.{word_rows, part_ok, AlikePart}
 use Rattle.measuring.proofs.Parts.{Parting, part_long, second_tells}
 
-limits_alike : (n : ℕ) (row : List ℕ) → limits_of (replicate n row) ≡ replicate n (limit_of row)
-limits_alike zero row = refl
-limits_alike (suc n) row = ap (λ (ls : List Limit). limit_of row ∷ ls) (limits_alike n row)
-
-pub run_low : {rows : List (List ℕ)}
-    → rows ≡ word_rows
-    → {at end : ℕ}
-    → AlikePart at end
-    → from_zero (limit_of (get_or rows at [])) ≡ true
-run_low e r = rw e r.low
-
-pub run_judged : {rows : List (List ℕ)}
+pub run_judged : {rows : List Limit}
     → rows ≡ word_rows
     → (ws : List ℕ)
     → length ws ≡ sheet_words
     → {at end : ℕ}
     → AlikePart at end
-    → all_hold (replicate (length (take (end - at) (drop at ws))) (limit_of (get_or rows at []))) 0
+    → all_hold (replicate (length (take (end - at) (drop at ws))) (get_or rows at (ranging 0 0))) 0
     (take (end - at) (drop at ws)) ≡ part_ok ws at end
 unfolding part_ok
 run_judged e ws n {at} {end} r =
-    rw (e, part_long ws at end (omega arith) r.places, r.alike, limits_alike (end - at) (get_or word_rows at []))
+    rw (e, part_long ws at end (omega arith) r.places, r.alike)
 
 -- ---- a station
 
