@@ -4,7 +4,8 @@ use Rattle.printout.proofs.Input.{bytes_done, bytes_inside, bytes_other, bytes_e
 use Rattle.printing.proofs.Laying.{starts_agreed}
 use native.Mathlib.Omega.{arith}
 use Rattle.printing.proofs.sheet_bytes.Goals as goal
-use Rattle.printing.proofs.sheet_bytes.Goals.{else-starting-via-then-starting+else-starts_with, else-starting-via-else-starting}
+use Rattle.printing.proofs.sheet_bytes.Goals.{else-starting-via-then-starting+else-starts_with}
+use Rattle.printing.proofs.sheet_bytes.Goals.{else-starting-via-else-starting}
 
 pub returns-then-starts_with-clause-counted : goal.returns-then-starts_with-clause-counted
 returns-then-starts_with-clause-counted c =

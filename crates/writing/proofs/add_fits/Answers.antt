@@ -12,7 +12,8 @@ pairs c = rw c.requires.many at c.as_chunks.ensures.front
 
 pub add_fit-requires : goal.add_fit-requires
 add_fit-requires c =
-    let here = room c.loop-i.invariant c.requires.many (pairs (goal.at.add_fit-requires c).After-as_chunks) (omega arith) in
+    let are = pairs (goal.at.add_fit-requires c).After-as_chunks in
+    let here = room c.loop-i.invariant c.requires.many are (omega arith) in
     omega (arith, here, length-append c.args.page.now (fits_text 1 c.args.fits.now), c.requires.room)
 
 pub loop-i-preserved : goal.loop-i-preserved

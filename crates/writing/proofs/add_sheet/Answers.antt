@@ -15,8 +15,9 @@ add_fits-requires-clause-room c = omega (arith, lengths c.args.sheet.now _ c.add
 
 pub add-requires-clause-room : goal.add-requires-clause-room
 add-requires-clause-room c =
-    let long = length-append c.add_lines.new.page (fits_text 1 (fits_of c.args.sheet.now)) in
-    omega (arith, lengths c.args.sheet.now _ c.add_lines.ensures.whole, ap length c.add_fits.ensures, long, c.requires.room)
+    let parts = lengths c.args.sheet.now _ c.add_lines.ensures.whole in
+    let both = length-append c.add_lines.new.page (fits_text 1 (fits_of c.args.sheet.now)) in
+    omega (arith, parts, both, ap length c.add_fits.ensures, c.requires.room)
 
 pub returns : goal.returns
 returns c =
