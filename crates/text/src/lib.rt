@@ -3,6 +3,7 @@
 #![tactic(auto)]
 
 ghost use Rattle.std.specs.Prelude.{◌≡◌, ◌+◌, ◌<◌, ◌^◌};
+ghost use Rattle.text.specs.Limit.{ranging};
 
 use answers::Refusal;
 
@@ -23,6 +24,19 @@ pub struct Limit {
     pub low: u32,
     pub high: u32,
     pub rule: Rule,
+}
+
+impl Limit {
+    // From low to high, and nothing beyond.
+    pub const fn ranging(low: u32, high: u32) -> Limit
+        ensures { result ≡ ranging low high }
+    {
+        Limit {
+            low,
+            high,
+            rule: Rule::Plain,
+        }
+    }
 }
 
 // Why a line is refused, and the place in it of the first byte at fault.

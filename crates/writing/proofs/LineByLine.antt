@@ -3,9 +3,9 @@ use mathlib.Core.Path.{◌≡◌, refl, sym, ap, ◌∙◌}
 use mathlib.Core.List.{List, [], ◌++◌, append_assoc}
 use Prim.Native.Nat.{ℕ, ◌+◌, ◌-◌, ◌≤◌}
 use native.Mathlib.Omega.{arith}
-use lib.ListN.{length, take, drop, length-append, length-drop, length-map}
+use lib.ListN.{length, take, drop, length-append, length-drop}
 use lib.Seq.{drop-drop, length-take-le}
-use Rattle.text.specs.Limit.{limit_of, limits_of}
+use Rattle.text.specs.declared.Limit.{Limit}
 use Rattle.text.specs.Line.{line_text}
 use Rattle.sheet.specs.declared.TheConstants.{SHEET_TEXT}
 use Rattle.sheet.specs.Lines.{lines}
@@ -29,11 +29,10 @@ module _ {tag s so : List ℕ} {from to : ℕ} (q : Next tag from to) (p : Upto 
 
   entered : so ++ (line ++ rest) ≡ sheet_text s
   entered =
-      let rows : List (List ℕ) = drop from limit_rows in
+      let rows : List Limit = drop from limit_rows in
       let full = rows_long {rows = limit_rows} refl in
-      let k : length (limits_of (take (to - from) rows)) ≡ to - from =
-      length-map (take (to - from) rows) limit_of
-      ∙ length-take-le (to - from) rows (omega (arith, q.end, full, length-drop from limit_rows)) in
+      let k : length (take (to - from) rows) ≡ to - from =
+      length-take-le (to - from) rows (omega (arith, q.end, full, length-drop from limit_rows)) in
       let place : from + (to - from) ≡ to = omega (arith, q.order) in
       let t : text_on (lines_at from lines) (drop from s) ≡ line ++ rest =
       rw (

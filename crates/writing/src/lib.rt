@@ -5,6 +5,7 @@ mod page;
 
 ghost use Rattle.std.specs.Prelude.{◌≡◌, [], ◌∷◌, ◌++◌, ◌+◌, ◌*◌, ◌≤◌, length};
 ghost use Rattle.answers.specs.Settled.{Settled};
+ghost use Rattle.answers.specs.Values.{in_numbers};
 ghost use Rattle.sheet.specs.Lines.{fittings};
 ghost use Rattle.sheet.specs.Places.{text_words};
 ghost use Rattle.sheet.specs.SheetText.{sheet_text};
@@ -12,13 +13,13 @@ ghost use Rattle.sheet.specs.TextCalls.{write_answer, write_into};
 ghost use Rattle.writing.specs.Pieces.{Next, Upto, fits_text};
 
 use crate::page::Page;
-use answers::{Answer, NO_ROOM, OUTSIDE_LIMITS};
+use answers::{Answer, Figures, Refusal, Refused};
 use sheet::{
     FIT_COUNT, FIT_WEIGHT, FITTING_LINES, FORM_LINE, HULL_LINE, LIMITS, LINE_WORDS, MASS_LINE,
     PWR_LINE, Q_LINE, R_LINE, S_LINE, SEAT_LINE, SHEET_TEXT, T_LINE, TEXT_WORDS, VOL_LINE,
 };
 use std::ops::Range;
-use text::PLAIN;
+use text::Limit;
 
 // Adds the line of a tag and of some words of a sheet, which is the next one.
 fn add_words(page: &mut Page, tag: &[u8], sheet: &[u32], words: Range<usize>)
@@ -54,7 +55,7 @@ fn add_fit(page: &mut Page, line: u32, weight: u32, count: u32)
     ensures { page.new ≡ page.old ++ fits_text line (weight ∷ count ∷ []) }
 {
     if weight > 0 {
-        let limits = [[line, FITTING_LINES, PLAIN], FIT_WEIGHT, FIT_COUNT];
+        let limits = [Limit::ranging(line, FITTING_LINES), FIT_WEIGHT, FIT_COUNT];
         page.add(b"FIT\t", &limits, &[line, weight, count]);
     }
 }
@@ -87,17 +88,17 @@ fn add_sheet(page: &mut Page, sheet: &[u32])
 // limits, and then with 16 an out that is shorter than the text; only the bytes of the text are touched.
 pub fn write_sheet(sheet: &[u32; TEXT_WORDS], out: &mut [u8]) -> Answer
     ensures { Settled (write_answer sheet.now (length out.old))
-        (write_into sheet.now out.old) result out.new }
+        (write_into sheet.now out.old) (in_numbers result) out.new }
 {
     if !measuring::sheet_ok(sheet) {
-        return Answer::Refused(OUTSIDE_LIMITS);
+        return Err(Refused::Plain(Refusal::OutsideLimits));
     }
     let mut page = Page::new();
     add_sheet(&mut page, sheet);
     let text = page.text();
     if out.len() < text.len() {
-        return Answer::Refused(NO_ROOM);
+        return Err(Refused::Plain(Refusal::NoRoom));
     }
     spelling::write_bytes(text, out);
-    Answer::Count(text.len() as u32)
+    Ok(Figures::Count(text.len() as u32))
 }
