@@ -2,7 +2,6 @@
 -- mapped to.
 use Rattle.std.proofs.Common.{◌≡◌, refl, sym, ◌∙◌, Result, Ok, Err}
 use Rattle.std.specs.Result.{MatchResult, IsErrAnd}
-use Rattle.ground.proofs.Booleans.{false_true}
 
 module _ {T E D : Type 0} {r : Result T E} {s : Result T D} (Q : E → D → Type 0)
     (cases : MatchResult r (λ x. s ≡ Ok x) (λ e. IsErrAnd s (Q e))) where
