@@ -1,4 +1,5 @@
 -- The laws of the text layer, a file for each concept of specs/.
+pub mod Told  -- what the code answers of a text is told whole
 pub mod Field  -- how a text begins, its first field, how far a tag agrees with it
 pub mod Number  -- the digits of a number, and how many they are
 pub mod NumberSteps  -- a field read as a number, digit by digit
