@@ -9,7 +9,7 @@ use lib.ListN.{length, get_or, take, drop, set, replicate, length-append, length
 use lib.ListN.{replicate-append-replicate, take-append-drop, drop_of_length-le}
 use Rattle.std.proofs.lemmas.List.{drop-replicate}
 use lib.Seq.{sets, sets-eq, drop-cons, take_all, set_out, length-take-le, take-set-le}
-use lib.Seq.{drop-set-add, length-sets}
+use lib.Seq.{drop-set-add, length-sets, take-suc}
 use Rattle.ground.proofs.Booleans.{by_less}
 
 pub sets_append : (l : List ℕ) (i : ℕ) (xs ys : List ℕ) → sets l i (xs ++ ys) ≡ sets (sets l i xs) (i + length xs) ys
@@ -47,15 +47,19 @@ take_sets l n i (x ∷ xs) h = take_sets (set l i x) n (suc i) xs (omega arith) 
 pub sets_start : (l xs : List ℕ) → length xs ≤ length l → sets l 0 xs ≡ xs ++ drop (length xs) l
 sets_start l xs h = sets-eq xs l 0 (omega arith) ∙ rw (zero-add (length xs))
 
+-- the first numbers of a list stored from the start, one by one
+pub sets_more : (l xs : List ℕ) (i : ℕ) → i < length xs
+    → set (sets l 0 (take i xs)) i (get_or xs i 0) ≡ sets l 0 (take (i + 1) xs)
+sets_more l xs i h =
+    let e : 0 + length (take i xs) ≡ i = omega (arith, length-take-le i xs (omega arith)) in
+    rw (add-one i, take-suc xs i 0) (rw e at (sets_snoc l 0 (take i xs) (get_or xs i 0)))
+
 -- as many as there is room for are the whole of it
-pub sets_fit : (l xs : List ℕ) (n : ℕ) → n ≡ min (length xs) (length l) → take n xs ++ drop n l ≡ sets l 0 xs
+pub sets_fit : (l xs : List ℕ) (n : ℕ) → min (length xs) (length l) ≤ n → sets l 0 (take n xs) ≡ sets l 0 xs
 sets_fit l xs n e =
-    let k : length (take n xs) ≡ n = length-take-le n xs (omega arith) in
-    let s : sets l 0 (take n xs) ≡ take n xs ++ drop n l =
-    sets_start l (take n xs) (omega arith) ∙ rw k in
-    sym s
-    ∙ by_less n (length xs)
+    by_less n (length xs)
     (λ h.
+    let k : length (take n xs) ≡ n = length-take-le n xs (omega arith) in
     let o : length (sets l 0 (take n xs)) ≤ 0 + length (take n xs) = omega (arith, length-sets l 0 (take n xs)) in
     sym (sets_out (sets l 0 (take n xs)) (0 + length (take n xs)) (drop n xs) o)
     ∙ sym (sets_append l 0 (take n xs) (drop n xs))

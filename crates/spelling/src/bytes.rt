@@ -42,6 +42,10 @@ pub fn store<T: Copy>(out: &mut [T], at: usize, x: T)
 pub fn write_bytes(bytes: &[u8], out: &mut [u8])
     ensures { out.new ≡ sets out.old 0 bytes.now }
 {
+    // where both go on, so that no byte asks for its place
     let end = bytes.len().min(out.len());
-    out[..end].copy_from_slice(&bytes[..end]);
+    // Kept: 2, copy_from_slice calls memmove for a tag of a few bytes: writing a sheet took 5 in 100 more
+    for i in 0..end {
+        out[i] = bytes[i];
+    }
 }
