@@ -30,18 +30,18 @@ module _ (tag t o : List ℕ) {at n to : ℕ} {r : LineRead} {ys : List ℕ} (d 
   fed : Reads (read_line line (drop at t)) (drop n o) r ys
   fed = rw (rest_part t at, rest_part o n) at p
 
-  line_in : at + reached r ≤ length t
+  pub line_in : at + reached r ≤ length t
   line_in = omega (arith, d.within, ap reached fed.answer, line_extent line (drop at t), length-drop at t)
 
-  pub goes_on : {r' : LineRead} → r ≡ r' → ReadsOn at line t n o (shift_by at r') (put_back o n ys)
-  goes_on {r'} told =
+  pub goes_on : ReadsOn at line t n o (shift_by at r) (put_back o n ys)
+  goes_on =
       let ns : List ℕ = (read_line line (drop at t)).numbers in
       let laid : put_back o n ys ≡ sets o n ns = rw fed.stored (part_sets o n ns) in
       record {
-        answer = rw (← told, fed.answer);
+        answer = rw fed.answer;
         stored = laid;
         kept = ap length laid ∙ (length-sets o n ns ∙ d.room);
-        within = omega (arith, ap reached told, reached_shift at r', line_in);
+        within = rw (reached_shift at r) line_in;
       }
 
 -- the next line is due
