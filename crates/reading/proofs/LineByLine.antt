@@ -97,9 +97,9 @@ one_more {l} {ls} {t} {k = k} h before w b f =
 
 -- after a fault no line is read, however many are left; `?` sends it out as z
 pub gone : {ls ms : List Line} {t o : List ℕ} {from n : ℕ} {e : Why.Fault} {was : Result ℕ Why.Fault}
-    (z : Result ℕ Why.Fault) → Past ls t from (line_told was) o → was ≡ Err e → IsErrAnd z (λ y. y ≡ e)
+    → Past ls t from (line_told was) o → was ≡ Err e → (z : Result ℕ Why.Fault) → IsErrAnd z (λ y. y ≡ e)
     → Past ms t n (line_told z) o
-gone z before w m =
+gone before w z m =
     let p = err_from_is_err_and z m in
     let a = rw w at before in
     rw (p.1, p.2) (record { so = a.so; goes = a.goes; stored = a.stored; many = refl; within = a.within })

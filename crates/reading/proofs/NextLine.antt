@@ -12,7 +12,6 @@ use Rattle.text.specs.Read.{shift_by}
 use Rattle.ground.proofs.Stores.{put_back, rest_part, part_sets}
 use Rattle.text.proofs.Line.{line_extent}
 use Rattle.sheet.specs.Sheet.{limit_rows}
-use Rattle.sheet.specs.Places.{fittings_at}
 use Rattle.text.specs.Read.{reached}
 use Rattle.reading.specs.Steps.{Due, ReadsOn}
 
@@ -43,12 +42,3 @@ module _ (tag t o : List ℕ) {at n to : ℕ} {r : LineRead} {ys : List ℕ} (d 
         kept = ap length laid ∙ (length-sets o n ns ∙ d.room);
         within = rw (reached_shift at r) line_in;
       }
-
--- the next line is due
-pub due : {at k : ℕ} {r : LineRead} {l : Line} {t o₀ o : List ℕ} {n : ℕ} (from to : ℕ)
-    → from ≤ to
-    → to ≤ 1 + fittings_at
-    → ReadsOn at l t n o₀ r o
-    → r ≡ Taken k
-    → Due o from to k t
-due from to h m p e = record { room = p.kept; order = h; end = m; within = rw e at p.within }

@@ -6,7 +6,8 @@ use Rattle.text.proofs.Field.{agreed_most}
 use Rattle.sheet.specs.Lines.{end_line}
 use Rattle.reading.proofs.Rest.{end_broken, end_more, end_last}
 use Rattle.reading.proofs.sheets.read_end.Goals as goal
-use Rattle.reading.proofs.sheets.read_end.Goals.{then-same-lt4-via-then-same-lt4, then-same-lt4-via-else-same-lt4+then-text-gt4}
+use Rattle.reading.proofs.sheets.read_end.Goals.{then-same-lt4-via-then-same-lt4}
+use Rattle.reading.proofs.sheets.read_end.Goals.{then-same-lt4-via-else-same-lt4+then-text-gt4}
 
 pub returns-then-same-lt4 : goal.returns-then-same-lt4
 returns-then-same-lt4 c =

@@ -25,12 +25,6 @@ read c = room (turn (goal.at.In-Ok c).After-read_row) (ap row_told c.in-Ok.is)
 pub loop-init : goal.loop-init
 loop-init c = start _ _ c.requires
 
-pub slice_bounds-starts-count : goal.slice_bounds-starts-count
-slice_bounds-starts-count c = c.loop.invariant.upto.at_in
-
-pub slice_bounds-starts-start : goal.slice_bounds-starts-start
-slice_bounds-starts-start c = c.loop.invariant.upto.at_in
-
 pub returns-in-Err : goal.returns-in-Err
 returns-in-Err c =
     rw c.after.ensures (fault (turn (goal.at.returns-in-Err c).After-read_row) (ap row_told c.in-Err.is))

@@ -1,7 +1,11 @@
 -- `read_lines` meets its contract.
 use mathlib.Core.Path.{refl}
+use mathlib.Core.List.{List}
+use Prim.Native.Nat.{ℕ}
 use lib.ListN.{drop}
 use native.Mathlib.Omega.{arith}
+use Rattle.std.specs.Prelude.{Result}
+use Rattle.text.specs.declared.Fault.{Fault}
 use Rattle.text.specs.Read.{line_told}
 use Rattle.text.proofs.Limits.{full}
 use Rattle.sheet.specs.Lines.{lines}
@@ -9,86 +13,118 @@ use Rattle.sheet.specs.Sheet.{limit_rows, limits_on}
 use Rattle.reading.specs.Steps.{Past}
 use Rattle.reading.proofs.LineByLine.{no_lines, one_more, gone}
 use Rattle.reading.proofs.sheets.read_lines.Goals as goal
-use Rattle.reading.proofs.sheets.read_lines.Goals.{After-read_line, After-read_line-2, After-read_line-3, After-read_line-4}
-use Rattle.reading.proofs.sheets.read_lines.Goals.{After-read_line-5, After-read_line-6, After-read_line-7, After-read_line-8}
-use Rattle.reading.proofs.sheets.read_lines.Goals.{After-read_line-9}
+use Rattle.reading.proofs.sheets.read_lines.Goals.{After-read_line, After-read_line-2, After-read_line-3}
+use Rattle.reading.proofs.sheets.read_lines.Goals.{After-read_line-4, After-read_line-5, After-read_line-6}
+use Rattle.reading.proofs.sheets.read_lines.Goals.{After-read_line-7, After-read_line-8, After-read_line-9}
 
 -- ---- the lines up to one of them
 
-hull : (c : After-read_line) → Past (drop 1 lines) c.args.text.now 1 (line_told c.read_line.result) c.read_line.new.words
-unfolding limit_rows limits_on full
-hull c = one_more (omega arith) (no_lines c.args.text.now c.args.words.now c.requires) refl c.read_line.ensures refl
+-- `count` lines of t were read, `words` words; r is how the last of them ended
+abbrev Read : ℕ → ℕ → List ℕ → Result ℕ Fault → List ℕ → Type 0
+Read count words t r o = Past (drop count lines) t words (line_told r) o
 
-form : (c : After-read_line-2) → Past (drop 2 lines) c.args.text.now 7 (line_told c.read_line-2.result) c.read_line-2.new.words
+hull : (c : After-read_line) → Read 1 1 c.args.text.now c.read_line.result c.read_line.new.words
 unfolding limit_rows limits_on full
-form c = one_more (omega arith) (hull (goal.at.After-read_line-2 c).After-read_line) c.in_ok-hull.was c.read_line-2.ensures refl
+hull c =
+    one_more (omega arith) (no_lines c.args.text.now c.args.words.now c.requires) refl c.read_line.ensures refl
 
-q : (c : After-read_line-3) → Past (drop 3 lines) c.args.text.now 14 (line_told c.read_line-3.result) c.read_line-3.new.words
+form : (c : After-read_line-2) → Read 2 7 c.args.text.now c.read_line-2.result c.read_line-2.new.words
 unfolding limit_rows limits_on full
-q c = one_more (omega arith) (form (goal.at.After-read_line-3 c).After-read_line-2) c.in_ok-form.was c.read_line-3.ensures refl
+form c =
+    let before = hull (goal.at.After-read_line-2 c).After-read_line in
+    one_more (omega arith) before c.in_ok-hull.was c.read_line-2.ensures refl
 
-r : (c : After-read_line-4) → Past (drop 4 lines) c.args.text.now 21 (line_told c.read_line-4.result) c.read_line-4.new.words
+q : (c : After-read_line-3) → Read 3 14 c.args.text.now c.read_line-3.result c.read_line-3.new.words
 unfolding limit_rows limits_on full
-r c = one_more (omega arith) (q (goal.at.After-read_line-4 c).After-read_line-3) c.in_ok-q.was c.read_line-4.ensures refl
+q c =
+    let before = form (goal.at.After-read_line-3 c).After-read_line-2 in
+    one_more (omega arith) before c.in_ok-form.was c.read_line-3.ensures refl
 
-s : (c : After-read_line-5) → Past (drop 5 lines) c.args.text.now 28 (line_told c.read_line-5.result) c.read_line-5.new.words
+r : (c : After-read_line-4) → Read 4 21 c.args.text.now c.read_line-4.result c.read_line-4.new.words
 unfolding limit_rows limits_on full
-s c = one_more (omega arith) (r (goal.at.After-read_line-5 c).After-read_line-4) c.in_ok-r.was c.read_line-5.ensures refl
+r c =
+    let before = q (goal.at.After-read_line-4 c).After-read_line-3 in
+    one_more (omega arith) before c.in_ok-q.was c.read_line-4.ensures refl
 
-t : (c : After-read_line-6) → Past (drop 6 lines) c.args.text.now 35 (line_told c.read_line-6.result) c.read_line-6.new.words
+s : (c : After-read_line-5) → Read 5 28 c.args.text.now c.read_line-5.result c.read_line-5.new.words
 unfolding limit_rows limits_on full
-t c = one_more (omega arith) (s (goal.at.After-read_line-6 c).After-read_line-5) c.in_ok-s.was c.read_line-6.ensures refl
+s c =
+    let before = r (goal.at.After-read_line-5 c).After-read_line-4 in
+    one_more (omega arith) before c.in_ok-r.was c.read_line-5.ensures refl
 
-vol : (c : After-read_line-7) → Past (drop 7 lines) c.args.text.now 38 (line_told c.read_line-7.result) c.read_line-7.new.words
+t : (c : After-read_line-6) → Read 6 35 c.args.text.now c.read_line-6.result c.read_line-6.new.words
 unfolding limit_rows limits_on full
-vol c = one_more (omega arith) (t (goal.at.After-read_line-7 c).After-read_line-6) c.in_ok-t.was c.read_line-7.ensures refl
+t c =
+    let before = s (goal.at.After-read_line-6 c).After-read_line-5 in
+    one_more (omega arith) before c.in_ok-s.was c.read_line-6.ensures refl
 
-mass : (c : After-read_line-8) → Past (drop 8 lines) c.args.text.now 41 (line_told c.read_line-8.result) c.read_line-8.new.words
+vol : (c : After-read_line-7) → Read 7 38 c.args.text.now c.read_line-7.result c.read_line-7.new.words
 unfolding limit_rows limits_on full
-mass c = one_more (omega arith) (vol (goal.at.After-read_line-8 c).After-read_line-7) c.in_ok-vol.was c.read_line-8.ensures refl
+vol c =
+    let before = t (goal.at.After-read_line-7 c).After-read_line-6 in
+    one_more (omega arith) before c.in_ok-t.was c.read_line-7.ensures refl
 
-power : (c : After-read_line-9) → Past (drop 9 lines) c.args.text.now 43 (line_told c.read_line-9.result) c.read_line-9.new.words
+mass : (c : After-read_line-8) → Read 8 41 c.args.text.now c.read_line-8.result c.read_line-8.new.words
 unfolding limit_rows limits_on full
-power c = one_more (omega arith) (mass (goal.at.After-read_line-9 c).After-read_line-8) c.in_ok-mass.was c.read_line-9.ensures refl
+mass c =
+    let before = vol (goal.at.After-read_line-8 c).After-read_line-7 in
+    one_more (omega arith) before c.in_ok-vol.was c.read_line-8.ensures refl
+
+power : (c : After-read_line-9) → Read 9 43 c.args.text.now c.read_line-9.result c.read_line-9.new.words
+unfolding limit_rows limits_on full
+power c =
+    let before = mass (goal.at.After-read_line-9 c).After-read_line-8 in
+    one_more (omega arith) before c.in_ok-mass.was c.read_line-9.ensures refl
 
 pub returns : goal.returns
 unfolding limit_rows limits_on full
-returns c = one_more (omega arith) (power (goal.at.returns c).After-read_line-9) c.in_ok-power.was c.read_line-10.ensures refl
+returns c =
+    let before = power (goal.at.returns c).After-read_line-9 in
+    one_more (omega arith) before c.in_ok-power.was c.read_line-10.ensures refl
 
--- ---- the fault of a line
+-- ---- the fault of one of them
 
 pub returns-in_err-hull : goal.returns-in_err-hull
 returns-in_err-hull c =
-    gone c.from_residual.result (hull (goal.at.returns-in_err-hull c).After-read_line) c.in_err-hull.was c.from_residual.ensures.1
+    gone (hull (goal.at.returns-in_err-hull c).After-read_line) c.in_err-hull.was c.from_residual.result
+    c.from_residual.ensures.1
 
 pub returns-in_err-form : goal.returns-in_err-form
 returns-in_err-form c =
-    gone c.from_residual-in_err-form.result (form (goal.at.returns-in_err-form c).After-read_line-2) c.in_err-form.was c.from_residual-in_err-form.ensures.1
+    gone (form (goal.at.returns-in_err-form c).After-read_line-2) c.in_err-form.was c.from_residual-in_err-form.result
+    c.from_residual-in_err-form.ensures.1
 
 pub returns-in_err-q : goal.returns-in_err-q
 returns-in_err-q c =
-    gone c.from_residual-in_err-q.result (q (goal.at.returns-in_err-q c).After-read_line-3) c.in_err-q.was c.from_residual-in_err-q.ensures.1
+    gone (q (goal.at.returns-in_err-q c).After-read_line-3) c.in_err-q.was c.from_residual-in_err-q.result
+    c.from_residual-in_err-q.ensures.1
 
 pub returns-in_err-r : goal.returns-in_err-r
 returns-in_err-r c =
-    gone c.from_residual-in_err-r.result (r (goal.at.returns-in_err-r c).After-read_line-4) c.in_err-r.was c.from_residual-in_err-r.ensures.1
+    gone (r (goal.at.returns-in_err-r c).After-read_line-4) c.in_err-r.was c.from_residual-in_err-r.result
+    c.from_residual-in_err-r.ensures.1
 
 pub returns-in_err-s : goal.returns-in_err-s
 returns-in_err-s c =
-    gone c.from_residual-in_err-s.result (s (goal.at.returns-in_err-s c).After-read_line-5) c.in_err-s.was c.from_residual-in_err-s.ensures.1
+    gone (s (goal.at.returns-in_err-s c).After-read_line-5) c.in_err-s.was c.from_residual-in_err-s.result
+    c.from_residual-in_err-s.ensures.1
 
 pub returns-in_err-t : goal.returns-in_err-t
 returns-in_err-t c =
-    gone c.from_residual-in_err-t.result (t (goal.at.returns-in_err-t c).After-read_line-6) c.in_err-t.was c.from_residual-in_err-t.ensures.1
+    gone (t (goal.at.returns-in_err-t c).After-read_line-6) c.in_err-t.was c.from_residual-in_err-t.result
+    c.from_residual-in_err-t.ensures.1
 
 pub returns-in_err-vol : goal.returns-in_err-vol
 returns-in_err-vol c =
-    gone c.from_residual-in_err-vol.result (vol (goal.at.returns-in_err-vol c).After-read_line-7) c.in_err-vol.was c.from_residual-in_err-vol.ensures.1
+    gone (vol (goal.at.returns-in_err-vol c).After-read_line-7) c.in_err-vol.was c.from_residual-in_err-vol.result
+    c.from_residual-in_err-vol.ensures.1
 
 pub returns-in_err-mass : goal.returns-in_err-mass
 returns-in_err-mass c =
-    gone c.from_residual-in_err-mass.result (mass (goal.at.returns-in_err-mass c).After-read_line-8) c.in_err-mass.was c.from_residual-in_err-mass.ensures.1
+    gone (mass (goal.at.returns-in_err-mass c).After-read_line-8) c.in_err-mass.was c.from_residual-in_err-mass.result
+    c.from_residual-in_err-mass.ensures.1
 
 pub returns-in_err-power : goal.returns-in_err-power
 returns-in_err-power c =
-    gone c.from_residual-in_err-power.result (power (goal.at.returns-in_err-power c).After-read_line-9) c.in_err-power.was c.from_residual-in_err-power.ensures.1
+    gone (power (goal.at.returns-in_err-power c).After-read_line-9) c.in_err-power.was c.from_residual-in_err-power.result
+    c.from_residual-in_err-power.ensures.1
