@@ -86,45 +86,39 @@ returns c =
 
 pub returns-in_err-hull : goal.returns-in_err-hull
 returns-in_err-hull c =
-    gone (hull (goal.at.returns-in_err-hull c).After-read_line) c.in_err-hull.was c.from_residual.result
-    c.from_residual.ensures.1
+    gone (hull (goal.at.returns-in_err-hull c).After-read_line) c.in_err-hull.was _ c.from_residual.ensures.1
 
 pub returns-in_err-form : goal.returns-in_err-form
 returns-in_err-form c =
-    gone (form (goal.at.returns-in_err-form c).After-read_line-2) c.in_err-form.was c.from_residual-in_err-form.result
+    gone (form (goal.at.returns-in_err-form c).After-read_line-2) c.in_err-form.was _
     c.from_residual-in_err-form.ensures.1
 
 pub returns-in_err-q : goal.returns-in_err-q
 returns-in_err-q c =
-    gone (q (goal.at.returns-in_err-q c).After-read_line-3) c.in_err-q.was c.from_residual-in_err-q.result
-    c.from_residual-in_err-q.ensures.1
+    gone (q (goal.at.returns-in_err-q c).After-read_line-3) c.in_err-q.was _ c.from_residual-in_err-q.ensures.1
 
 pub returns-in_err-r : goal.returns-in_err-r
 returns-in_err-r c =
-    gone (r (goal.at.returns-in_err-r c).After-read_line-4) c.in_err-r.was c.from_residual-in_err-r.result
-    c.from_residual-in_err-r.ensures.1
+    gone (r (goal.at.returns-in_err-r c).After-read_line-4) c.in_err-r.was _ c.from_residual-in_err-r.ensures.1
 
 pub returns-in_err-s : goal.returns-in_err-s
 returns-in_err-s c =
-    gone (s (goal.at.returns-in_err-s c).After-read_line-5) c.in_err-s.was c.from_residual-in_err-s.result
-    c.from_residual-in_err-s.ensures.1
+    gone (s (goal.at.returns-in_err-s c).After-read_line-5) c.in_err-s.was _ c.from_residual-in_err-s.ensures.1
 
 pub returns-in_err-t : goal.returns-in_err-t
 returns-in_err-t c =
-    gone (t (goal.at.returns-in_err-t c).After-read_line-6) c.in_err-t.was c.from_residual-in_err-t.result
-    c.from_residual-in_err-t.ensures.1
+    gone (t (goal.at.returns-in_err-t c).After-read_line-6) c.in_err-t.was _ c.from_residual-in_err-t.ensures.1
 
 pub returns-in_err-vol : goal.returns-in_err-vol
 returns-in_err-vol c =
-    gone (vol (goal.at.returns-in_err-vol c).After-read_line-7) c.in_err-vol.was c.from_residual-in_err-vol.result
-    c.from_residual-in_err-vol.ensures.1
+    gone (vol (goal.at.returns-in_err-vol c).After-read_line-7) c.in_err-vol.was _ c.from_residual-in_err-vol.ensures.1
 
 pub returns-in_err-mass : goal.returns-in_err-mass
 returns-in_err-mass c =
-    gone (mass (goal.at.returns-in_err-mass c).After-read_line-8) c.in_err-mass.was c.from_residual-in_err-mass.result
+    gone (mass (goal.at.returns-in_err-mass c).After-read_line-8) c.in_err-mass.was _
     c.from_residual-in_err-mass.ensures.1
 
 pub returns-in_err-power : goal.returns-in_err-power
 returns-in_err-power c =
-    gone (power (goal.at.returns-in_err-power c).After-read_line-9) c.in_err-power.was c.from_residual-in_err-power.result
+    gone (power (goal.at.returns-in_err-power c).After-read_line-9) c.in_err-power.was _
     c.from_residual-in_err-power.ensures.1
