@@ -1,16 +1,11 @@
--- What the call that reads engine rows answers and leaves.
+-- What a whole text of engine rows says.
 use mathlib.Core.Path.{◌≡◌, refl, sym, ap, ◌∙◌}
-use mathlib.Core.Bool.{false}
 use mathlib.Core.List.{List}
 use Prim.Native.Nat.{ℕ, ◌≤◌, ◌<◌}
 use native.Mathlib.Omega.{arith}
-use borrow.Author.Tests.{le-leb, lt-leb}
 use lib.ListN.{length, take, drop, get_or, length-append, length-drop, length-map}
-use lib.Seq.{length-take-le, take_at}
+use lib.Seq.{take_at}
 use Rattle.ground.specs.Lists.{put_first}
-use Rattle.answers.specs.Answer.{Answer}
-use Rattle.answers.specs.Answer.{Refused, RefusedAt, Count}
-use Rattle.answers.specs.Settled.{Settled}
 use Rattle.form.specs.Parts.{Row}
 use Rattle.text.specs.Read.{Whole, Wrong}
 use Rattle.text.specs.Place.{line_at, byte_at}
@@ -18,10 +13,9 @@ use Rattle.form.specs.Outcome.{Found, took, lost, Verdict, right, placed}
 use Rattle.form.proofs.Verdict.{form_long, form_said}
 use Rattle.sheet.specs.Lines.{most_bytes}
 use Rattle.sheet.specs.EngineText.{engine_form, only_rows, read_engines, powers_of, weights_of}
-use Rattle.sheet.specs.TextCalls.{rows_fit, engines_answer, columns_into}
 use Rattle.reading.specs.Rows.{Rows, NoRows}
 use Rattle.reading.specs.Rows.{rows_ended, Columns, HeardRows}
-use Rattle.reading.proofs.Heard.{told_wrong, told_right}
+use Rattle.reading.proofs.Heard.{told_right}
 use Rattle.reading.proofs.Columns.{engines_at}
 
 -- ---- a whole text
@@ -95,36 +89,3 @@ rows_held q {n} {c} {d} p =
       powers_in = a.1;
       weights_in = b.1;
     }
-
--- ---- the call
-
-pub first_fit : (n : ℕ) (c : List ℕ) {room : ℕ} → n ≤ length c → n ≤ room → length (take n c) ≤ room
-first_fit n c h l = rw (length-take-le n c h) l
-
--- the promise of the call, of what it answers and leaves
-abbrev Promise : Verdict (List Row) → List ℕ → List ℕ → Answer → List ℕ → List ℕ → Type 0
-Promise f a b r c d = Settled (engines_answer f (length a) (length b)) (columns_into f a b) r (c, d)
-
-module _ (f : Verdict (List Row)) (a b : List ℕ) where
-  pub settled_fault : {number line byte : ℕ} {c d : List ℕ} → HeardRows f (Wrong number line byte) c d
-      → Promise f a b (RefusedAt number line byte) a b
-  settled_fault p = let e = told_wrong length f p.answer in record { answered = rw e; kept = rw e }
-
-  module _ {n : ℕ} {c d : List ℕ} (p : Held f n c d) where
-    no_room : rows_fit p.rows (length a) (length b) ≡ false → Promise f a b (Refused 16) a b
-    no_room e = record { answered = rw (p.is, e); kept = rw (p.is, e) }
-
-    pub settled_few_powers : length a < n → Promise f a b (Refused 16) a b
-    settled_few_powers l = no_room (rw (lt-leb (length p.rows) (length a) (omega (arith, p.many))))
-
-    pub settled_few_weights : n ≤ length a → length b < n → Promise f a b (Refused 16) a b
-    settled_few_weights l m =
-        let i = le-leb (length p.rows) (length a) (omega (arith, p.many)) in
-        no_room (rw (i, lt-leb (length p.rows) (length b) (omega (arith, p.many))))
-
-    pub settled_read : {x y : List ℕ} → n ≤ length a → n ≤ length b → x ≡ put_first (take n c) a
-        → y ≡ put_first (take n d) b → Promise f a b (Count n) x y
-    settled_read l m u v =
-        let i = le-leb (length p.rows) (length a) (omega (arith, p.many)) in
-        let j = le-leb (length p.rows) (length b) (omega (arith, p.many)) in
-        record { answered = rw (p.is, i, j, p.many); kept = rw (p.is, i, j, u, v, p.powers, p.weights) }

@@ -73,9 +73,6 @@ module _ {t o : List ℕ} {read at next : ℕ} (s : State t o read at next) wher
       ∙ length-sets (replicate (2 * fittings) 0) 0 s.so
       ∙ length-replicate {A = ℕ} (2 * fittings) 0
 
-  pub kept : {o₀ : List ℕ} → o₀ ≡ replicate (2 * fittings) 0 → length o ≡ length o₀
-  kept z = counted ∙ sym (ap length z ∙ length-replicate {A = ℕ} (2 * fittings) 0)
-
   ends : rows_at fit_part t ≡ took at s.rows → Filled (fits_at t) t (Taken at) o
   unfolding fits_from
   ends e =

@@ -4,7 +4,6 @@ use mathlib.Core.List.{List, [], ◌∷◌, ◌++◌, append-nil, append_assoc}
 use Prim.Native.Nat.{ℕ, ◌+◌}
 use native.Mathlib.Nat.{add-zero, zero-add, add_assoc}
 use native.Mathlib.Omega.{arith}
-use Rattle.text.specs.Read.{LineRead}
 use Rattle.text.specs.Read.{Taken, Fault}
 use Rattle.text.specs.Read.{shift_by}
 use Rattle.form.specs.Outcome.{Found, took, lost, mapped, ahead}
@@ -56,8 +55,3 @@ filled_fault {f} p = found_fault f p.answer
 
 pub filled_taken : {f : Found (List ℕ)} {t o : List ℕ} {k : ℕ} → Filled f t (Taken k) o → f ≡ took k o
 filled_taken {f} {k = k} p = let e = found_taken f p.answer in e.1 ∙ ap (took k) (sym (rw e.1 at p.stored))
-
--- a reading that ended as r, told from a start k bytes before it
-pub filled_as : {f : Found (List ℕ)} {t o : List ℕ} (k : ℕ) {r r' : LineRead} → r ≡ r' → Filled f t (shift_by k r) o
-    → Filled f t (shift_by k r') o
-filled_as k e p = rw e at p

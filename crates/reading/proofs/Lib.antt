@@ -8,8 +8,8 @@ pub mod FitsTurn  -- one turn of that loop
 pub mod Columns  -- engine rows up to the end of their text, and their columns
 pub mod EnginesLoop  -- engine rows
 pub mod EnginesTurn  -- one turn of that loop
-pub mod EnginesCall  -- the call that reads engine rows
+pub mod EnginesCall  -- what a whole text of engine rows says
 pub mod NextLine  -- one line of a sheet after what was read
 pub mod LineByLine  -- the lines HULL to SEAT
 pub mod Rest  -- what follows them
-pub mod SheetCall  -- a whole sheet, and the call that reads it
+pub mod SheetCall  -- a whole sheet, and what its text says

@@ -6,7 +6,11 @@ use Prim.Native.Nat.{ℕ, ◌+◌, ◌<◌}
 use native.Mathlib.Omega.{arith}
 use lib.ListN.{length, drop, replicate, length-append}
 use lib.Seq.{sets, drop-drop}
-use Rattle.text.specs.Read.{LineRead}
+use Rattle.std.specs.Prelude.{Result, Ok, Err}
+use Rattle.std.specs.Result.{IsErrAnd}
+use Rattle.std.proofs.lemmas.Result.{err_from_is_err_and}
+use Rattle.text.specs.declared.Fault as Why
+use Rattle.text.specs.Read.{LineRead, line_told}
 use Rattle.text.specs.Read.{Taken, Fault}
 use Rattle.text.specs.Line.{Line, read_line}
 use Rattle.text.specs.Read.{shift_by}
@@ -78,10 +82,11 @@ module _ {l : Line} {ls : List Line} {t o : List ℕ} {from k : ℕ} (h : 0 < le
       omega (arith, a.many, length-append a.so (read_line l (drop k t)).numbers, line_count l (drop k t) f e)
   more_many (Fault number at) e = refl
 
-pub one_more : {l : Line} {ls : List Line} {t o o' : List ℕ} {from k : ℕ} {r : LineRead}
-    → 0 < length l.tag → Past (l ∷ ls) t from (Taken k) o → ReadsOn k l t from o r o' → full l.limits ≡ true
-    → Past ls t (from + length l.limits) r o'
-one_more {l} {ls} {t} {k = k} h a b f =
+pub one_more : {l : Line} {ls : List Line} {t o o' : List ℕ} {from k : ℕ} {r : LineRead} {was : Result ℕ Why.Fault}
+    → 0 < length l.tag → Past (l ∷ ls) t from (line_told was) o → was ≡ Ok k → ReadsOn k l t from o r o'
+    → full l.limits ≡ true → Past ls t (from + length l.limits) r o'
+one_more {l} {ls} {t} {k = k} h before w b f =
+    let a = rw w at before in
     record {
       so = a.so ++ (read_line l (drop k t)).numbers;
       goes = rw b.answer (more_goes h f a (read_line l (drop k t)).ended refl);
@@ -90,7 +95,11 @@ one_more {l} {ls} {t} {k = k} h a b f =
       within = b.within;
     }
 
--- after a fault no line is read, however many are left
-pub no_more : {ls ms : List Line} {t o : List ℕ} {from n number at : ℕ}
-    → Past ls t from (Fault number at) o → Past ms t n (Fault number at) o
-no_more a = record { so = a.so; goes = a.goes; stored = a.stored; many = refl; within = a.within }
+-- after a fault no line is read, however many are left; `?` sends it out as z
+pub gone : {ls ms : List Line} {t o : List ℕ} {from n : ℕ} {e : Why.Fault} {was : Result ℕ Why.Fault}
+    → Past ls t from (line_told was) o → was ≡ Err e → (z : Result ℕ Why.Fault) → IsErrAnd z (λ y. y ≡ e)
+    → Past ms t n (line_told z) o
+gone before w z m =
+    let p = err_from_is_err_and z m in
+    let a = rw w at before in
+    rw (p.1, p.2) (record { so = a.so; goes = a.goes; stored = a.stored; many = refl; within = a.within })

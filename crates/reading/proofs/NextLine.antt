@@ -12,7 +12,6 @@ use Rattle.text.specs.Read.{shift_by}
 use Rattle.ground.proofs.Stores.{put_back, rest_part, part_sets}
 use Rattle.text.proofs.Line.{line_extent}
 use Rattle.sheet.specs.Sheet.{limit_rows}
-use Rattle.sheet.specs.Places.{fittings_at}
 use Rattle.text.specs.Read.{reached}
 use Rattle.reading.specs.Steps.{Due, ReadsOn}
 
@@ -30,25 +29,16 @@ module _ (tag t o : List ℕ) {at n to : ℕ} {r : LineRead} {ys : List ℕ} (d 
   fed : Reads (read_line line (drop at t)) (drop n o) r ys
   fed = rw (rest_part t at, rest_part o n) at p
 
-  line_in : at + reached r ≤ length t
+  pub line_in : at + reached r ≤ length t
   line_in = omega (arith, d.within, ap reached fed.answer, line_extent line (drop at t), length-drop at t)
 
-  pub goes_on : {r' : LineRead} → r ≡ r' → ReadsOn at line t n o (shift_by at r') (put_back o n ys)
-  goes_on {r'} told =
+  pub goes_on : ReadsOn at line t n o (shift_by at r) (put_back o n ys)
+  goes_on =
       let ns : List ℕ = (read_line line (drop at t)).numbers in
       let laid : put_back o n ys ≡ sets o n ns = rw fed.stored (part_sets o n ns) in
       record {
-        answer = rw (← told, fed.answer);
+        answer = rw fed.answer;
         stored = laid;
         kept = ap length laid ∙ (length-sets o n ns ∙ d.room);
-        within = omega (arith, ap reached told, reached_shift at r', line_in);
+        within = rw (reached_shift at r) line_in;
       }
-
--- the next line is due
-pub due : {at k : ℕ} {r : LineRead} {l : Line} {t o₀ o : List ℕ} {n : ℕ} (from to : ℕ)
-    → from ≤ to
-    → to ≤ 1 + fittings_at
-    → ReadsOn at l t n o₀ r o
-    → r ≡ Taken k
-    → Due o from to k t
-due from to h m p e = record { room = p.kept; order = h; end = m; within = rw e at p.within }

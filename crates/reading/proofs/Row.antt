@@ -41,7 +41,8 @@ module _ (l : Line) (t : List ℕ) (h : 0 < length l.tag) where
       go (took j rs) d c = (rs, d ∙ cc, cc)
       go (lost m i) d c = absurd (lost_not_found (sym c))
 
-  pub one_lost : {number at : ℕ} → (read_line l t).ended ≡ Fault number at → read_rows (one_line l) 1 1 0 t ≡ lost number at
+  pub one_lost : {number at : ℕ} → (read_line l t).ended ≡ Fault number at
+      → read_rows (one_line l) 1 1 0 t ≡ lost number at
   one_lost {number} {at} e = go (read_rows (one_line l) 1 1 0 t) refl (rw e at (one_agree l t h))
     where
       go : (q : Found Rows) → read_rows (one_line l) 1 1 0 t ≡ q → lost number at ≡ mapped numbers_of q
@@ -110,7 +111,8 @@ pub record Rowed (l : Line) (t : List ℕ) (a b c k : ℕ) : Type 0 where
 pub rowed : (l : Line) (t : List ℕ) {r : RowRead} {a b c k : ℕ} → RowOf l t r → r ≡ Numbers a b c k → Rowed l t a b c k
 rowed l t {a = a} {b} {c} {k} p v = go (read_line l t).ended refl (sym v ∙ p.found)
   where
-    go : (r : LineRead) → (read_line l t).ended ≡ r → Numbers a b c k ≡ row_as (outcome (read_line l t)) → Rowed l t a b c k
+    go : (r : LineRead) → (read_line l t).ended ≡ r → Numbers a b c k ≡ row_as (outcome (read_line l t))
+        → Rowed l t a b c k
     go (Taken j) e q =
         let d : Numbers a b c k ≡ row_as (took j (read_line l t).numbers) = rw e at q in
         let z : j ≡ k = cc in

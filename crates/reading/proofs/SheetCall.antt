@@ -1,4 +1,4 @@
--- A whole sheet: what the code leaves, and what the call answers.
+-- A whole sheet: what the code leaves, and what its text says.
 use mathlib.Core.Path.{◌≡◌, refl, sym, ap, ◌∙◌}
 use mathlib.Core.List.{List, [], ◌++◌, append-nil}
 use Prim.Native.Nat.{ℕ, ◌+◌, ◌-◌, ◌*◌, ◌≤◌, ◌<◌}
@@ -11,20 +11,16 @@ use Rattle.text.specs.Read.{Whole, Wrong}
 use Rattle.text.specs.Read.{shift_by}
 use Rattle.text.specs.Place.{line_at, byte_at}
 use Rattle.ground.proofs.Stores.{put_back, rest_part, sets_zeros}
-use Rattle.answers.specs.Answer.{RefusedAt, Done}
-use Rattle.answers.specs.Settled.{Settled}
 use Rattle.form.specs.Outcome.{Found, took, lost, right, placed}
 use Rattle.form.proofs.Verdict.{form_long, form_said}
 use Rattle.sheet.proofs.SheetText.{sheet_count}
 use Rattle.sheet.specs.Lines.{lines, fittings, most_bytes}
 use Rattle.sheet.specs.Places.{text_words, fittings_at}
 use Rattle.sheet.specs.SheetText.{sheet_form, sheet_of, read_sheet}
-use Rattle.sheet.specs.TextCalls.{read_answer, read_into}
 use Rattle.reading.specs.Filled.{ended_as, found_into, Filled, Heard}
 use Rattle.text.specs.Read.{reached}
 use Rattle.reading.specs.Steps.{onward, rest_on, Past}
 use Rattle.reading.proofs.Found.{ended_onward, filled_fault, filled_taken}
-use Rattle.reading.proofs.Heard.{told_wrong, heard_right}
 use Rattle.reading.proofs.RowsLoop.{part_in}
 use Rattle.reading.proofs.NextLine.{reached_shift}
 
@@ -95,15 +91,3 @@ module _ (t : List ℕ) (h : length t ≤ most_bytes) {o : List ℕ} where
   heard_whole p =
       let e : read_sheet t ≡ right o = sheet_said t h ∙ ap (placed t) (filled_taken p) in
       record { answer = rw e (ap Whole (sym (sheet_count t o e))); stored = rw e }
-
--- ---- the call
-
-pub settled_refused : (t s : List ℕ) {o : List ℕ} {number line byte : ℕ}
-    → Heard (read_sheet t) (Wrong number line byte) o
-    → Settled (read_answer (read_sheet t)) (read_into (read_sheet t) s) (RefusedAt number line byte) s
-settled_refused t s p =
-    let e = told_wrong length (read_sheet t) p.answer in record { answered = rw e; kept = rw e }
-
-pub settled_read : (t s : List ℕ) {o : List ℕ} {n : ℕ} → Heard (read_sheet t) (Whole n) o
-    → Settled (read_answer (read_sheet t)) (read_into (read_sheet t) s) Done o
-settled_read t s p = let e = heard_right p in record { answered = rw e; kept = rw e }

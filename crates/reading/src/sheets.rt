@@ -3,7 +3,7 @@ ghost use Rattle.std.specs.Prelude.{◌≡◌, [], ◌∷◌, ◌+◌, ◌-◌, 
 ghost use Rattle.text.specs.Line.{line_of};
 ghost use Rattle.answers.specs.Settled.{Settled};
 ghost use Rattle.answers.specs.Values.{in_numbers};
-ghost use Rattle.text.specs.Read.{line_told, text_told};
+ghost use Rattle.text.specs.Read.{line_told, text_told, reached};
 ghost use Rattle.form.specs.Parts.{one_line};
 ghost use Rattle.form.specs.Outcome.{mapped};
 ghost use Rattle.form.specs.Reading.{read_rows, read_parts};
@@ -13,7 +13,6 @@ ghost use Rattle.sheet.specs.Places.{text_words, fittings_at};
 ghost use Rattle.sheet.specs.SheetText.{fit_part, fits_from, read_sheet};
 ghost use Rattle.sheet.specs.TextCalls.{read_answer, read_into};
 ghost use Rattle.reading.specs.Filled.{ended_as, Filled, Heard};
-ghost use Rattle.text.specs.Read.{reached};
 ghost use Rattle.reading.specs.Steps.{Due, ReadsOn, rest_on, Past};
 
 use crate::rows::read_row;

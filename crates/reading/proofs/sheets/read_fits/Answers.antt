@@ -1,57 +1,51 @@
 -- `read_fits` meets its contract.
-use mathlib.Core.Path.{sym, ◌∙◌}
-use lib.ListN.{length-set}
+use mathlib.Core.Path.{sym, ap, ◌∙◌}
+use lib.ListN.{length-set, get_or}
+use native.Mathlib.Omega.{arith}
+use Rattle.reading.specs.Rows.{row_told}
 use Rattle.reading.proofs.FitsLoop.{start, full, stop}
 use Rattle.reading.proofs.FitsTurn.{Turn, Room, fault, room, step}
-use native.Mathlib.Omega.{arith}
 use Rattle.reading.proofs.sheets.read_fits.Goals as goal
-use Rattle.reading.proofs.sheets.read_fits.Goals.{After-read_row, In-Numbers}
+use Rattle.reading.proofs.sheets.read_fits.Goals.{After-read_row, In-Ok}
 
 turn : (c : After-read_row)
-    → Turn c.args.text.now c.loop-read.fits c.loop-read._read c.loop-read.at c.loop-read.next c.read_row.result
+    → Turn c.args.text.now c.loop.fits c.loop.counter c.loop.at c.loop.next (row_told c.read_row.result)
 turn c =
     record {
-      state = c.loop-read.invariant;
-      few = c.loop-read-test.true;
+      state = c.loop.invariant;
+      few = c.loop-test.true;
       begun = sym c.starts.ensures ∙ c.if-not-starts.false;
       row = c.read_row.ensures;
     }
 
 -- the row that was read
-read : (c : In-Numbers)
-    → Room c.args.text.now c.loop-read.fits c.loop-read.at c.in-Numbers.line c.in-Numbers.len
-read c =
-    room (record {
-      state = c.loop-read.invariant;
-      few = c.loop-read-test.true;
-      begun = sym c.starts.ensures ∙ c.if-not-starts.false;
-      row = c.read_row.ensures;
-    }) c.in-Numbers.is
+read : (c : In-Ok) → Room c.args.text.now c.loop.fits c.loop.at (get_or c.in-Ok.row.0 0 0) c.in-Ok.row.1
+read c = room (turn (goal.at.In-Ok c).After-read_row) (ap row_told c.in-Ok.is)
 
-pub loop-read-init : goal.loop-read-init
-loop-read-init c = start _ _ c.requires
+pub loop-init : goal.loop-init
+loop-init c = start _ _ c.requires
 
-pub returns-in-NoRow : goal.returns-in-NoRow
-returns-in-NoRow c = fault (turn (goal.at.returns-in-NoRow c).After-read_row) c.in-NoRow.is
+pub returns-in-Err : goal.returns-in-Err
+returns-in-Err c =
+    rw c.after.ensures (fault (turn (goal.at.returns-in-Err c).After-read_row) (ap row_told c.in-Err.is))
 
 pub overflow_sub-word : goal.overflow_sub-word
-overflow_sub-word c = omega (arith, read (goal.at.overflow_sub-word c).In-Numbers)
+overflow_sub-word c = omega (arith, read (goal.at.overflow_sub-word c).In-Ok)
 
 pub bounds-fits-word : goal.bounds-fits-word
-bounds-fits-word c = omega (arith, read (goal.at.bounds-fits-word c).In-Numbers)
+bounds-fits-word c = omega (arith, read (goal.at.bounds-fits-word c).In-Ok)
 
-pub bounds-fits-word-in-Numbers : goal.bounds-fits-word-in-Numbers
-bounds-fits-word-in-Numbers c =
-    simp length-set (omega (arith, read (goal.at.bounds-fits-word-in-Numbers c).In-Numbers))
+pub bounds-fits-word-in-loop : goal.bounds-fits-word-in-loop
+bounds-fits-word-in-loop c = simp length-set (omega (arith, read (goal.at.bounds-fits-word-in-loop c).In-Ok))
 
 pub overflow_add-next : goal.overflow_add-next
-overflow_add-next c = omega (arith, read (goal.at.overflow_add-next c).In-Numbers)
+overflow_add-next c = omega (arith, read (goal.at.overflow_add-next c).In-Ok)
 
-pub loop-read-preserved : goal.loop-read-preserved
-loop-read-preserved c = step (turn (goal.at.loop-read-preserved c).After-read_row) c.in-Numbers.is
+pub loop-preserved : goal.loop-preserved
+loop-preserved c = step (turn (goal.at.loop-preserved c).After-read_row) (ap row_told c.in-Ok.is)
 
 pub returns-then-not-starts : goal.returns-then-not-starts
-returns-then-not-starts c = stop c.loop-read.invariant (sym c.starts.ensures ∙ c.if-not-starts.true)
+returns-then-not-starts c = stop c.loop.invariant (sym c.starts.ensures ∙ c.if-not-starts.true)
 
-pub returns : goal.returns
-returns c = full c.loop-read.invariant c.loop-read-test.false
+pub returns-after-loop : goal.returns-after-loop
+returns-after-loop c = full c.loop.invariant c.loop-test.false

@@ -1,18 +1,15 @@
 -- `read_parts` meets its contract.
-use mathlib.Core.Path.{refl}
-use Rattle.sheet.specs.Sheet.{limit_rows, limits_on}
-use Rattle.reading.proofs.SheetCall.{words_zeros, words_read}
-use Rattle.reading.proofs.Found.{filled_as}
+use Rattle.std.proofs.lemmas.Result.{err_from_is_err_and}
+use Rattle.reading.proofs.SheetCall.{words_broken, words_zeros, words_read}
 use Rattle.reading.proofs.sheets.read_parts.Goals as goal
 
-pub read_lines-requires : goal.read_lines-requires
-unfolding limit_rows limits_on
-read_lines-requires c = (refl, c.requires)
+pub returns-in_err-at : goal.returns-in_err-at
+returns-in_err-at c =
+    let p = err_from_is_err_and c.from_residual.result c.from_residual.ensures.1 in
+    rw (p.1, p.2) (words_broken c.args.text.now c.in_err-at.ensures)
 
 pub read_rest-requires : goal.read_rest-requires
-read_rest-requires c = words_zeros c.args.text.now c.in-Taken.ensures
+read_rest-requires c = words_zeros c.args.text.now c.in_ok-at.ensures
 
-pub returns-in-Taken-read_rest : goal.returns-in-Taken-read_rest
-returns-in-Taken-read_rest c =
-    filled_as c.in-Taken.at c.in-Taken-read_rest.is
-    (words_read c.args.text.now c.in-Taken.ensures c.read_rest.ensures)
+pub returns : goal.returns
+returns c = rw c.told_after.ensures (words_read c.args.text.now c.in_ok-at.ensures c.read_rest.ensures)

@@ -5,9 +5,9 @@ use Rattle.reading.proofs.sheets.read_words.Goals as goal
 pub returns-then-text-gt-MOST_TEXT : goal.returns-then-text-gt-MOST_TEXT
 returns-then-text-gt-MOST_TEXT c = heard_long c.args.text.now _ c.if-text-gt-MOST_TEXT.true
 
-pub returns-in-Fault : goal.returns-in-Fault
-returns-in-Fault c =
-    rw c.wrong_at.ensures (heard_wrong c.args.text.now c.if-text-gt-MOST_TEXT.false c.in-Fault.ensures)
+pub returns-in-Err : goal.returns-in-Err
+returns-in-Err c =
+    rw c.wrong_at.ensures (heard_wrong c.args.text.now c.if-text-gt-MOST_TEXT.false c.in-Err.ensures)
 
-pub returns-in-Taken : goal.returns-in-Taken
-returns-in-Taken c = heard_whole c.args.text.now c.if-text-gt-MOST_TEXT.false c.in-Taken.ensures
+pub returns-in-Ok : goal.returns-in-Ok
+returns-in-Ok c = heard_whole c.args.text.now c.if-text-gt-MOST_TEXT.false c.in-Ok.ensures
