@@ -50,7 +50,7 @@ pub record Parting (a b e : ℕ) : Type 0 where
   pub free : opens (limits_of (take (e - b) (drop b word_rows))) ≡ true
 
 module _ {a b e : ℕ} (c : Parting a b e) (ws : List ℕ) (n : length ws ≡ sheet_words) where
-  parts_join : part_ok ws a e ≡ (part_ok ws a b && part_ok ws b e)
+  pub parts_join : part_ok ws a e ≡ (part_ok ws a b && part_ok ws b e)
   unfolding part_ok
   parts_join =
       let h = c.first.order in
@@ -66,17 +66,6 @@ module _ {a b e : ℕ} (c : Parting a b e) (ws : List ℕ) (n : length ws ≡ sh
       (part_long ws a b (omega arith) c.first
       ∙ sym (length-map ls limit_of ∙ part_long word_rows a b (omega (arith, rows_many refl)) c.first))
       c.free)
-
-  -- by what the code has found of the first part
-  module _ {first : Bool} (told : first ≡ part_ok ws a b) where
-    joined : (first && part_ok ws b e) ≡ part_ok ws a e
-    joined = rw told (sym parts_join)
-
-    pub second_tells : {second : Bool} → first ≡ true → second ≡ part_ok ws b e → second ≡ part_ok ws a e
-    second_tells p q = q ∙ rw p at joined
-
-    pub first_fails : first ≡ false → false ≡ part_ok ws a e
-    first_fails p = rw p at joined
 
 pub part_judged : {rows : List (List ℕ)} → rows ≡ word_rows → (ws : List ℕ) (at end : ℕ)
     → all_hold (limits_of (take (end - at) (drop at rows))) 0 (take (end - at) (drop at ws)) ≡ part_ok ws at end

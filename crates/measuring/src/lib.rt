@@ -45,6 +45,7 @@ impl Judged<'_> {
     }
 
     // The same of a station, Q to T by its number: one word B, and six of alike limits.
+    #[tactic(auto, using(crate::proofs::Runs::station_parts))]
     fn station_ok(&self, station: usize) -> bool
         requires { station < stations }
         ensures { result ≡ part_ok self.now.words.now (station_at station) (station_at station + readings) }
@@ -54,6 +55,7 @@ impl Judged<'_> {
     }
 
     // The same from the line VOL up to the fittings: MASS, PWR and SEAT have limits of many kinds.
+    #[tactic(auto, using(crate::proofs::Runs::vol_run, crate::proofs::Runs::vol_parts))]
     fn from_vol(&self) -> bool
         ensures { result ≡ part_ok self.now.words.now aft_at fittings_at }
     {
@@ -61,6 +63,7 @@ impl Judged<'_> {
     }
 
     // The same from the first station up to the fittings.
+    #[tactic(auto, using(crate::proofs::Runs::station_more))]
     fn from_stations(&self) -> bool
         ensures { result ≡ part_ok self.now.words.now (station_at 0) fittings_at }
     {
@@ -73,6 +76,7 @@ impl Judged<'_> {
     }
 
     // The same of all before the fittings.
+    #[tactic(auto, using(crate::proofs::Runs::form_parts))]
     fn before_fittings(&self) -> bool
         ensures { result ≡ part_ok self.now.words.now 0 fittings_at }
     {
