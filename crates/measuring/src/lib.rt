@@ -139,6 +139,7 @@ pub fn words_ok(words: &[u32]) -> bool
 }
 
 // Whether a sheet's numbers, its HULL number first, are within their limits.
+#[tactic(auto, using(crate::proofs::Hull::parted), unfolding(sheet::specs::Sheet::limit_rows, sheet::specs::Sheet::limits_on))]
 pub fn sheet_ok(sheet: &[u32]) -> bool
     requires { length sheet.now ≡ text_words }
     ensures { result ≡ sheet_ok sheet.now }
