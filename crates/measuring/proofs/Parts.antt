@@ -1,9 +1,8 @@
 -- Words in two parts, the second of which does not look back at the first, are within limits where both parts are; and
 -- so are all words where those before the fittings and the fittings are.
 use mathlib.Core.Path.{◌≡◌, refl, sym, ap, ◌∙◌}
-use mathlib.Core.Bool.{Bool, true, false, ◌&&◌, cond}
+use mathlib.Core.Bool.{true, ◌&&◌}
 use mathlib.Core.List.{List, ◌++◌, map-append}
-use Rattle.std.specs.Prelude.{Option, Some, None}
 use Prim.Native.Nat.{ℕ, ◌+◌, ◌-◌, ◌≤◌}
 use native.Mathlib.Omega.{arith}
 use lib.Dec.{lit<}
@@ -87,32 +86,22 @@ unfolding lines_open opens
 words_open = refl
 
 -- the fittings, as the code lends them
-abbrev fit_words : List ℕ → List ℕ
+abbrev pub fit_words : List ℕ → List ℕ
 fit_words ws = take (length ws - fittings_at) (drop fittings_at ws)
 
 module _ (ws : List ℕ) (n : length ws ≡ sheet_words) where
-  words_parted : words_ok ws ≡ (part_ok ws 0 fittings_at && fits_ok fittings (fit_words ws))
+  pub words_parted : words_ok ws ≡ (part_ok ws 0 fittings_at && fits_ok fittings (fit_words ws))
   unfolding part_ok
   words_parted =
       ok_run (drop 1 lines) ws words_open (omega (arith, lines_many))
       ∙ rw (lines_many, rest_part ws fittings_at, rows_lines)
 
-  -- by what the code has found of the words before the fittings
-  module _ {first : Bool} (told : first ≡ part_ok ws 0 fittings_at) where
-    whole : (first && fits_ok fittings (fit_words ws)) ≡ words_ok ws
-    whole = rw told (sym words_parted)
+  -- the bare boat among the words before them
+  pub bare_few : part_ok ws 0 fittings_at ≡ true → get_or ws bare_at 0 ≤ high_at bare_at
+  unfolding part_ok
+  bare_few e = run_most ws (rw rows_lines at e) bare_at (lit< tt)
 
-    -- the bare boat among them
-    pub bare_few : first ≡ true → get_or ws bare_at 0 ≤ high_at bare_at
-    unfolding part_ok
-    bare_few p = run_most ws (rw rows_lines at (sym told ∙ p)) bare_at (lit< tt)
-
-    pub fits_tell : {weight : Option ℕ}
-        → first ≡ true
-        → weight ≡ cond (fits_ok fittings (fit_words ws)) (Some (get_or ws bare_at 0 + added_up (fit_words ws))) None
-        → weight ≡ cond (words_ok ws) (Some (boat_m ws)) None
-    unfolding boat_m
-    fits_tell p q = q ∙ rw (← rw p at whole, rest_part ws fittings_at)
-
-    pub words_fail : first ≡ false → None ≡ cond (words_ok ws) (Some (boat_m ws)) None
-    words_fail p = rw (← rw p at whole)
+  -- and with them the whole boat
+  pub boat_parted : boat_m ws ≡ get_or ws bare_at 0 + added_up (fit_words ws)
+  unfolding boat_m
+  boat_parted = rw (rest_part ws fittings_at)

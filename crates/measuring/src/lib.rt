@@ -86,6 +86,7 @@ impl Judged<'_> {
 
 // Whether a fitting line is empty, or its weight and count are within their limits. One piece is no heavier than all,
 // so that the weight of all tells.
+#[tactic(auto, using(crate::proofs::Fits::fit_uncounted, crate::proofs::Fits::fit_unweighed, crate::proofs::Fits::fit_many, crate::proofs::Fits::fit_tells))]
 pub fn fit_ok(weight: u32, count: u32) -> bool
     ensures { result ≡ fit_ok weight count }
 {
@@ -113,6 +114,7 @@ fn with_fittings(bare: u32, fits: &[u32]) -> Option<u32>
 }
 
 // M, what the boat weighs by the words of a sheet, without its HULL number; none where they are outside the limits.
+#[tactic(auto, using(crate::proofs::Parts::words_parted, crate::proofs::Parts::bare_few, crate::proofs::Parts::boat_parted))]
 pub fn weigh(words: &[u32]) -> Option<u32>
     requires { length words.now ≡ sheet_words }
     ensures { result ≡ cond (words_ok words.now) (Some (boat_m words.now)) None }
