@@ -29,6 +29,7 @@ struct Judged<'a> {
 
 impl Judged<'_> {
     // Whether the words from a place up to an end are within their limits.
+    #[tactic(auto, using(crate::proofs::Parts::rows_many, crate::proofs::Parts::part_judged))]
     fn part_ok(&self, at: usize, end: usize) -> bool
         requires { WordPart at end }
         ensures { result ≡ part_ok self.now.words.now at end }
@@ -37,6 +38,7 @@ impl Judged<'_> {
     }
 
     // The same of places whose limits are alike.
+    #[tactic(auto, using(crate::proofs::Parts::rows_many, crate::proofs::Runs::run_low, crate::proofs::Runs::run_judged))]
     fn run_ok(&self, at: usize, end: usize) -> bool
         requires { AlikePart at end }
         ensures { result ≡ part_ok self.now.words.now at end }
