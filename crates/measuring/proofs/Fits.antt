@@ -49,6 +49,8 @@ module _ (w c : ℕ) (counted : c ≢ 0) where
       record { some = omega arith; counted = record { least = omega arith; most = few; product = h } } in
       le-leb (w * c) fitting_high h ∙ sym (pieces_fit w c p))
 
+pub ruleset line_laws = (fit_uncounted, fit_unweighed, fit_many, fit_tells)
+
 -- ---- all of them
 
 fits_more : (s : List ℕ) (line : ℕ) → length s ≡ 2 * fittings → line < fittings

@@ -105,3 +105,5 @@ module _ (ws : List ℕ) (n : length ws ≡ sheet_words) where
   pub boat_parted : boat_m ws ≡ get_or ws bare_at 0 + added_up (fit_words ws)
   unfolding boat_m
   boat_parted = rw (rest_part ws fittings_at)
+
+pub ruleset boat_laws = (words_parted, bare_few, boat_parted)

@@ -11,7 +11,7 @@ use Rattle.sheet.specs.Sheet.{limits_on, limit_rows}
 use Rattle.sheet.proofs.Held.{opens}
 use Rattle.sheet.specs.Places.{length_at, readings, stations, station_at, aft_at, bare_at, fittings_at, sheet_words}
 use Rattle.measuring.specs.Part.{word_rows, part_ok, AlikePart}
-use Rattle.measuring.proofs.Parts.{Parting, part_long, parts_join}
+use Rattle.measuring.proofs.Parts.{rows_many, Parting, part_long, parts_join}
 
 limits_alike : (n : ℕ) (row : List ℕ) → limits_of (replicate n row) ≡ replicate n (limit_of row)
 limits_alike zero row = refl
@@ -35,6 +35,8 @@ pub run_judged : {rows : List (List ℕ)}
 unfolding part_ok
 run_judged e ws n {at} {end} r =
     rw (e, part_long ws at end (omega arith) r.places, r.alike, limits_alike (end - at) (get_or word_rows at []))
+
+pub ruleset run_laws = (rows_many, run_low, run_judged)
 
 -- ---- a station
 

@@ -6,7 +6,8 @@
 ghost use Rattle.std.specs.Prelude.{◌≡◌, Some, None, cond, ◌+◌, ◌*◌, ◌≤◌, ◌<◌, length};
 ghost use Rattle.sheet.specs.Lines.{fittings};
 ghost use Rattle.sheet.specs.Sheet.{fit_ok, fits_ok, words_ok, sheet_ok};
-ghost use Rattle.sheet.specs.Places.{readings, stations, station_at, aft_at, bare_at, fittings_at, sheet_words, text_words};
+ghost use Rattle.sheet.specs.Places.{readings, stations, station_at, aft_at, bare_at, fittings_at};
+ghost use Rattle.sheet.specs.Places.{sheet_words, text_words};
 ghost use Rattle.capacity.specs.Weights.{added_up, boat_m};
 ghost use Rattle.capacity.specs.Highs.{high_at};
 ghost use Rattle.measuring.specs.Part.{part_ok, Lent, WordPart, AlikePart};
@@ -38,7 +39,7 @@ impl Judged<'_> {
     }
 
     // The same of places whose limits are alike.
-    #[tactic(auto, using(crate::proofs::Parts::rows_many, crate::proofs::Runs::run_low, crate::proofs::Runs::run_judged))]
+    #[tactic(auto, using(crate::proofs::Runs::run_laws))]
     fn run_ok(&self, at: usize, end: usize) -> bool
         requires { AlikePart at end }
         ensures { result ≡ part_ok self.now.words.now at end }
@@ -88,7 +89,7 @@ impl Judged<'_> {
 
 // Whether a fitting line is empty, or its weight and count are within their limits. One piece is no heavier than all,
 // so that the weight of all tells.
-#[tactic(auto, using(crate::proofs::Fits::fit_uncounted, crate::proofs::Fits::fit_unweighed, crate::proofs::Fits::fit_many, crate::proofs::Fits::fit_tells))]
+#[tactic(auto, using(crate::proofs::Fits::line_laws))]
 pub fn fit_ok(weight: u32, count: u32) -> bool
     ensures { result ≡ fit_ok weight count }
 {
@@ -116,7 +117,7 @@ fn with_fittings(bare: u32, fits: &[u32]) -> Option<u32>
 }
 
 // M, what the boat weighs by the words of a sheet, without its HULL number; none where they are outside the limits.
-#[tactic(auto, using(crate::proofs::Parts::words_parted, crate::proofs::Parts::bare_few, crate::proofs::Parts::boat_parted))]
+#[tactic(auto, using(crate::proofs::Parts::boat_laws))]
 pub fn weigh(words: &[u32]) -> Option<u32>
     requires { length words.now ≡ sheet_words }
     ensures { result ≡ cond (words_ok words.now) (Some (boat_m words.now)) None }
@@ -143,7 +144,7 @@ pub fn words_ok(words: &[u32]) -> bool
 }
 
 // Whether a sheet's numbers, its HULL number first, are within their limits.
-#[tactic(auto, using(crate::proofs::Hull::parted), unfolding(sheet::specs::Sheet::limit_rows, sheet::specs::Sheet::limits_on))]
+#[tactic(auto, using(crate::proofs::Hull::parted))]
 pub fn sheet_ok(sheet: &[u32]) -> bool
     requires { length sheet.now ≡ text_words }
     ensures { result ≡ sheet_ok sheet.now }
