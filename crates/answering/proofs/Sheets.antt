@@ -18,13 +18,12 @@ use Rattle.sheet.proofs.Words.{words_length}
 use Rattle.capacity.proofs.Weights.{fit_most_lem}
 use Rattle.capacity.proofs.LineSet.{line_light}
 use Rattle.capacity.proofs.Most.{boat_most_lem}
-use Rattle.memory.specs.Layout.{most_hulls, hull_sheet, draft_hull, draft_sheet}
-use Rattle.memory.specs.Layout.{Sized}
+use Rattle.memory.specs.Layout.{Sized, most_hulls, hull_sheet, draft_hull, draft_sheet}
 use Rattle.memory.specs.Formed.{formed}
-use Rattle.memory.specs.Asked.{AtHull, AtDesk, ToSet, ToSave}
+use Rattle.memory.specs.Asked.{AtHull, AtDesk, ToOpen, ToSet, ToSave}
 use Rattle.memory.proofs.Sound.{sound}
-use Rattle.register.specs.Refusals.{hull_refusal, desk_refusal, set_own, save_own, sheet_of}
-use Rattle.register.proofs.Refusals.{hull_goes, desk_goes}
+use Rattle.register.specs.Refusals.{hull_refusal, open_refusal, desk_refusal, set_own, save_own, sheet_of}
+use Rattle.register.proofs.Refusals.{hull_goes, open_goes, desk_goes}
 use Rattle.register.proofs.Own.{set_fits, save_unspent}
 use Rattle.register.proofs.Keeps.{text_words_lem}
 
@@ -49,7 +48,15 @@ hull_in_limits m h z = let g = hull_goes m h z in ((sound m g.ok).hulls h g.ente
 pub draft_in_limits : (m : List ℕ) (d : ℕ) → desk_refusal m d ≡ 0 → words_ok (draft_sheet m d) ≡ true
 draft_in_limits m d z = (desk_goes m d z).draft.sheet.within
 
+pub ruleset hull_laws = (at_hull, hull_in_limits)
+
 -- ---- what the changes to the memory ask
+
+pub to_open : (m : List ℕ) (d h : ℕ) → open_refusal m d h ≡ 0 → ToOpen m d h
+to_open m d h z =
+    let g = open_goes m d h z in
+    let s = sound m g.ok in
+    record { size = s.size; desk = g.desk; hull = omega (arith, s.few, g.entered) }
 
 module _ (m : List ℕ) (d : ℕ) (z : desk_refusal m d ≡ 0) where
   pub to_set : (line w c : ℕ) → set_own (draft_sheet m d) line w c ≡ 0 → ToSet m d line w c
@@ -77,6 +84,8 @@ module _ (m : List ℕ) (d : ℕ) (z : desk_refusal m d ≡ 0) where
         hull = draft_hull_in;
         number = omega (arith, save_unspent m d y, (s.hulls _ g.draft.entered).number);
       }
+
+pub ruleset draft_laws = (at_desk_lem, draft_in_limits, draft_hull_in, to_save)
 
 -- ---- a text's sheet
 

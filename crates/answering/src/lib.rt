@@ -101,7 +101,7 @@ pub fn new_hull(mem: &mut [u32], text: &[u8]) -> Answer
 }
 
 // Plate A of a hull.
-#[tactic(auto, using(crate::proofs::Sheets::at_hull, crate::proofs::Sheets::hull_in_limits))]
+#[tactic(auto, using(crate::proofs::Sheets::hull_laws))]
 pub fn plate_a(mem: &[u32], hull: u32) -> Answer
     ensures { result ≡ (step mem.now (ask hull (plate kind_a))).answer }
 {
@@ -114,7 +114,7 @@ pub fn plate_a(mem: &[u32], hull: u32) -> Answer
 }
 
 // Plate C of a hull.
-#[tactic(auto, using(crate::proofs::Sheets::at_hull, crate::proofs::Sheets::hull_in_limits))]
+#[tactic(auto, using(crate::proofs::Sheets::hull_laws))]
 pub fn plate_c(mem: &[u32], hull: u32, powers: &[u32], weights: &[u32]) -> Answer
     ensures { result
         ≡ (step mem.now
@@ -129,7 +129,7 @@ pub fn plate_c(mem: &[u32], hull: u32, powers: &[u32], weights: &[u32]) -> Answe
 }
 
 // Plate U of a hull.
-#[tactic(auto, using(crate::proofs::Sheets::at_hull, crate::proofs::Sheets::hull_in_limits))]
+#[tactic(auto, using(crate::proofs::Sheets::hull_laws))]
 pub fn plate_u(mem: &[u32], hull: u32) -> Answer
     ensures { result ≡ (step mem.now (ask hull (plate kind_u))).answer }
 {
@@ -142,7 +142,7 @@ pub fn plate_u(mem: &[u32], hull: u32) -> Answer
 }
 
 // What a hull's boat weighs, with its fittings, as it is held: nothing is summed.
-#[tactic(auto, using(crate::proofs::Sheets::at_hull))]
+#[tactic(auto, using(crate::proofs::Sheets::hull_laws))]
 pub fn weight(mem: &[u32], hull: u32) -> Answer
     ensures { result ≡ (step mem.now (ask hull weigh)).answer }
 {
@@ -164,7 +164,7 @@ fn numbered(number: u32, sheet: &[u32]) -> [u32; TEXT_WORDS]
 }
 
 // Writes a hull's sheet, under the register's number, from the start of out and answers how many bytes it has.
-#[tactic(auto, using(crate::proofs::Sheets::at_hull))]
+#[tactic(auto, using(crate::proofs::Sheets::hull_laws))]
 pub fn write_hull(mem: &[u32], hull: u32, out: &mut [u8]) -> Answer
     ensures { Writes (step mem.now (ask hull (write out.old))) result out.new }
 {
@@ -197,6 +197,7 @@ fn open_refusal(mem: &[u32], desk: u32, hull: u32) -> u32
 }
 
 // Opens a hull at a desk, which discards a draft that the desk held, and answers the hull's edit number.
+#[tactic(auto, using(crate::proofs::Sheets::to_open))]
 pub fn open_hull(mem: &mut [u32], desk: u32, hull: u32) -> Answer
     ensures { Changes (step mem.old (open_hull desk hull)) result mem.new }
 {
@@ -235,7 +236,7 @@ fn set_own(mem: &[u32], desk: u32, line: u32, weight: u32, count: u32) -> u32
 }
 
 // Sets a fitting line of a desk's draft to so many pieces of a weight, in place of what is there; 0 and 0 empty it.
-#[tactic(auto, using(crate::proofs::Sheets::at_desk_lem))]
+#[tactic(auto, using(crate::proofs::Sheets::draft_laws))]
 pub fn set_fitting(mem: &mut [u32], desk: u32, line: u32, weight: u32, count: u32) -> Answer
     ensures { Changes (step mem.old (work desk (set_fitting line weight count))) result
         mem.new }
@@ -272,7 +273,7 @@ pub fn replace(mem: &mut [u32], desk: u32, text: &[u8]) -> Answer
 }
 
 // Plate A of a desk's draft, as a trial.
-#[tactic(auto, using(crate::proofs::Sheets::at_desk_lem, crate::proofs::Sheets::draft_in_limits))]
+#[tactic(auto, using(crate::proofs::Sheets::draft_laws))]
 pub fn trial_a(mem: &[u32], desk: u32) -> Answer
     ensures { result ≡ (step mem.now (work desk (try_plate kind_a))).answer }
 {
@@ -285,7 +286,7 @@ pub fn trial_a(mem: &[u32], desk: u32) -> Answer
 }
 
 // Plate C of a desk's draft, as a trial.
-#[tactic(auto, using(crate::proofs::Sheets::at_desk_lem, crate::proofs::Sheets::draft_in_limits))]
+#[tactic(auto, using(crate::proofs::Sheets::draft_laws))]
 pub fn trial_c(mem: &[u32], desk: u32, powers: &[u32], weights: &[u32]) -> Answer
     ensures { result
         ≡ (step mem.now
@@ -300,7 +301,7 @@ pub fn trial_c(mem: &[u32], desk: u32, powers: &[u32], weights: &[u32]) -> Answe
 }
 
 // Plate U of a desk's draft, as a trial.
-#[tactic(auto, using(crate::proofs::Sheets::at_desk_lem, crate::proofs::Sheets::draft_in_limits))]
+#[tactic(auto, using(crate::proofs::Sheets::draft_laws))]
 pub fn trial_u(mem: &[u32], desk: u32) -> Answer
     ensures { result ≡ (step mem.now (work desk (try_plate kind_u))).answer }
 {
@@ -334,7 +335,7 @@ fn save_own(mem: &[u32], desk: u32) -> u32
 }
 
 // Saves a desk's draft as its hull's sheet, ends it, and answers the hull's edit number.
-#[tactic(auto, using(crate::proofs::Sheets::at_desk_lem, crate::proofs::Sheets::draft_hull_in, crate::proofs::Sheets::to_save))]
+#[tactic(auto, using(crate::proofs::Sheets::draft_laws))]
 pub fn save(mem: &mut [u32], desk: u32) -> Answer
     ensures { Changes (step mem.old (save desk)) result mem.new }
 {
@@ -350,7 +351,7 @@ pub fn save(mem: &mut [u32], desk: u32) -> Answer
 }
 
 // Ends a desk's draft.
-#[tactic(auto, using(crate::proofs::Sheets::at_desk_lem))]
+#[tactic(auto, using(crate::proofs::Sheets::draft_laws))]
 pub fn drop_draft(mem: &mut [u32], desk: u32) -> Answer
     ensures { Changes (step mem.old (drop_draft desk)) result mem.new }
 {

@@ -32,7 +32,8 @@ pub weighed_laid : (m s : List ℕ) (at w : ℕ)
     → at + 1 + length s ≤ length m
     → paste (set m at w) (at + 1) s (length s) ≡ sets m at (w ∷ s)
 weighed_laid m s at w h =
-    rw (sets-eq s (set m at w) (suc at) (simp length-set (omega arith)), take_all (length s) s (omega arith), add-one) refl
+    let n : suc at + length s ≤ length (set m at w) = simp length-set (omega arith) in
+    rw (sets-eq s (set m at w) (suc at) n, take_all (length s) s (omega arith), add-one) refl
 
 -- ---- the changes that write more than a word
 
@@ -42,7 +43,9 @@ pub entered_as :
     → o ≡ sets (set m (edit_at (hull_count m)) 0) (hull_weight_at (hull_count m)) (w ∷ s)
     → set o count_at (hull_count m + 1) ≡ entered m s
 unfolding entered
-entered_as m s q e = let n : hull_weight_at (hull_count m) ≡ suc (edit_at (hull_count m)) = omega arith in rw (e, n, q) refl
+entered_as m s q e =
+    let n : hull_weight_at (hull_count m) ≡ suc (edit_at (hull_count m)) = omega arith in
+    rw (e, n, q) refl
 
 pub replaced_as :
     (m s : List ℕ) (d : ℕ) {w : ℕ} {o : List ℕ}

@@ -6,7 +6,8 @@ ghost use Rattle.std.specs.Prelude.{◌≡◌, ℕ, List, ◌+◌, ◌*◌, ◌�
 ghost use Rattle.std.proofs.lemmas.List.Edits.{sets};
 ghost use Rattle.sheet.specs.Lines.{fittings};
 ghost use Rattle.sheet.specs.Places.{sheet_words, fitting_word};
-ghost use Rattle.memory.specs.Layout.{Sized, most_hulls, desks, hull_words, draft_words, register_words, weighed_words, part};
+ghost use Rattle.memory.specs.Layout.{Sized, most_hulls, desks, hull_words, draft_words, register_words};
+ghost use Rattle.memory.specs.Layout.{weighed_words, part};
 ghost use Rattle.memory.specs.Layout.{hull_count, edit, hull_weight, hull_sheet};
 ghost use Rattle.memory.specs.Layout.{held, draft_hull, opening, draft_weight, draft_sheet, fitting};
 ghost use Rattle.memory.specs.Asked.{AtHull, AtDesk, ToEnter, ToOpen, ToSet, ToReplace, ToSave, ToLay, ToCopy};

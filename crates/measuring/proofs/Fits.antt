@@ -49,6 +49,8 @@ module _ (w c : ℕ) (counted : c ≢ 0) where
       record { some = omega arith; counted = record { least = omega arith; most = few; product = h } } in
       le-leb (w * c) fitting_high h ∙ sym (pieces_fit w c p))
 
+pub ruleset line_laws = (fit_uncounted, fit_unweighed, fit_many, fit_tells)
+
 -- ---- all of them
 
 fits_more : (s : List ℕ) (line : ℕ) → length s ≡ 2 * fittings → line < fittings
@@ -89,7 +91,8 @@ pair_word (suc n) (suc k) j s h l =
     let e : 2 * suc k + j ≡ 2 + (2 * k + j) = omega arith in
     rw e (pair_word n k j (drop 2 s) (omega arith) l ∙ get_or-drop 2 s (2 * k + j) 0)
 
-module _ (s : List ℕ) (n : length s ≡ 2 * fittings) {lines : List (List ℕ)} (e : lines ≡ first_chunks 2 (length s / 2) s)
+module _ (s : List ℕ) (n : length s ≡ 2 * fittings)
+    {lines : List (List ℕ)} (e : lines ≡ first_chunks 2 (length s / 2) s)
     (k : ℕ) (h : k < fittings) where
   weight_there : weight_at lines k ≡ get_or s (2 * k) 0
   weight_there = rw (e, pair_word (length s / 2) k 0 s (omega arith) (omega arith), add-zero)

@@ -1,13 +1,12 @@
 -- Words in two parts, the second of which does not look back at the first, are within limits where both parts are; and
 -- so are all words where those before the fittings and the fittings are.
 use mathlib.Core.Path.{◌≡◌, refl, sym, ap, ◌∙◌}
-use mathlib.Core.Bool.{Bool, true, false, ◌&&◌, cond}
-use mathlib.Core.List.{List, ◌++◌, map-append}
-use Rattle.std.specs.Prelude.{Option, Some, None}
+use mathlib.Core.Bool.{true, ◌&&◌}
+use mathlib.Core.List.{List, ◌++◌}
 use Prim.Native.Nat.{ℕ, ◌+◌, ◌-◌, ◌≤◌}
 use native.Mathlib.Omega.{arith}
 use lib.Dec.{lit<}
-use lib.ListN.{length, get_or, take, drop, length-drop, length-map}
+use lib.ListN.{length, get_or, take, drop, length-drop}
 use lib.Seq.{take-add, drop-drop, length-take-le}
 use Rattle.ground.proofs.Stores.{rest_part}
 use Rattle.text.specs.declared.Limit.{Limit}
@@ -51,7 +50,7 @@ pub record Parting (a b e : ℕ) : Type 0 where
   pub free : opens (take (e - b) (drop b word_rows)) ≡ true
 
 module _ {a b e : ℕ} (c : Parting a b e) (ws : List ℕ) (n : length ws ≡ sheet_words) where
-  parts_join : part_ok ws a e ≡ (part_ok ws a b && part_ok ws b e)
+  pub parts_join : part_ok ws a e ≡ (part_ok ws a b && part_ok ws b e)
   unfolding part_ok
   parts_join =
       let h = c.first.order in
@@ -67,17 +66,6 @@ module _ {a b e : ℕ} (c : Parting a b e) (ws : List ℕ) (n : length ws ≡ sh
       ∙ sym (part_long word_rows a b (omega (arith, rows_many refl)) c.first))
       c.free)
 
-  -- by what the code has found of the first part
-  module _ {first : Bool} (told : first ≡ part_ok ws a b) where
-    joined : (first && part_ok ws b e) ≡ part_ok ws a e
-    joined = rw told (sym parts_join)
-
-    pub second_tells : {second : Bool} → first ≡ true → second ≡ part_ok ws b e → second ≡ part_ok ws a e
-    second_tells p q = q ∙ rw p at joined
-
-    pub first_fails : first ≡ false → false ≡ part_ok ws a e
-    first_fails p = rw p at joined
-
 pub part_judged : {rows : List Limit} → rows ≡ word_rows → (ws : List ℕ) (at end : ℕ)
     → all_hold (take (end - at) (drop at rows)) 0 (take (end - at) (drop at ws)) ≡ part_ok ws at end
 unfolding part_ok
@@ -85,7 +73,7 @@ part_judged e ws at end = rw e
 
 -- ---- the words before the fittings, and the fittings
 
-rows_lines : (take fittings_at word_rows) ≡ limits_on (drop 1 lines)
+rows_lines : take fittings_at word_rows ≡ limits_on (drop 1 lines)
 unfolding limit_rows limits_on
 rows_lines = refl
 
@@ -98,32 +86,24 @@ unfolding lines_open opens
 words_open = refl
 
 -- the fittings, as the code lends them
-abbrev fit_words : List ℕ → List ℕ
+abbrev pub fit_words : List ℕ → List ℕ
 fit_words ws = take (length ws - fittings_at) (drop fittings_at ws)
 
 module _ (ws : List ℕ) (n : length ws ≡ sheet_words) where
-  words_parted : words_ok ws ≡ (part_ok ws 0 fittings_at && fits_ok fittings (fit_words ws))
+  pub words_parted : words_ok ws ≡ (part_ok ws 0 fittings_at && fits_ok fittings (fit_words ws))
   unfolding part_ok
   words_parted =
       ok_run (drop 1 lines) ws words_open (omega (arith, lines_many))
       ∙ rw (lines_many, rest_part ws fittings_at, rows_lines)
 
-  -- by what the code has found of the words before the fittings
-  module _ {first : Bool} (told : first ≡ part_ok ws 0 fittings_at) where
-    whole : (first && fits_ok fittings (fit_words ws)) ≡ words_ok ws
-    whole = rw told (sym words_parted)
+  -- the bare boat among the words before them
+  pub bare_few : part_ok ws 0 fittings_at ≡ true → get_or ws bare_at 0 ≤ high_at bare_at
+  unfolding part_ok
+  bare_few e = run_most ws (rw rows_lines at e) bare_at (lit< tt)
 
-    -- the bare boat among them
-    pub bare_few : first ≡ true → get_or ws bare_at 0 ≤ high_at bare_at
-    unfolding part_ok
-    bare_few p = run_most ws (rw rows_lines at (sym told ∙ p)) bare_at (lit< tt)
+  -- and with them the whole boat
+  pub boat_parted : boat_m ws ≡ get_or ws bare_at 0 + added_up (fit_words ws)
+  unfolding boat_m
+  boat_parted = rw (rest_part ws fittings_at)
 
-    pub fits_tell : {weight : Option ℕ}
-        → first ≡ true
-        → weight ≡ cond (fits_ok fittings (fit_words ws)) (Some (get_or ws bare_at 0 + added_up (fit_words ws))) None
-        → weight ≡ cond (words_ok ws) (Some (boat_m ws)) None
-    unfolding boat_m
-    fits_tell p q = q ∙ rw (← rw p at whole, rest_part ws fittings_at)
-
-    pub words_fail : first ≡ false → None ≡ cond (words_ok ws) (Some (boat_m ws)) None
-    words_fail p = rw (← rw p at whole)
+pub ruleset boat_laws = (words_parted, bare_few, boat_parted)

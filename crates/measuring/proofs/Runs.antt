@@ -1,6 +1,6 @@
 -- Places whose limits are alike, and those of the four stations.
-use mathlib.Core.Path.{◌≡◌, refl, sym, ap, ◌∙◌}
-use mathlib.Core.Bool.{Bool, true}
+use mathlib.Core.Path.{◌≡◌, refl, ap}
+use mathlib.Core.Bool.{true, ◌&&◌}
 use mathlib.Core.List.{List, [], ◌∷◌}
 use Prim.Native.Nat.{ℕ, zero, suc, ◌+◌, ◌-◌, ◌<◌}
 use native.Mathlib.Omega.{arith}
@@ -12,7 +12,14 @@ use Rattle.sheet.specs.Sheet.{limits_on, limit_rows}
 use Rattle.sheet.proofs.Held.{opens}
 use Rattle.sheet.specs.Places.{length_at, readings, stations, station_at, aft_at, bare_at, fittings_at, sheet_words}
 use Rattle.measuring.specs.Part.{word_rows, part_ok, AlikePart}
-use Rattle.measuring.proofs.Parts.{Parting, part_long, second_tells}
+use Rattle.measuring.proofs.Parts.{rows_many, Parting, part_long, parts_join}
+
+pub run_low : {rows : List Limit}
+    → rows ≡ word_rows
+    → {at end : ℕ}
+    → AlikePart at end
+    → from_zero (get_or rows at (ranging 0 0)) ≡ true
+run_low e r = rw e r.low
 
 pub run_judged : {rows : List Limit}
     → rows ≡ word_rows
@@ -25,6 +32,8 @@ pub run_judged : {rows : List Limit}
 unfolding part_ok
 run_judged e ws n {at} {end} r =
     rw (e, part_long ws at end (omega arith) r.places, r.alike)
+
+pub ruleset run_laws = (rows_many, run_low, run_judged)
 
 -- ---- a station
 
@@ -42,12 +51,16 @@ station (suc (suc zero)) h = search rules
 station (suc (suc (suc zero))) h = search rules
 station (suc (suc (suc (suc k)))) h = absurd (omega arith)
 
-pub station_more : (ws : List ℕ) → length ws ≡ sheet_words → (k : ℕ) → k < stations
-    → {first : Bool} → first ≡ part_ok ws (station_at k) (station_at k + readings) → first ≡ true
-    → part_ok ws (station_at k) fittings_at ≡ part_ok ws (station_at (k + 1)) fittings_at
-station_more ws n k h e p =
-    let next : station_at k + readings ≡ station_at (k + 1) = omega arith in
-    sym (second_tells (station k h).after ws n e p refl) ∙ ap (λ (i : ℕ). part_ok ws i fittings_at) next
+module _ (ws : List ℕ) (n : length ws ≡ sheet_words) (k : ℕ) (h : k < stations) where
+  pub station_parts : part_ok ws (station_at k) (station_at k + readings)
+      ≡ (part_ok ws (station_at k) (station_at k + 1) && part_ok ws (station_at k + 1) (station_at k + readings))
+  station_parts = parts_join (station k h).within ws n
+
+  pub station_more : part_ok ws (station_at k) fittings_at
+      ≡ (part_ok ws (station_at k) (station_at k + readings) && part_ok ws (station_at (k + 1)) fittings_at)
+  station_more =
+      let next : station_at k + readings ≡ station_at (k + 1) = omega arith in
+      rw (← next) (parts_join (station k h).after ws n)
 
 -- ---- the other lines
 
@@ -55,10 +68,18 @@ pub vol_run : AlikePart aft_at bare_at
 unfolding limit_rows limits_on from_zero opens
 vol_run = search rules
 
-pub form_parts : Parting length_at (station_at 0) fittings_at
-unfolding limit_rows limits_on opens
-form_parts = search rules
+module _ (ws : List ℕ) (n : length ws ≡ sheet_words) where
+  form_cut : Parting length_at (station_at 0) fittings_at
+  unfolding limit_rows limits_on opens
+  form_cut = search rules
 
-pub vol_parts : Parting aft_at bare_at fittings_at
-unfolding limit_rows limits_on opens
-vol_parts = search rules
+  vol_cut : Parting aft_at bare_at fittings_at
+  unfolding limit_rows limits_on opens
+  vol_cut = search rules
+
+  pub form_parts : part_ok ws length_at fittings_at
+      ≡ (part_ok ws length_at (station_at 0) && part_ok ws (station_at 0) fittings_at)
+  form_parts = parts_join form_cut ws n
+
+  pub vol_parts : part_ok ws aft_at fittings_at ≡ (part_ok ws aft_at bare_at && part_ok ws bare_at fittings_at)
+  vol_parts = parts_join vol_cut ws n

@@ -3,7 +3,8 @@ use Rattle.std.proofs.Common.{◌≡◌, ℕ, true, cond, List, Option, Some, No
 use Rattle.sheet.specs.Sheet.{words_ok}
 use Rattle.capacity.specs.Weights.{boat_m}
 
-module _ (s : List ℕ) {read : Option ℕ} (e : read ≡ cond (words_ok s) (Some (boat_m s)) None) (ok : words_ok s ≡ true) where
+module _ (s : List ℕ) {read : Option ℕ} (e : read ≡ cond (words_ok s) (Some (boat_m s)) None)
+    (ok : words_ok s ≡ true) where
   pub weight_there : IsSome read
   weight_there = rw (e, ok) (search rules)
 

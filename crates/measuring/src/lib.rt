@@ -6,7 +6,8 @@
 ghost use Rattle.std.specs.Prelude.{◌≡◌, Some, None, cond, ◌+◌, ◌*◌, ◌≤◌, ◌<◌, length};
 ghost use Rattle.sheet.specs.Lines.{fittings};
 ghost use Rattle.sheet.specs.Sheet.{fit_ok, fits_ok, words_ok, sheet_ok};
-ghost use Rattle.sheet.specs.Places.{readings, stations, station_at, aft_at, bare_at, fittings_at, sheet_words, text_words};
+ghost use Rattle.sheet.specs.Places.{readings, stations, station_at, aft_at, bare_at, fittings_at};
+ghost use Rattle.sheet.specs.Places.{sheet_words, text_words};
 ghost use Rattle.capacity.specs.Weights.{added_up, boat_m};
 ghost use Rattle.capacity.specs.Highs.{high_at};
 ghost use Rattle.measuring.specs.Part.{part_ok, Lent, WordPart, AlikePart};
@@ -29,6 +30,7 @@ struct Judged<'a> {
 
 impl Judged<'_> {
     // Whether the words from a place up to an end are within their limits.
+    #[tactic(auto, using(crate::proofs::Parts::rows_many, crate::proofs::Parts::part_judged))]
     fn part_ok(&self, at: usize, end: usize) -> bool
         requires { WordPart at end }
         ensures { result ≡ part_ok self.now.words.now at end }
@@ -37,6 +39,7 @@ impl Judged<'_> {
     }
 
     // The same of places whose limits are alike.
+    #[tactic(auto, using(crate::proofs::Runs::run_laws))]
     fn run_ok(&self, at: usize, end: usize) -> bool
         requires { AlikePart at end }
         ensures { result ≡ part_ok self.now.words.now at end }
@@ -45,6 +48,7 @@ impl Judged<'_> {
     }
 
     // The same of a station, Q to T by its number: one word B, and six of alike limits.
+    #[tactic(auto, using(crate::proofs::Runs::station_parts))]
     fn station_ok(&self, station: usize) -> bool
         requires { station < stations }
         ensures { result ≡ part_ok self.now.words.now (station_at station) (station_at station + readings) }
@@ -54,6 +58,7 @@ impl Judged<'_> {
     }
 
     // The same from the line VOL up to the fittings: MASS, PWR and SEAT have limits of many kinds.
+    #[tactic(auto, using(crate::proofs::Runs::vol_run, crate::proofs::Runs::vol_parts))]
     fn from_vol(&self) -> bool
         ensures { result ≡ part_ok self.now.words.now aft_at fittings_at }
     {
@@ -61,6 +66,7 @@ impl Judged<'_> {
     }
 
     // The same from the first station up to the fittings.
+    #[tactic(auto, using(crate::proofs::Runs::station_more))]
     fn from_stations(&self) -> bool
         ensures { result ≡ part_ok self.now.words.now (station_at 0) fittings_at }
     {
@@ -73,6 +79,7 @@ impl Judged<'_> {
     }
 
     // The same of all before the fittings.
+    #[tactic(auto, using(crate::proofs::Runs::form_parts))]
     fn before_fittings(&self) -> bool
         ensures { result ≡ part_ok self.now.words.now 0 fittings_at }
     {
@@ -82,6 +89,7 @@ impl Judged<'_> {
 
 // Whether a fitting line is empty, or its weight and count are within their limits. One piece is no heavier than all,
 // so that the weight of all tells.
+#[tactic(auto, using(crate::proofs::Fits::line_laws))]
 pub fn fit_ok(weight: u32, count: u32) -> bool
     ensures { result ≡ fit_ok weight count }
 {
@@ -109,6 +117,7 @@ fn with_fittings(bare: u32, fits: &[u32]) -> Option<u32>
 }
 
 // M, what the boat weighs by the words of a sheet, without its HULL number; none where they are outside the limits.
+#[tactic(auto, using(crate::proofs::Parts::boat_laws))]
 pub fn weigh(words: &[u32]) -> Option<u32>
     requires { length words.now ≡ sheet_words }
     ensures { result ≡ cond (words_ok words.now) (Some (boat_m words.now)) None }
@@ -135,6 +144,7 @@ pub fn words_ok(words: &[u32]) -> bool
 }
 
 // Whether a sheet's numbers, its HULL number first, are within their limits.
+#[tactic(auto, using(crate::proofs::Hull::parted))]
 pub fn sheet_ok(sheet: &[u32]) -> bool
     requires { length sheet.now ≡ text_words }
     ensures { result ≡ sheet_ok sheet.now }

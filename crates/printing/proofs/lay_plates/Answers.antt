@@ -17,12 +17,15 @@ by_sheet : (k : PlateKind) (s : List ℕ) {w : ℕ} → w ≡ boat_m s → plate
 by_sheet k s weight = ap (λ (n : ℕ). plate_by k n s) weight
 
 plate_a_is : (c : After-plate_a) → c.plate_a.result ≡ plate_of kind_a c.args.sheet.now
-plate_a_is c = c.plate_a.ensures ∙ by_sheet kind_a c.args.sheet.now (weight_right _ c.weigh.ensures c.requires.0 c.unwrap-weight.ensures)
+plate_a_is c =
+    c.plate_a.ensures
+    ∙ by_sheet kind_a c.args.sheet.now (weight_right _ c.weigh.ensures c.requires.0 c.unwrap-weight.ensures)
 
 plate_c_is : (c : After-plate_c)
     → c.plate_c.result ≡ plate_of (kind_c c.args.powers.now c.args.weights.now) c.args.sheet.now
 plate_c_is c =
-    c.plate_c.ensures ∙ by_sheet (kind_c _ _) c.args.sheet.now (weight_right _ c.weigh.ensures c.requires.0 c.unwrap-weight.ensures)
+    c.plate_c.ensures
+    ∙ by_sheet (kind_c _ _) c.args.sheet.now (weight_right _ c.weigh.ensures c.requires.0 c.unwrap-weight.ensures)
 
 pub weigh-requires : goal.weigh-requires
 weigh-requires c = omega (arith, words_length)
