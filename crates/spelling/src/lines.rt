@@ -3,8 +3,8 @@ ghost use Rattle.std.specs.Prelude.{◌≡◌, ◌*◌, ◌≤◌, ◌&&◌, con
 ghost use Rattle.text.specs.Field.{begins};
 ghost use Rattle.text.specs.Quoted.{tab, feed, dash};
 ghost use Rattle.text.specs.Limit.{or_none, limit_of, limits_of};
-ghost use Rattle.text.specs.Line.{line_of, read_entry, read_numbers, read_line, entry_text, numbers_text, line_text, Reads};
-ghost use Rattle.text.specs.Line.{Laid, stops_short};
+ghost use Rattle.text.specs.Line.{line_of, read_entry, read_numbers, read_line, entry_text, numbers_text, line_text};
+ghost use Rattle.text.specs.Line.{Laid, Reads, stops_short};
 
 use crate::bytes::{agreement, find_field, starts, store, write_bytes};
 use crate::limits::{is_none, is_within};
