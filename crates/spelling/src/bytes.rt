@@ -44,7 +44,7 @@ pub fn write_bytes(bytes: &[u8], out: &mut [u8])
 {
     // where both go on, so that no byte asks for its place
     let end = bytes.len().min(out.len());
-    // Kept: 2, copy_from_slice calls memmove for a tag of a few bytes: writing a sheet took 5 in 100 more
+    // Kept: 2, copy_from_slice calls memmove for a tag of a few bytes: writing a sheet took some 3 in 100 more
     for i in 0..end {
         out[i] = bytes[i];
     }

@@ -54,7 +54,7 @@ pub fn all_hold(table: &[Limit], numbers: &[u32]) -> bool
 fn greatest(numbers: &[u32]) -> u32
     ensures { result ≡ foldr max 0 numbers.now }
 {
-    numbers.iter().fold(0, |top, n| (*n).max(top))
+    numbers.iter().fold(0, |top, n| top.max(*n))
 }
 
 // Whether each of the numbers may stand by one limit, whose range goes down to 0, or to 1 with 0 for none: the greatest

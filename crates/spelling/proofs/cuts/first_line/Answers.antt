@@ -1,5 +1,6 @@
 -- `first_line` meets its contract.
-use Rattle.std.proofs.Common.{◌≡◌, ℕ, List, [], ◌∷◌, Bool, None, Some, rules, sym, ◌∙◌, ap, arith, take, ◌+◌, ◌≤◌, length}
+use Rattle.std.proofs.Common.{◌≡◌, ℕ, List, [], ◌∷◌, Bool, None, Some}
+use Rattle.std.proofs.Common.{rules, sym, ◌∙◌, ap, arith, take, ◌+◌, ◌≤◌, length}
 use Rattle.std.specs.List.{position_or_len, position}
 use Rattle.std.proofs.lemmas.Grind.{common_steps}
 use Rattle.std.proofs.lemmas.Iterator.{YieldsList-from_slice}
@@ -40,8 +41,9 @@ found c =
 
 pub returns-in-Some : goal.returns-in-Some
 returns-in-Some c =
-    let e = at_some c.args.text.now c.in-Some.end (sym (found (goal.at.returns-in-Some c).After-position) ∙ c.in-Some.is) in
-    rw (← e) (through c.args.text.now)
+    let t = c.args.text.now in
+    let e = at_some t c.in-Some.end (sym (found (goal.at.returns-in-Some c).After-position) ∙ c.in-Some.is) in
+    rw (← e) (through t)
 
 pub returns-in-None : goal.returns-in-None
 returns-in-None c =

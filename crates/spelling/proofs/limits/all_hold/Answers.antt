@@ -21,11 +21,13 @@ returns-then-not-may_stand c =
 pub loop-l-preserved : goal.loop-l-preserved
 loop-l-preserved c =
     let e = c.in-Some.ensures.steps in
-    (omega (arith, ap length e.0, ap length e.1), c.loop-l.invariant.1 ∙ more c.loop-l.last e c.if-not-may_stand.ensures)
+    let m = c.loop-l.invariant.1 ∙ more c.loop-l.last e c.if-not-may_stand.ensures in
+    (omega (arith, ap length e.0, ap length e.1), m)
 
 -- no number left
 pub returns : goal.returns
 unfolding all_hold
 returns c =
-    let e = empty_from_Zip c.loop-l.l-iterator c.next.new.self _ c.in-None.is c.next.ensures.steps c.loop-l.invariant.0 in
+    let l = c.loop-l.l-iterator in
+    let e = empty_from_Zip l c.next.new.self _ c.in-None.is c.next.ensures.steps c.loop-l.invariant.0 in
     sym (c.loop-l.invariant.1 ∙ rw (e.0, e.1, all_hold))

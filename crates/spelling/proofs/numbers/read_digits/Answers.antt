@@ -16,7 +16,8 @@ loop-i-init c = digits_none c.args.f.now c.requires.0 c.requires.1
 pub returns-then-not-is_ascii_digit : goal.returns-then-not-is_ascii_digit
 returns-then-not-is_ascii_digit c =
     let e = here (goal.at.returns-then-not-is_ascii_digit c).After-is_ascii_digit in
-    sym (digits_stop c.loop-i.invariant (omega (arith, length-take {A = ℕ})) (rw e at (sym c.if-not-is_ascii_digit.ensures.value)))
+    let d = rw e at (sym c.if-not-is_ascii_digit.ensures.value) in
+    sym (digits_stop c.loop-i.invariant (omega (arith, length-take {A = ℕ})) d)
 
 pub overflow_mul-n : goal.overflow_mul-n
 overflow_mul-n c = omega (arith, digits_nine c.loop-i.invariant (omega (arith, length-take {A = ℕ})))
