@@ -6,7 +6,6 @@ ghost use Rattle.std.specs.Prelude.{◌<◌, ◌≡◌, ◌∷◌, length};
 ghost use Rattle.sheet.specs.Places.{sheet_words};
 ghost use Rattle.memory.specs.Layout.{most_hulls, hull_weight, hull_sheet, draft_hull, draft_weight, draft_sheet};
 ghost use Rattle.memory.specs.Asked.{AtHull, AtDesk};
-ghost use Rattle.capacity.specs.Kinds.{kind_a, kind_c, kind_u};
 ghost use Rattle.register.specs.Refusals.{hull_refusal, desk_refusal, room_refusal, open_refusal, set_own, save_own};
 ghost use Rattle.register.specs.Calls.{set_fitting, replace, try_plate, plate, weigh, write, new_hull, open_hull, work};
 ghost use Rattle.register.specs.Calls.{save, drop_draft, ask, fresh_step, step, Changes, Writes};
@@ -15,6 +14,8 @@ use answers::{
     Answer, BAD_MEMORY, EDITED_SINCE, EDITS_SPENT, EMPTY_LINE, FULL, NO_DESK, NO_DRAFT, NO_HULL,
     OUTSIDE_LIMITS,
 };
+use figuring::{Boat, Plate};
+pub use figuring::{PlateA, PlateC, PlateU};
 use memory::{COUNT, DESKS, MOST_EDITS, MOST_HULLS, REGISTER_WORDS};
 use sheet::{FITTING_LINES, TEXT_WORDS};
 use text::TextRead;
@@ -132,44 +133,18 @@ pub fn new_hull(mem: &mut [u32], text: &[u8]) -> Answer
     }
 }
 
-// Plate A of a hull.
-pub fn plate_a(mem: &[u32], hull: u32) -> Answer
-    ensures { result ≡ (step mem.now (ask hull (plate kind_a))).answer }
+// A plate of a hull.
+pub fn plate<P: Plate>(mem: &[u32], hull: u32, which: P) -> Answer
+    ensures { result ≡ (step mem.now (ask hull (plate (P.kind which)))).answer }
 {
     let refusal = hull_refusal(mem, hull);
     if refusal != 0 {
         return Answer::Refused(refusal);
     }
-    figuring::plate_a(hull_weight(mem, hull), hull_sheet(mem, hull))
-}
-
-// Plate C of a hull.
-pub fn plate_c(mem: &[u32], hull: u32, powers: &[u32], weights: &[u32]) -> Answer
-    ensures { result
-        ≡ (step mem.now
-        (ask hull (plate (kind_c powers.now weights.now)))).answer }
-{
-    let refusal = hull_refusal(mem, hull);
-    if refusal != 0 {
-        return Answer::Refused(refusal);
-    }
-    figuring::plate_c(
-        hull_weight(mem, hull),
-        hull_sheet(mem, hull),
-        powers,
-        weights,
-    )
-}
-
-// Plate U of a hull.
-pub fn plate_u(mem: &[u32], hull: u32) -> Answer
-    ensures { result ≡ (step mem.now (ask hull (plate kind_u))).answer }
-{
-    let refusal = hull_refusal(mem, hull);
-    if refusal != 0 {
-        return Answer::Refused(refusal);
-    }
-    figuring::plate_u(hull_weight(mem, hull), hull_sheet(mem, hull))
+    which.mark(Boat {
+        weight: hull_weight(mem, hull),
+        sheet: hull_sheet(mem, hull),
+    })
 }
 
 // What a hull's boat weighs, with its fittings, as it is held: nothing is summed.
@@ -298,44 +273,18 @@ pub fn replace(mem: &mut [u32], desk: u32, text: &[u8]) -> Answer
     }
 }
 
-// Plate A of a desk's draft, as a trial.
-pub fn trial_a(mem: &[u32], desk: u32) -> Answer
-    ensures { result ≡ (step mem.now (work desk (try_plate kind_a))).answer }
+// A plate of a desk's draft, as a trial.
+pub fn trial<P: Plate>(mem: &[u32], desk: u32, which: P) -> Answer
+    ensures { result ≡ (step mem.now (work desk (try_plate (P.kind which)))).answer }
 {
     let refusal = desk_refusal(mem, desk);
     if refusal != 0 {
         return Answer::Refused(refusal);
     }
-    figuring::plate_a(draft_weight(mem, desk), draft_sheet(mem, desk))
-}
-
-// Plate C of a desk's draft, as a trial.
-pub fn trial_c(mem: &[u32], desk: u32, powers: &[u32], weights: &[u32]) -> Answer
-    ensures { result
-        ≡ (step mem.now
-        (work desk (try_plate (kind_c powers.now weights.now)))).answer }
-{
-    let refusal = desk_refusal(mem, desk);
-    if refusal != 0 {
-        return Answer::Refused(refusal);
-    }
-    figuring::plate_c(
-        draft_weight(mem, desk),
-        draft_sheet(mem, desk),
-        powers,
-        weights,
-    )
-}
-
-// Plate U of a desk's draft, as a trial.
-pub fn trial_u(mem: &[u32], desk: u32) -> Answer
-    ensures { result ≡ (step mem.now (work desk (try_plate kind_u))).answer }
-{
-    let refusal = desk_refusal(mem, desk);
-    if refusal != 0 {
-        return Answer::Refused(refusal);
-    }
-    figuring::plate_u(draft_weight(mem, desk), draft_sheet(mem, desk))
+    which.mark(Boat {
+        weight: draft_weight(mem, desk),
+        sheet: draft_sheet(mem, desk),
+    })
 }
 
 // What refuses a save of a draft that is there: an edit of the hull since the open, then that no edit number is left.

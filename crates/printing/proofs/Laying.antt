@@ -1,6 +1,6 @@
 -- What the code that lays a print leaves, path by path.
 use mathlib.Core.Path.{◌≡◌, sym}
-use mathlib.Core.Bool.{true}
+use mathlib.Core.Bool.{true, cond}
 use mathlib.Core.List.{List, ◌++◌}
 use Prim.Native.Nat.{ℕ, ◌+◌, ◌-◌, ◌≤◌}
 use native.Mathlib.Omega.{arith}
@@ -8,6 +8,7 @@ use lib.ListN.{length, take, drop, length-append, length-drop}
 use lib.Seq.{take_all}
 use Rattle.text.specs.declared.TextRead.TheVariants.{Whole, Wrong}
 use Rattle.text.specs.Line.{Laid}
+use Rattle.text.specs.Quoted.{bytes}
 use Rattle.ground.proofs.Stores.{put_back, rest_part}
 use Rattle.text.proofs.Laid.{laid_more, laid_part, laid_length}
 use Rattle.sheet.specs.Sheet.{words_ok}
@@ -20,21 +21,51 @@ use Rattle.reading.specs.Rows.{HeardRows}
 use Rattle.reading.proofs.Heard.{told_wrong, heard_right}
 use Rattle.reading.proofs.EnginesCall.{Held}
 use Rattle.printout.specs.Input.{most_input, sheet_bytes}
-use Rattle.printout.specs.Printed.{input_text, plates_text, rows_printed, printed}
+use Rattle.answers.specs.declared.Answer.{Answer}
+use Rattle.capacity.specs.Weights.{boat_m}
+use Rattle.capacity.specs.PlateA.{plate_a}
+use Rattle.capacity.specs.PlateC.{plate_c}
+use Rattle.capacity.specs.Kinds.{kind_a, kind_c, plate_of}
+use Rattle.printout.specs.Printed.{input_text, plate_text, plates_text, rows_printed, printed}
 use Rattle.printout.proofs.Printed.{rows_fault, rows_plates, printed_fault, printed_rows, read_ok}
 
 -- ---- plates A and C, one after the other
 
-module _ {x o₀ o₁ : List ℕ} {end : ℕ} (p : Laid x o₀ 0 end o₁) where
-  pub first_in : (y : List ℕ) → length (x ++ y) ≤ length o₀ → end ≤ length o₁
-  first_in y h = omega (arith, p.end, laid_length p, length-append x y)
+first_in : {x o₀ o₁ : List ℕ} {end : ℕ} → Laid x o₀ 0 end o₁ → (y : List ℕ) → length (x ++ y) ≤ length o₀ → end ≤ length o₁
+first_in {x} p y h = omega (arith, p.end, laid_length p, length-append x y)
 
-  module _ {y ys : List ℕ} {r : ℕ} (q : Laid y (take (length o₁ - end) (drop end o₁)) 0 r ys) where
-    pub both_long : end + r ≡ length (x ++ y)
-    both_long = omega (arith, p.end, q.end, length-append x y)
+both_long : {x o₀ o₁ : List ℕ} {end : ℕ} → Laid x o₀ 0 end o₁ → {y o₂ o₃ : List ℕ} {r : ℕ} → Laid y o₂ 0 r o₃
+    → end + r ≡ length (x ++ y)
+both_long {x} p {y} q = omega (arith, p.end, q.end, length-append x y)
 
-    pub both_laid : Laid (x ++ y) o₀ 0 (end + r) (put_back o₁ end ys)
-    both_laid = laid_more p (laid_part y o₁ ys end r q)
+-- by the weight that was read off the sheet
+module _ (s ps ws : List ℕ) (ok : words_ok s ≡ true) {w : ℕ} (e : w ≡ cond (words_ok s) (boat_m s) 0) {a : Answer}
+    (p : a ≡ plate_a w s) {o₀ o₁ : List ℕ} {end : ℕ}
+    (first : Laid (plate_text (bytes "PLATE\tA\t") (bytes "REFUSED\tA\t") a) o₀ 0 end o₁) where
+  weighed : w ≡ boat_m s
+  weighed = rw ok at e
+
+  first_laid : Laid (plate_text (bytes "PLATE\tA\t") (bytes "REFUSED\tA\t") (plate_of kind_a s)) o₀ 0 end o₁
+  first_laid = rw (p, weighed) at first
+
+  pub plates_in : length (plates_text s ps ws) ≤ length o₀ → end ≤ length o₁
+  unfolding plates_text
+  plates_in h = first_in first_laid _ h
+
+  module _ {b : Answer} (q : b ≡ plate_c w s ps ws) {ys : List ℕ} {r : ℕ}
+      (then : Laid (plate_text (bytes "PLATE\tC\t") (bytes "REFUSED\tC\t") b) (take (length o₁ - end) (drop end o₁)) 0 r ys)
+    where
+      then_laid : Laid (plate_text (bytes "PLATE\tC\t") (bytes "REFUSED\tC\t") (plate_of (kind_c ps ws) s))
+          (take (length o₁ - end) (drop end o₁)) 0 r ys
+      then_laid = rw (q, weighed) at then
+
+      pub plates_long : end + r ≡ length (plates_text s ps ws)
+      unfolding plates_text
+      plates_long = both_long first_laid then_laid
+
+      pub plates_laid : Laid (plates_text s ps ws) o₀ 0 (end + r) (put_back o₁ end ys)
+      unfolding plates_text
+      plates_laid = laid_more first_laid (laid_part _ o₁ ys end r then_laid)
 
 -- ---- the engine rows
 

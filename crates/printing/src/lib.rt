@@ -10,6 +10,7 @@ ghost use Rattle.printout.specs.Printed.{input_text, plate_text, plates_text};
 ghost use Rattle.printout.specs.Printed.{rows_printed, printed, print_answer, print_into};
 
 use answers::{Answer, NO_ROOM};
+use figuring::{Boat, Plate, PlateA, PlateC};
 use sheet::{MOST_ROWS, TEXT_WORDS};
 use text::{Limit, TextRead};
 
@@ -56,39 +57,29 @@ fn lay_plate(marked: &[u8], refused: &[u8], answer: Answer, out: &mut [u8]) -> u
 {
     match answer {
         Answer::Plate(load, figure) => {
-            let limits = [FIGURE, FIGURE];
-            let figures = [load, figure];
-            spelling::write_line(marked, &limits, &figures, out)
+            spelling::write_line(marked, &[FIGURE, FIGURE], &[load, figure], out)
         }
-        Answer::Refused(number) => {
-            let limits = [FIGURE];
-            let figures = [number];
-            spelling::write_line(refused, &limits, &figures, out)
-        }
-        Answer::RefusedAt(_, _, _) => 0,
-        Answer::Done => 0,
-        Answer::Count(_) => 0,
+        Answer::Refused(number) => spelling::write_line(refused, &[FIGURE], &[number], out),
+        Answer::RefusedAt(_, _, _) | Answer::Done | Answer::Count(_) => 0,
     }
 }
 
 // Lays the lines of plates A and C.
-fn lay_plates(sheet: &[u32], powers: &[u32], weights: &[u32], out: &mut [u8]) -> usize
+fn lay_plates(sheet: &[u32], rows: PlateC, out: &mut [u8]) -> usize
     requires { (words_ok sheet.now ≡ true)
-        × (length (plates_text sheet.now powers.now weights.now) ≤ length out.old) }
-    ensures { Laid (plates_text sheet.now powers.now weights.now)
+        × (length (plates_text sheet.now rows.powers.now rows.weights.now) ≤ length out.old) }
+    ensures { Laid (plates_text sheet.now rows.entry.powers.now rows.entry.weights.now)
         out.old 0 result out.new }
 {
-    let weight = measuring::weigh(sheet);
-    let end = lay_plate(
-        b"PLATE\tA\t",
-        b"REFUSED\tA\t",
-        figuring::plate_a(weight, sheet),
-        out,
-    );
+    let boat = Boat {
+        weight: measuring::weigh(sheet),
+        sheet,
+    };
+    let end = lay_plate(b"PLATE\tA\t", b"REFUSED\tA\t", PlateA.mark(boat), out);
     end + lay_plate(
         b"PLATE\tC\t",
         b"REFUSED\tC\t",
-        figuring::plate_c(weight, sheet, powers, weights),
+        rows.mark(boat),
         &mut out[end..],
     )
 }
@@ -103,7 +94,13 @@ fn lay_rows(sheet: &[u32], engines: &[u8], out: &mut [u8]) -> usize
     let mut weights = [0u32; MOST_ROWS];
     match reading::read_columns(engines, &mut powers, &mut weights) {
         TextRead::Wrong(refusal, line, byte) => lay_fault(refusal, line, byte, out),
-        TextRead::Whole(rows) => lay_plates(sheet, &powers[..rows], &weights[..rows], out),
+        TextRead::Whole(rows) => {
+            let rows = PlateC {
+                powers: &powers[..rows],
+                weights: &weights[..rows],
+            };
+            lay_plates(sheet, rows, out)
+        }
     }
 }
 
