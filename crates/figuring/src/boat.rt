@@ -15,6 +15,7 @@ pub struct Boat<'a> {
 
 impl Boat<'_> {
     // A word of the sheet, by its place.
+    #[tactic(auto, using(sheet::proofs::Words::words_length))]
     pub fn word(self, place: usize) -> u32
         requires { place < sheet_words }
         ensures { result ≡ get_or self.entry.sheet.now place 0 }

@@ -42,16 +42,16 @@ fn volume_of(stations: [[u32; READINGS]; 4], reference: u32) -> u64
 
 impl Boat<'_> {
     // The seven readings of the station that starts at a place of the sheet.
+    #[tactic(auto, using(sheet::proofs::Words::words_length))]
     fn readings(self, place: usize) -> [u32; READINGS]
         requires { place + readings ≤ sheet_words }
         ensures { result ≡ take readings (drop place self.entry.sheet.now) }
     {
-        let mut readings = [0; READINGS];
-        readings.copy_from_slice(&self.sheet[place..place + READINGS]);
-        readings
+        *self.sheet[place..place + READINGS].as_array().unwrap()
     }
 
     // What adds to the load: the water that the hull and the aft structure displace.
+    #[inline(always)]
     pub(crate) fn gain(self) -> u64
         ensures { result ≡ volume_n self.entry.sheet.now + gram * aft self.entry.sheet.now }
     {
