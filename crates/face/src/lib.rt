@@ -12,6 +12,7 @@ ghost use Rattle.register.specs.Calls.{set_fitting, replace, try_plate, plate, w
 ghost use Rattle.register.specs.Calls.{save, drop_draft, ask, fresh_step, step, WbChanges, WbWrites};
 ghost use Rattle.answers.specs.Values.{faced};
 
+use answering::{PlateA, PlateC, PlateU};
 use answers::{Answer, WbAnswer};
 use sheet::TEXT_WORDS;
 
@@ -106,7 +107,7 @@ pub extern "C" fn wb_replace(mem: &mut [u32], desk: u32, text: &[u8]) -> WbAnswe
 pub extern "C" fn wb_trial_a(mem: &[u32], desk: u32) -> WbAnswer
     ensures { result ≡ faced (step mem.now (work desk (try_plate kind_a))).answer }
 {
-    face(answering::trial_a(mem, desk))
+    face(answering::trial(mem, desk, PlateA))
 }
 
 // Plate C of a desk's draft; answers load and persons.
@@ -117,7 +118,7 @@ pub extern "C" fn wb_trial_c(mem: &[u32], desk: u32, powers: &[u32], weights: &[
         (step mem.now
         (work desk (try_plate (kind_c powers.now weights.now)))).answer }
 {
-    face(answering::trial_c(mem, desk, powers, weights))
+    face(answering::trial(mem, desk, PlateC { powers, weights }))
 }
 
 // Plate U of a desk's draft; answers pounds.
@@ -125,7 +126,7 @@ pub extern "C" fn wb_trial_c(mem: &[u32], desk: u32, powers: &[u32], weights: &[
 pub extern "C" fn wb_trial_u(mem: &[u32], desk: u32) -> WbAnswer
     ensures { result ≡ faced (step mem.now (work desk (try_plate kind_u))).answer }
 {
-    face(answering::trial_u(mem, desk))
+    face(answering::trial(mem, desk, PlateU))
 }
 
 // Saves a desk's draft; answers the edit number.
@@ -149,7 +150,7 @@ pub extern "C" fn wb_drop(mem: &mut [u32], desk: u32) -> WbAnswer
 pub extern "C" fn wb_plate_a(mem: &[u32], hull: u32) -> WbAnswer
     ensures { result ≡ faced (step mem.now (ask hull (plate kind_a))).answer }
 {
-    face(answering::plate_a(mem, hull))
+    face(answering::plate(mem, hull, PlateA))
 }
 
 // Plate C of a hull; answers load and persons.
@@ -160,7 +161,7 @@ pub extern "C" fn wb_plate_c(mem: &[u32], hull: u32, powers: &[u32], weights: &[
         (step mem.now
         (ask hull (plate (kind_c powers.now weights.now)))).answer }
 {
-    face(answering::plate_c(mem, hull, powers, weights))
+    face(answering::plate(mem, hull, PlateC { powers, weights }))
 }
 
 // Plate U of a hull; answers pounds.
@@ -168,7 +169,7 @@ pub extern "C" fn wb_plate_c(mem: &[u32], hull: u32, powers: &[u32], weights: &[
 pub extern "C" fn wb_plate_u(mem: &[u32], hull: u32) -> WbAnswer
     ensures { result ≡ faced (step mem.now (ask hull (plate kind_u))).answer }
 {
-    face(answering::plate_u(mem, hull))
+    face(answering::plate(mem, hull, PlateU))
 }
 
 // What a hull's boat weighs with its fittings; answers grams.

@@ -3,20 +3,19 @@
 #![tactic(auto)]
 
 ghost use Rattle.std.specs.Prelude.{◌≡◌, true};
+ghost use Rattle.answers.specs.Values.{in_numbers};
 ghost use Rattle.sheet.specs.Sheet.{words_ok};
 ghost use Rattle.capacity.specs.PlateC.{plate_c};
 ghost use Rattle.capacity.specs.PlateA.{plate_a};
 ghost use Rattle.capacity.specs.PlateU.{plate_u};
+ghost use Rattle.capacity.specs.Kinds.{PlateKind, kind_a, kind_c, kind_u, plate_by};
 
-use answers::{Answer, BAD_ROWS, NO_LOAD, NO_PERSONS, NO_POWER, NO_ROW, UNTESTED};
-use engines::{engine_weight, lacks_row, rows_right};
-use loads::{marked_a, marked_c};
-use numbers::wide;
-use persons::{lacks_tests, persons_for};
-use pounds::marked_u;
-use power::{lacks_power, power_a};
+use answers::{Answer, Figures, Refusal, Refused};
+pub use boat::Boat;
+use engines::rows_right;
 
-mod numbers; // widening, the lesser and the greater, rounding down
+mod boat; // a boat, by its sheet and its weight
+mod numbers; // rounding down
 mod volume; // N, and what adds to the load
 mod weights; // what takes from the load
 mod loads; // marked loads of plates C and A
@@ -25,63 +24,104 @@ mod persons; // plate C's persons
 mod power; // plate A's power
 mod pounds; // plate U's load
 
+// A plate, with what its caller gives it.
+pub trait Plate: Copy {
+    // Which plate it is.
+    ghost kind: { Self → PlateKind };
+
+    // Marks a boat.
+    fn mark(self, boat: Boat) -> Answer
+        ensures { in_numbers result ≡ plate_by (kind self) boat.entry.weight boat.entry.sheet.now };
+}
+
+// Plate A: kilograms and watts.
+#[derive(Clone, Copy)]
+pub struct PlateA;
+
+// Plate C: kilograms and persons, of engine rows in two lent slices.
+#[derive(Clone, Copy)]
+pub struct PlateC<'a> {
+    pub powers: &'a [u32],
+    pub weights: &'a [u32],
+}
+
+// Plate U: pounds.
+#[derive(Clone, Copy)]
+pub struct PlateU;
+
+// Each marks a boat that is taken apart: its words then go in registers, where a struct takes room on the stack.
+
+impl Plate for PlateA {
+    ghost kind = { λ _. kind_a };
+
+    #[inline(always)]
+    fn mark(self, boat: Boat) -> Answer
+        ensures { in_numbers result ≡ plate_a boat.entry.weight boat.entry.sheet.now }
+    {
+        plate_a(boat.weight, boat.sheet)
+    }
+}
+
+impl Plate for PlateC<'_> {
+    ghost kind = { λ rows. kind_c rows.powers.now rows.weights.now };
+
+    #[inline(always)]
+    fn mark(self, boat: Boat) -> Answer
+        ensures { in_numbers result
+            ≡ plate_c boat.entry.weight boat.entry.sheet.now self.entry.powers.now self.entry.weights.now }
+    {
+        plate_c(boat.weight, boat.sheet, self.powers, self.weights)
+    }
+}
+
+impl Plate for PlateU {
+    ghost kind = { λ _. kind_u };
+
+    #[inline(always)]
+    fn mark(self, boat: Boat) -> Answer
+        ensures { in_numbers result ≡ plate_u boat.entry.weight boat.entry.sheet.now }
+    {
+        plate_u(boat.weight, boat.sheet)
+    }
+}
+
 // Plate A: its kilograms and its watts.
 pub fn plate_a(weight: u32, sheet: &[u32]) -> Answer
     requires { words_ok sheet.now ≡ true }
-    ensures { result ≡ plate_a weight sheet.now }
+    ensures { in_numbers result ≡ plate_a weight sheet.now }
 {
-    // Lent on as a part of itself, it goes in registers and takes no stack (DECISIONS).
-    let sheet = &sheet[..];
-    let load = marked_a(weight, sheet);
-    if load == 0 {
-        Answer::Refused(NO_LOAD)
-    } else if lacks_power(sheet) {
-        Answer::Refused(NO_POWER)
-    } else {
-        Answer::Plate(load as u32, power_a(sheet) as u32)
+    let boat = Boat { weight, sheet };
+    let load = boat.load_a().ok_or(Refusal::NoLoad)?;
+    if boat.lacks_power() {
+        return Err(Refused::Plain(Refusal::NoPower));
     }
+    Ok(Figures::Plate(load as u32, boat.power() as u32))
 }
 
 // Plate C: its kilograms and its persons, of engine rows in two lent slices.
 pub fn plate_c(weight: u32, sheet: &[u32], powers: &[u32], weights: &[u32]) -> Answer
     requires { words_ok sheet.now ≡ true }
-    ensures { result ≡ plate_c weight sheet.now powers.now weights.now }
+    ensures { in_numbers result ≡ plate_c weight sheet.now powers.now weights.now }
 {
-    // Lent on as a part of itself, it goes in registers and takes no stack (DECISIONS).
-    let sheet = &sheet[..];
-    if rows_right(powers, weights) {
-        let load = marked_c(weight, sheet);
-        if load == 0 {
-            return Answer::Refused(NO_LOAD);
-        }
-        if lacks_row(sheet, powers) {
-            return Answer::Refused(NO_ROW);
-        }
-        let engine = wide(engine_weight(sheet, powers, weights));
-        if lacks_tests(sheet, 1000 * load, engine) {
-            return Answer::Refused(UNTESTED);
-        }
-        let persons = persons_for(sheet, 1000 * load, engine);
-        if persons == 0 {
-            return Answer::Refused(NO_PERSONS);
-        }
-        Answer::Plate(load as u32, persons as u32)
-    } else {
-        Answer::Refused(BAD_ROWS)
+    if !rows_right(powers, weights) {
+        return Err(Refused::Plain(Refusal::BadRows));
     }
+    let boat = Boat { weight, sheet };
+    let load = boat.load_c().ok_or(Refusal::NoLoad)?;
+    let engine = boat.engine(powers, weights).ok_or(Refusal::NoRow)?;
+    let gross = 1000 * load;
+    if boat.lacks_tests(gross, engine) {
+        return Err(Refused::Plain(Refusal::Untested));
+    }
+    let persons = boat.persons(gross, engine).ok_or(Refusal::NoPersons)?;
+    Ok(Figures::Plate(load as u32, persons as u32))
 }
 
 // Plate U: its pounds.
 pub fn plate_u(weight: u32, sheet: &[u32]) -> Answer
     requires { words_ok sheet.now ≡ true }
-    ensures { result ≡ plate_u weight sheet.now }
+    ensures { in_numbers result ≡ plate_u weight sheet.now }
 {
-    // Lent on as a part of itself, it goes in registers and takes no stack (DECISIONS).
-    let sheet = &sheet[..];
-    let load = marked_u(weight, sheet);
-    if load == 0 {
-        Answer::Refused(NO_LOAD)
-    } else {
-        Answer::Count(load as u32)
-    }
+    let load = Boat { weight, sheet }.load_u().ok_or(Refusal::NoLoad)?;
+    Ok(Figures::Count(load as u32))
 }

@@ -1,12 +1,11 @@
 // The persons of plate C.
-ghost use Rattle.std.specs.Prelude.{◌≡◌, true, ◌≤◌};
+ghost use Rattle.std.specs.Prelude.{◌≡◌};
 ghost use Rattle.std.proofs.Math.IntN.{sub_ℕ};
-ghost use Rattle.sheet.specs.Sheet.{words_ok};
-ghost use Rattle.capacity.specs.Whole.{or_zero};
 ghost use Rattle.capacity.specs.PlateC.{persons, lacks_tests};
-ghost use Rattle.capacity.specs.Highs.{word_most};
+ghost use Rattle.figuring.specs.Positive.{positive};
 
-use super::numbers::{least_of, whole_part, wide};
+use super::boat::Boat;
+use super::numbers::whole_part;
 use sheet::{POSITIONS, TESTED};
 
 // Grams to a person, and the grams of live load below which persons must be tested.
@@ -14,28 +13,23 @@ const PERSON_GRAMS: u64 = 75_000;
 
 const TESTED_GRAMS: u64 = 250_000;
 
-// Persons for a live load of so many grams, gross and engine apart, or 0 where there are none.
-pub fn persons_for(sheet: &[u32], gross: u64, engine: u64) -> u64
-    requires { words_ok sheet.now ≡ true }
-    ensures { result ≡ or_zero (persons sheet.now (sub_ℕ gross engine)) }
-{
-    let by_load = whole_part(gross, engine, PERSON_GRAMS);
-    let seated = least_of(wide(sheet[POSITIONS]), by_load);
-    if sheet[TESTED] == 0 {
-        seated
-    } else {
-        least_of(seated, wide(sheet[TESTED]))
+impl Boat<'_> {
+    // Persons for a live load of so many grams, gross and engine apart, where there are any.
+    pub(crate) fn persons(self, gross: u64, engine: u32) -> Option<u64>
+        ensures { result ≡ positive (persons self.entry.sheet.now (sub_ℕ gross engine)) }
+    {
+        let by_load = whole_part(gross, u64::from(engine), PERSON_GRAMS)?;
+        let seated = by_load.min(self.wide(POSITIONS));
+        match self.wide(TESTED) {
+            0 => Some(seated),
+            tested => Some(seated.min(tested)),
+        }
     }
-}
 
-// Whether a live load, gross and engine apart, wants tested persons and none are entered.
-pub fn lacks_tests(sheet: &[u32], gross: u64, engine: u64) -> bool
-    requires { (words_ok sheet.now ≡ true) × (engine ≤ word_most) }
-    ensures { result ≡ lacks_tests sheet.now (sub_ℕ gross engine) }
-{
-    if gross < engine + TESTED_GRAMS {
-        sheet[TESTED] == 0
-    } else {
-        false
+    // Whether a live load, gross and engine apart, wants tested persons and none are entered.
+    pub(crate) fn lacks_tests(self, gross: u64, engine: u32) -> bool
+        ensures { result ≡ lacks_tests self.entry.sheet.now (sub_ℕ gross engine) }
+    {
+        gross < u64::from(engine) + TESTED_GRAMS && self.word(TESTED) == 0
     }
 }

@@ -1,13 +1,11 @@
 // The load of plate U, in pounds.
-ghost use Rattle.std.specs.Prelude.{◌≡◌, true};
-ghost use Rattle.sheet.specs.Sheet.{words_ok};
-ghost use Rattle.capacity.specs.Whole.{or_zero};
+ghost use Rattle.std.specs.Prelude.{◌≡◌};
 ghost use Rattle.capacity.specs.PlateU.{figure, pounds, marked_u};
 ghost use Rattle.capacity.specs.Highs.{Figured};
+ghost use Rattle.figuring.specs.Positive.{positive};
 
-use super::numbers::{greatest_of, whole_part, wide};
-use super::volume::gain_of;
-use super::weights::loss_of;
+use super::boat::Boat;
+use super::numbers::whole_part;
 use sheet::{DECLARED, FUEL, MACHINERY, OUTBOARD};
 
 // Declared watts, of two horsepower, up to which an outboard's load on plate U is three tenths.
@@ -20,34 +18,34 @@ const FINER: u64 = 5;
 
 const POUND: u64 = 9 * 45_359_237;
 
-// Whole pounds of times / divisor of what the displacement has above so many grams, or 0 where there are none.
-fn pounds_of(sheet: &[u32], gain: u64, less: u64, times: u64, divisor: u64) -> u64
-    requires { (words_ok sheet.now ≡ true) × Figured sheet.now gain (figure less times divisor) }
-    ensures { result ≡ or_zero (pounds sheet.now (figure less times divisor)) }
-{
-    let fine = times * FINER;
-    whole_part(fine * gain, fine * loss_of(sheet, less), divisor * POUND)
-}
+#[tactic(auto, using(capacity::proofs::Most::weight_most))]
+impl Boat<'_> {
+    // Whole pounds of times / divisor of what the displacement has above so many grams, where there are any.
+    fn pounds_of(self, gain: u64, less: u64, times: u64, divisor: u64) -> Option<u64>
+        requires { Figured self.sheet.now gain (figure less times divisor) }
+        ensures { result ≡ positive (pounds self.entry.sheet.now (figure less times divisor)) }
+    {
+        let fine = times * FINER;
+        whole_part(fine * gain, fine * self.loss(less), divisor * POUND)
+    }
 
-// The pounds that plate U marks, or 0 where there are none.
-pub fn marked_u(weight: u32, sheet: &[u32]) -> u64
-    requires { words_ok sheet.now ≡ true }
-    ensures { result ≡ or_zero (marked_u weight sheet.now) }
-{
-    let gain = gain_of(sheet);
-    let boat = wide(weight);
-    let fuelled = boat + wide(sheet[FUEL]);
-    if sheet[OUTBOARD] == 1 {
-        if TWO_HORSES < sheet[DECLARED] {
-            pounds_of(sheet, gain, fuelled, 1, 5)
+    // The pounds that plate U marks, where there are any.
+    pub(crate) fn load_u(self) -> Option<u64>
+        ensures { result ≡ positive (marked_u self.entry.weight self.entry.sheet.now) }
+    {
+        let gain = self.gain();
+        let boat = u64::from(self.weight);
+        let fuelled = boat + self.wide(FUEL);
+        if self.word(OUTBOARD) == 1 {
+            if TWO_HORSES < self.word(DECLARED) {
+                self.pounds_of(gain, fuelled, 1, 5)
+            } else {
+                self.pounds_of(gain, boat, 3, 10)
+            }
         } else {
-            pounds_of(sheet, gain, boat, 3, 10)
+            let powered = fuelled + 4 * self.wide(MACHINERY);
+            let fifth = self.pounds_of(gain, powered, 1, 5);
+            fifth.max(self.pounds_of(gain, fuelled, 1, 7))
         }
-    } else {
-        let powered = fuelled + 4 * wide(sheet[MACHINERY]);
-        greatest_of(
-            pounds_of(sheet, gain, powered, 1, 5),
-            pounds_of(sheet, gain, fuelled, 1, 7),
-        )
     }
 }

@@ -72,7 +72,13 @@ fn stops_short(table: &[Limit], text: &[u8]) -> bool
     ensures { result ≡ stops_short table.now text.now }
 {
     match table {
-        [Limit { rule: Rule::Product(_), .. }, ..] => starts(&text[find_field(text).len()..], b'\n'),
+        [
+            Limit {
+                rule: Rule::Product(_),
+                ..
+            },
+            ..
+        ] => starts(&text[find_field(text).len()..], b'\n'),
         _ => false,
     }
 }
@@ -111,12 +117,7 @@ fn read_numbers(table: &[Limit], text: &[u8], out: &mut [u32]) -> Result<usize, 
 
 // Reads one line by its form from the start of text: the tag's bytes, then a number for each limit of the table, stored
 // in out.
-pub fn read_line(
-    tag: &[u8],
-    table: &[Limit],
-    text: &[u8],
-    out: &mut [u32],
-) -> Result<usize, Fault>
+pub fn read_line(tag: &[u8], table: &[Limit], text: &[u8], out: &mut [u32]) -> Result<usize, Fault>
     ensures { Reads (read_line (line_of tag.now table.now) text.now) out.old (line_told result) out.new }
 {
     let same = agreement(tag, text);

@@ -34,11 +34,7 @@ fn read_digits(f: &[u8]) -> Result<u64, usize>
         }
         n = 10 * n + u64::from(*b - b'0');
     }
-    if end < f.len() {
-        Err(end)
-    } else {
-        Ok(n)
-    }
+    if end < f.len() { Err(end) } else { Ok(n) }
 }
 
 // Writes n in decimal from the start of out, as far as out goes, and answers how many digits n has.

@@ -11,9 +11,9 @@ use text::Fault;
 pub fn wrong_at(fault: Fault, text: &[u8]) -> TextFault
     requires { (fault.at ≤ length text.now) × (fault.at < 2 ^ 31) }
     ensures { result ≡ record {
-        refusal = fault.refusal;
-        line = line_at text.now fault.at;
-        byte = byte_at text.now fault.at
+      refusal = fault.refusal;
+      line = line_at text.now fault.at;
+      byte = byte_at text.now fault.at;
     } }
 {
     let mut line = 1;

@@ -1,23 +1,26 @@
 -- `plate_a` meets its contract.
+use mathlib.Core.Path.{sym, ◌∙◌}
+use native.Mathlib.Omega.{arith}
 use Rattle.capacity.proofs.Most.{marked_most}
 use Rattle.capacity.proofs.Power.{power_most}
-use Rattle.capacity.proofs.Answers.{a_unloaded, a_unpowered, a_marks}
-use native.Mathlib.Omega.{arith}
+use Rattle.figuring.proofs.Positive.{any_some}
+use Rattle.figuring.proofs.Marked.{unloaded_a, unpowered_a, marks_a}
 use Rattle.figuring.proofs.plate_a.Goals as goal
 
--- the load fits 32 bits
-pub overflow_cast-result : goal.overflow_cast-result
-overflow_cast-result c =
-    omega (arith, marked_most _ c.requires c.args.weight)
-
-pub overflow_cast-result-else-lacks_power : goal.overflow_cast-result-else-lacks_power
-overflow_cast-result-else-lacks_power c = omega (arith, power_most)
-
-pub returns-then-load-eq0 : goal.returns-then-load-eq0
-returns-then-load-eq0 c = search a_unloaded
+pub returns-in_default : goal.returns-in_default
+returns-in_default c = search unloaded_a
 
 pub returns-then-lacks_power : goal.returns-then-lacks_power
-returns-then-lacks_power c = search a_unpowered
+returns-then-lacks_power c = search unpowered_a
 
-pub returns-else-lacks_power : goal.returns-else-lacks_power
-returns-else-lacks_power c = search a_marks
+-- the load fits 32 bits, and so does the power
+pub overflow_cast-result : goal.overflow_cast-result
+overflow_cast-result c =
+    let load = any_some _ (sym c.load_a.ensures ∙ c.in-Some.is) in
+    omega (arith, load.0, marked_most _ c.requires c.args.weight)
+
+pub overflow_cast-result-2 : goal.overflow_cast-result-2
+overflow_cast-result-2 c = omega (arith, c.power.ensures, power_most _ c.requires)
+
+pub returns : goal.returns
+returns c = search marks_a

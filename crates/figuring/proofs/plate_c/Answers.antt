@@ -1,39 +1,45 @@
 -- `plate_c` meets its contract.
+use mathlib.Core.Path.{sym, ◌∙◌}
 use Prim.Native.Nat.{◌*◌}
 use lib.IntN.{sub_ℕ}
+use native.Mathlib.Omega.{arith}
 use Rattle.capacity.proofs.Most.{c_most}
 use Rattle.capacity.proofs.Persons.{persons_most}
-use Rattle.capacity.proofs.Answers.{c_rows, c_unloaded, c_unreached, c_untested, c_empty, c_marks}
-use native.Mathlib.Omega.{arith}
+use Rattle.capacity.proofs.Answers.{c_rows}
+use Rattle.figuring.proofs.Positive.{any_some}
+use Rattle.figuring.proofs.Marked.{unloaded_c, unreached_c, untested_c, empty_c, marks_c}
 use Rattle.figuring.proofs.plate_c.Goals as goal
 
-pub returns-then-load-eq0 : goal.returns-then-load-eq0
-returns-then-load-eq0 c = search c_unloaded
+pub returns-then-not-rows_right : goal.returns-then-not-rows_right
+returns-then-not-rows_right c = search c_rows
 
-pub returns-then-lacks_row : goal.returns-then-lacks_row
-returns-then-lacks_row c = search c_unreached
+pub returns-in_default : goal.returns-in_default
+returns-in_default c = search unloaded_c
 
-pub overflow_mul-load : goal.overflow_mul-load
-overflow_mul-load c = omega (arith, c_most _ c.requires c.args.weight)
+pub returns-in_default-engine : goal.returns-in_default-engine
+returns-in_default-engine c = search unreached_c
+
+-- the load and the persons fit 32 bits
+pub overflow_mul-gross : goal.overflow_mul-gross
+overflow_mul-gross c =
+    let load = any_some _ (sym c.load_c.ensures ∙ c.in-Some.is) in
+    omega (arith, load.0, c_most _ c.requires c.args.weight)
 
 pub returns-then-lacks_tests : goal.returns-then-lacks_tests
-returns-then-lacks_tests c = search c_untested
+returns-then-lacks_tests c = search untested_c
 
-pub overflow_mul-load-then-rows_right : goal.overflow_mul-load-then-rows_right
-overflow_mul-load-then-rows_right c = omega (arith, c_most _ c.requires c.args.weight)
-
-pub returns-then-persons-eq0 : goal.returns-then-persons-eq0
-returns-then-persons-eq0 c = search c_empty
+pub returns-in_default-persons : goal.returns-in_default-persons
+returns-in_default-persons c = search empty_c
 
 pub overflow_cast-result : goal.overflow_cast-result
-overflow_cast-result c = omega (arith, c_most _ c.requires c.args.weight)
+overflow_cast-result c =
+    let load = any_some _ (sym c.load_c.ensures ∙ c.in-Some.is) in
+    omega (arith, load.0, c_most _ c.requires c.args.weight)
 
-pub overflow_cast-result-then-rows_right : goal.overflow_cast-result-then-rows_right
-overflow_cast-result-then-rows_right c =
-    omega (arith, persons_most _ (sub_ℕ (1000 * c.marked_c-load.result) c.wide-engine.result) c.requires)
+pub overflow_cast-result-2 : goal.overflow_cast-result-2
+overflow_cast-result-2 c =
+    let count = any_some _ (sym c.persons.ensures ∙ c.in-Some-persons.is) in
+    omega (arith, count.0, persons_most c.args.sheet.now (sub_ℕ (1000 * c.in-Some.load) c.in-Some-engine.engine) c.requires)
 
-pub returns-else-persons-eq0 : goal.returns-else-persons-eq0
-returns-else-persons-eq0 c = search c_marks
-
-pub returns-else-rows_right : goal.returns-else-rows_right
-returns-else-rows_right c = search c_rows
+pub returns : goal.returns
+returns c = search marks_c

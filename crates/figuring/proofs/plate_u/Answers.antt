@@ -1,16 +1,19 @@
 -- `plate_u` meets its contract.
-use Rattle.capacity.proofs.PoundsWorked.{pounds_most}
-use Rattle.capacity.proofs.Answers.{u_unloaded, u_marks}
+use mathlib.Core.Path.{sym, ◌∙◌}
 use native.Mathlib.Omega.{arith}
+use Rattle.capacity.proofs.PoundsWorked.{pounds_most}
+use Rattle.figuring.proofs.Positive.{any_some}
+use Rattle.figuring.proofs.Marked.{unloaded_u, marks_u}
 use Rattle.figuring.proofs.plate_u.Goals as goal
 
 -- the load fits 32 bits
 pub overflow_cast-result : goal.overflow_cast-result
 overflow_cast-result c =
-    omega (arith, pounds_most _ c.requires c.args.weight)
+    let load = any_some _ (sym c.load_u.ensures ∙ c.in-Some.is) in
+    omega (arith, load.0, pounds_most _ c.requires c.args.weight)
 
-pub returns-then-load-eq0 : goal.returns-then-load-eq0
-returns-then-load-eq0 c = search u_unloaded
+pub returns-in-Some : goal.returns-in-Some
+returns-in-Some c = search marks_u
 
-pub returns-else-load-eq0 : goal.returns-else-load-eq0
-returns-else-load-eq0 c = search u_marks
+pub returns-in-None : goal.returns-in-None
+returns-in-None c = search unloaded_u
