@@ -4,21 +4,29 @@
 ghost use Rattle.std.specs.Prelude.{◌≡◌, true, ◌≤◌, length};
 ghost use Rattle.text.specs.Line.{Laid};
 ghost use Rattle.answers.specs.Settled.{Settled};
+ghost use Rattle.answers.specs.Refusals.{number};
+ghost use Rattle.answers.specs.Values.{in_numbers};
 ghost use Rattle.sheet.specs.Sheet.{words_ok};
 ghost use Rattle.printout.specs.Input.{sheet_bytes};
 ghost use Rattle.printout.specs.Printed.{input_text, plate_text, plates_text};
 ghost use Rattle.printout.specs.Printed.{rows_printed, printed, print_answer, print_into};
 
-use answers::{Answer, NO_ROOM};
+use answers::{Answer, Figures, Refusal, Refused, TextFault};
+use figuring::{Boat, Plate, PlateA, PlateC};
 use sheet::{MOST_ROWS, TEXT_WORDS};
-use text::{Limit, TextRead};
+use text::{Limit, Rule};
 
 const MOST_INPUT: usize = 8192;
 
 // Room for whatever is printed: a line for each plate, of two figures of ten digits each.
 pub const MOST_PRINTED: usize = 60;
 
-const FIGURE: Limit = [0, u32::MAX, text::PLAIN];
+// A figure is any number of 32 bits.
+const FIGURE: Limit = Limit {
+    low: 0,
+    high: u32::MAX,
+    rule: Rule::Plain,
+};
 
 // How many bytes of the input are the sheet's: through the first END line, or all.
 fn sheet_bytes(input: &[u8]) -> usize
@@ -36,52 +44,43 @@ fn sheet_bytes(input: &[u8]) -> usize
 }
 
 // Lays the line of a faulty input: the refusal with its line and byte.
-fn lay_fault(number: u32, line: u32, byte: u32, out: &mut [u8]) -> usize
-    ensures { Laid (input_text number line byte) out.old 0 result out.new }
+fn lay_fault(fault: TextFault, out: &mut [u8]) -> usize
+    ensures { Laid (input_text (number fault.refusal) fault.line fault.byte) out.old 0 result out.new }
 {
-    spelling::write_line(b"INPUT\t", &[FIGURE; 3], &[number, line, byte], out)
+    let figures = [u32::from(fault.refusal), fault.line, fault.byte];
+    spelling::write_line(b"INPUT\t", &[FIGURE; 3], &figures, out)
 }
 
 // Lays a plate's line, after the tag of a marked or of a refused one.
 fn lay_plate(marked: &[u8], refused: &[u8], answer: Answer, out: &mut [u8]) -> usize
-    ensures { Laid (plate_text marked.now refused.now answer) out.old 0 result
-        out.new }
+    ensures { Laid (plate_text marked.now refused.now (in_numbers answer)) out.old 0 result out.new }
 {
     match answer {
-        Answer::Plate(load, figure) => {
-            let limits = [FIGURE, FIGURE];
-            let figures = [load, figure];
-            spelling::write_line(marked, &limits, &figures, out)
+        Ok(Figures::Plate(load, figure)) => {
+            spelling::write_line(marked, &[FIGURE; 2], &[load, figure], out)
         }
-        Answer::Refused(number) => {
-            let limits = [FIGURE];
-            let figures = [number];
-            spelling::write_line(refused, &limits, &figures, out)
+        Err(Refused::Plain(refusal)) => {
+            spelling::write_line(refused, &[FIGURE], &[u32::from(refusal)], out)
         }
-        Answer::RefusedAt(_, _, _) => 0,
-        Answer::Done => 0,
-        Answer::Count(_) => 0,
+        _ => 0,
     }
 }
 
 // Lays the lines of plates A and C.
-fn lay_plates(sheet: &[u32], powers: &[u32], weights: &[u32], out: &mut [u8]) -> usize
+fn lay_plates(sheet: &[u32], rows: PlateC, out: &mut [u8]) -> usize
     requires { (words_ok sheet.now ≡ true)
-        × (length (plates_text sheet.now powers.now weights.now) ≤ length out.old) }
-    ensures { Laid (plates_text sheet.now powers.now weights.now)
-        out.old 0 result out.new }
+        × (length (plates_text sheet.now rows.powers.now rows.weights.now) ≤ length out.old) }
+    ensures { Laid (plates_text sheet.now rows.entry.powers.now rows.entry.weights.now) out.old 0 result out.new }
 {
-    let weight = measuring::weigh(sheet).unwrap();
-    let end = lay_plate(
-        b"PLATE\tA\t",
-        b"REFUSED\tA\t",
-        figuring::plate_a(weight, sheet),
-        out,
-    );
+    let boat = Boat {
+        weight: measuring::weigh(sheet).unwrap(),
+        sheet,
+    };
+    let end = lay_plate(b"PLATE\tA\t", b"REFUSED\tA\t", PlateA.mark(boat), out);
     end + lay_plate(
         b"PLATE\tC\t",
         b"REFUSED\tC\t",
-        figuring::plate_c(weight, sheet, powers, weights),
+        rows.mark(boat),
         &mut out[end..],
     )
 }
@@ -95,8 +94,14 @@ fn lay_rows(sheet: &[u32], engines: &[u8], out: &mut [u8]) -> usize
     let mut powers = [0u32; MOST_ROWS];
     let mut weights = [0u32; MOST_ROWS];
     match reading::read_columns(engines, &mut powers, &mut weights) {
-        TextRead::Wrong(refusal, line, byte) => lay_fault(refusal, line, byte, out),
-        TextRead::Whole(rows) => lay_plates(sheet, &powers[..rows], &weights[..rows], out),
+        Err(fault) => lay_fault(fault, out),
+        Ok(rows) => {
+            let rows = PlateC {
+                powers: &powers[..rows],
+                weights: &weights[..rows],
+            };
+            lay_plates(sheet, rows, out)
+        }
     }
 }
 
@@ -106,13 +111,13 @@ fn lay_printed(input: &[u8], out: &mut [u8]) -> usize
     ensures { Laid (printed input.now) out.old 0 result out.new }
 {
     if input.len() > MOST_INPUT {
-        return lay_fault(answers::BROKEN_LINE, 0, 0, out);
+        return lay_fault(TextFault::TOO_LONG, out);
     }
     let end = sheet_bytes(input);
     let mut words = [0u32; TEXT_WORDS];
     match reading::read_words(&input[..end], &mut words) {
-        TextRead::Wrong(refusal, line, byte) => lay_fault(refusal, line, byte, out),
-        TextRead::Whole(_) => lay_rows(&words[1..], &input[end..], out),
+        Err(fault) => lay_fault(fault, out),
+        Ok(_) => lay_rows(&words[1..], &input[end..], out),
     }
 }
 
@@ -121,13 +126,13 @@ fn lay_printed(input: &[u8], out: &mut [u8]) -> usize
 // stood.
 pub fn print_plates(input: &[u8], out: &mut [u8]) -> Answer
     ensures { Settled (print_answer input.now (length out.old))
-        (print_into input.now out.old) result out.new }
+        (print_into input.now out.old) (in_numbers result) out.new }
 {
     let mut bytes = [0u8; MOST_PRINTED];
     let len = lay_printed(input, &mut bytes);
     if out.len() < len {
-        return Answer::Refused(NO_ROOM);
+        return Err(Refused::Plain(Refusal::NoRoom));
     }
     spelling::write_bytes(&bytes[..len], out);
-    Answer::Count(len as u32)
+    Ok(Figures::Count(len as u32))
 }

@@ -12,18 +12,18 @@ lay_rows-requires c =
     let input = c.args.input.now in
     let short = c.if-input-gt-MOST_INPUT.false in
     let end = c.sheet_bytes-end.ensures.counted in (
-      words_ok_lem input short end c.in-Whole.ensures,
-      rw (rows_printed_lem input short end c.in-Whole.ensures) c.requires,
+      words_ok_lem input short end c.in-Ok.ensures,
+      rw (rows_printed_lem input short end c.in-Ok.ensures) c.requires,
     )
 
-pub returns-in-Wrong : goal.returns-in-Wrong
-returns-in-Wrong c =
+pub returns-in-Err : goal.returns-in-Err
+returns-in-Err c =
     let short = c.if-input-gt-MOST_INPUT.false in
-    rw (← sheet_printed c.args.input.now short c.sheet_bytes-end.ensures.counted c.in-Wrong.ensures)
-    c.lay_fault-in-Wrong.ensures
+    rw (← sheet_printed c.args.input.now short c.sheet_bytes-end.ensures.counted c.in-Err.ensures)
+    c.lay_fault-in-Err.ensures
 
-pub returns-in-Whole : goal.returns-in-Whole
-returns-in-Whole c =
+pub returns-in-Ok : goal.returns-in-Ok
+returns-in-Ok c =
     let short = c.if-input-gt-MOST_INPUT.false in
-    rw (← rows_printed_lem c.args.input.now short c.sheet_bytes-end.ensures.counted c.in-Whole.ensures)
+    rw (← rows_printed_lem c.args.input.now short c.sheet_bytes-end.ensures.counted c.in-Ok.ensures)
     c.lay_rows.ensures
