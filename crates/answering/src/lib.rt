@@ -94,8 +94,8 @@ pub fn new_hull(mem: &mut [u32], text: &[u8]) -> Answer
     match reading::read_words(text, &mut words) {
         TextRead::Wrong(fault, line, byte) => Answer::RefusedAt(fault, line, byte),
         TextRead::Whole(_) => {
-            let weight = measuring::weigh(&words[1..]).unwrap();
-            Answer::Count(keeping::enter_hull(mem, weight, &words[1..]))
+            let weight = measuring::weigh(&words[IN_TEXT..]).unwrap();
+            Answer::Count(keeping::enter_hull(mem, weight, &words[IN_TEXT..]))
         }
     }
 }
@@ -265,8 +265,8 @@ pub fn replace(mem: &mut [u32], desk: u32, text: &[u8]) -> Answer
     match reading::read_words(text, &mut words) {
         TextRead::Wrong(fault, line, byte) => Answer::RefusedAt(fault, line, byte),
         TextRead::Whole(_) => {
-            let weight = measuring::weigh(&words[1..]).unwrap();
-            keeping::replace_sheet(mem, desk, weight, &words[1..]);
+            let weight = measuring::weigh(&words[IN_TEXT..]).unwrap();
+            keeping::replace_sheet(mem, desk, weight, &words[IN_TEXT..]);
             Answer::Done
         }
     }

@@ -23,7 +23,7 @@ use sheet::{FITTED, SHEET_WORDS};
 pub type Memory = [u32; REGISTER_WORDS];
 
 // A memory of the right size, lent on as what it is: the one chunk that it has, so that its length is not asked again.
-pub fn whole(mem: &[u32]) -> &Memory
+fn whole(mem: &[u32]) -> &Memory
     requires { Sized mem.now }
     ensures { result.now ≡ mem.now }
 {

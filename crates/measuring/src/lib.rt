@@ -13,7 +13,7 @@ ghost use Rattle.capacity.specs.Highs.{high_at};
 ghost use Rattle.measuring.specs.Part.{part_ok, Lent, WordPart, AlikePart};
 
 use sheet::{
-    AFT, BARE, FITTED, FITTING_COUNT, FITTING_HIGH, FITTINGS, LENGTH, LIMITS, READINGS, STATION_Q,
+    AFT, BARE, FITTED, FITTING_COUNT, FITTING_HIGH, IN_TEXT, LENGTH, LIMITS, READINGS, STATION_Q,
 };
 use text::Limit;
 
@@ -122,11 +122,8 @@ pub fn weigh(words: &[u32]) -> Option<u32>
     requires { length words.now ≡ sheet_words }
     ensures { result ≡ cond (words_ok words.now) (Some (boat_m words.now)) None }
 {
-    // Lent on as a part of itself, it goes in registers and takes no stack (DECISIONS).
-    let words = &words[..];
-    let limits = LIMITS;
     let sheet = Judged {
-        limits: &limits[1..],
+        limits: &LIMITS[IN_TEXT..],
         words,
     };
     if !sheet.before_fittings() {
@@ -149,6 +146,5 @@ pub fn sheet_ok(sheet: &[u32]) -> bool
     requires { length sheet.now ≡ text_words }
     ensures { result ≡ sheet_ok sheet.now }
 {
-    let limits = LIMITS;
-    spelling::all_hold(&limits[..1], &sheet[..1]) && words_ok(&sheet[1..])
+    spelling::all_hold(&LIMITS[..IN_TEXT], &sheet[..IN_TEXT]) && words_ok(&sheet[IN_TEXT..])
 }
