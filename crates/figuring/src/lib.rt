@@ -2,9 +2,8 @@
 // the boat with its fittings: the plate is by that weight, whatever it is. printing and answering call them.
 #![tactic(auto)]
 
-ghost use Rattle.std.specs.Prelude.{◌≡◌, true};
+ghost use Rattle.std.specs.Prelude.{◌≡◌};
 ghost use Rattle.answers.specs.Values.{in_numbers};
-ghost use Rattle.sheet.specs.Sheet.{words_ok};
 ghost use Rattle.capacity.specs.PlateC.{plate_c};
 ghost use Rattle.capacity.specs.PlateA.{plate_a};
 ghost use Rattle.capacity.specs.PlateU.{plate_u};
@@ -38,6 +37,20 @@ pub trait Plate: Copy {
 #[derive(Clone, Copy)]
 pub struct PlateA;
 
+impl Plate for PlateA {
+    ghost kind = { λ _. kind_a };
+
+    fn mark(self, boat: Boat) -> Answer
+        ensures { in_numbers result ≡ plate_a boat.entry.weight boat.entry.sheet.now }
+    {
+        let load = boat.load_a().ok_or(Refusal::NoLoad)?;
+        if boat.lacks_power() {
+            return Err(Refused::Plain(Refusal::NoPower));
+        }
+        Ok(Figures::Plate(load as u32, boat.power() as u32))
+    }
+}
+
 // Plate C: kilograms and persons, of engine rows in two lent slices.
 #[derive(Clone, Copy)]
 pub struct PlateC<'a> {
@@ -45,83 +58,40 @@ pub struct PlateC<'a> {
     pub weights: &'a [u32],
 }
 
-// Plate U: pounds.
-#[derive(Clone, Copy)]
-pub struct PlateU;
-
-// Each marks a boat that is taken apart: its words then go in registers, where a struct takes room on the stack.
-
-impl Plate for PlateA {
-    ghost kind = { λ _. kind_a };
-
-    #[inline(always)]
-    fn mark(self, boat: Boat) -> Answer
-        ensures { in_numbers result ≡ plate_a boat.entry.weight boat.entry.sheet.now }
-    {
-        plate_a(boat.weight, boat.sheet)
-    }
-}
-
 impl Plate for PlateC<'_> {
     ghost kind = { λ rows. kind_c rows.powers.now rows.weights.now };
 
-    #[inline(always)]
     fn mark(self, boat: Boat) -> Answer
         ensures { in_numbers result
             ≡ plate_c boat.entry.weight boat.entry.sheet.now self.entry.powers.now self.entry.weights.now }
     {
-        plate_c(boat.weight, boat.sheet, self.powers, self.weights)
+        if !rows_right(self.powers, self.weights) {
+            return Err(Refused::Plain(Refusal::BadRows));
+        }
+        let load = boat.load_c().ok_or(Refusal::NoLoad)?;
+        let engine = boat
+            .engine(self.powers, self.weights)
+            .ok_or(Refusal::NoRow)?;
+        let gross = 1000 * load;
+        if boat.lacks_tests(gross, engine) {
+            return Err(Refused::Plain(Refusal::Untested));
+        }
+        let persons = boat.persons(gross, engine).ok_or(Refusal::NoPersons)?;
+        Ok(Figures::Plate(load as u32, persons as u32))
     }
 }
+
+// Plate U: pounds.
+#[derive(Clone, Copy)]
+pub struct PlateU;
 
 impl Plate for PlateU {
     ghost kind = { λ _. kind_u };
 
-    #[inline(always)]
     fn mark(self, boat: Boat) -> Answer
         ensures { in_numbers result ≡ plate_u boat.entry.weight boat.entry.sheet.now }
     {
-        plate_u(boat.weight, boat.sheet)
+        let load = boat.load_u().ok_or(Refusal::NoLoad)?;
+        Ok(Figures::Count(load as u32))
     }
-}
-
-// Plate A: its kilograms and its watts.
-pub fn plate_a(weight: u32, sheet: &[u32]) -> Answer
-    requires { words_ok sheet.now ≡ true }
-    ensures { in_numbers result ≡ plate_a weight sheet.now }
-{
-    let boat = Boat { weight, sheet };
-    let load = boat.load_a().ok_or(Refusal::NoLoad)?;
-    if boat.lacks_power() {
-        return Err(Refused::Plain(Refusal::NoPower));
-    }
-    Ok(Figures::Plate(load as u32, boat.power() as u32))
-}
-
-// Plate C: its kilograms and its persons, of engine rows in two lent slices.
-pub fn plate_c(weight: u32, sheet: &[u32], powers: &[u32], weights: &[u32]) -> Answer
-    requires { words_ok sheet.now ≡ true }
-    ensures { in_numbers result ≡ plate_c weight sheet.now powers.now weights.now }
-{
-    if !rows_right(powers, weights) {
-        return Err(Refused::Plain(Refusal::BadRows));
-    }
-    let boat = Boat { weight, sheet };
-    let load = boat.load_c().ok_or(Refusal::NoLoad)?;
-    let engine = boat.engine(powers, weights).ok_or(Refusal::NoRow)?;
-    let gross = 1000 * load;
-    if boat.lacks_tests(gross, engine) {
-        return Err(Refused::Plain(Refusal::Untested));
-    }
-    let persons = boat.persons(gross, engine).ok_or(Refusal::NoPersons)?;
-    Ok(Figures::Plate(load as u32, persons as u32))
-}
-
-// Plate U: its pounds.
-pub fn plate_u(weight: u32, sheet: &[u32]) -> Answer
-    requires { words_ok sheet.now ≡ true }
-    ensures { in_numbers result ≡ plate_u weight sheet.now }
-{
-    let load = Boat { weight, sheet }.load_u().ok_or(Refusal::NoLoad)?;
-    Ok(Figures::Count(load as u32))
 }

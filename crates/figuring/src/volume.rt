@@ -27,6 +27,7 @@ fn station_product(l: [u32; READINGS]) -> u64
 }
 
 // N, of the readings of the four stations: one station at a time, its share added to a running total.
+// Kept: 02 (iv) asks for this, one step after the other, and rules out a loop over a table of shares (1).
 #[tactic(auto, using(capacity::proofs::Volume::product_most_lem))]
 fn volume_of(stations: [[u32; READINGS]; 4], reference: u32) -> u64
     requires { Stations stations reference }
@@ -50,7 +51,8 @@ impl Boat<'_> {
         *self.sheet[place..place + READINGS].as_array().unwrap()
     }
 
-    // What adds to the load: the water that the hull and the aft structure displace.
+    // What adds to the load: the water that the hull and the aft structure displace. Laid out in each plate, it keeps
+    // the calls within their stack.
     #[inline(always)]
     pub(crate) fn gain(self) -> u64
         ensures { result ≡ volume_n self.entry.sheet.now + gram * aft self.entry.sheet.now }

@@ -1,4 +1,4 @@
--- `plate_c` meets its contract.
+-- Plate C's `mark` meets its contract.
 use mathlib.Core.Path.{sym, ◌∙◌}
 use Prim.Native.Nat.{◌*◌}
 use lib.IntN.{sub_ℕ}
@@ -10,7 +10,7 @@ use Rattle.capacity.proofs.Answers.{c_rows}
 use Rattle.figuring.proofs.Positive.{any_some}
 use Rattle.figuring.proofs.Found.{found, lacked}
 use Rattle.figuring.proofs.Marked.{unloaded_c, unreached_c, untested_c, empty_c, marks_c}
-use Rattle.figuring.proofs.plate_c.Goals as goal
+use Rattle.figuring.proofs.PlateCPlate.mark.Goals as goal
 
 pub returns-then-not-rows_right : goal.returns-then-not-rows_right
 returns-then-not-rows_right c = search c_rows
@@ -52,18 +52,18 @@ returns-in_err-persons c =
 pub overflow_mul-gross : goal.overflow_mul-gross
 overflow_mul-gross c =
     let load = any_some _ (sym c.load_c.ensures ∙ found _ c.ok_or.ensures.value c.in_ok-load.was) in
-    omega (arith, load.0, c_most _ c.requires c.args.weight)
+    omega (arith, load.0, c_most _ c.args.boat.within c.args.boat.weight)
 
 pub overflow_cast-result : goal.overflow_cast-result
 overflow_cast-result c =
     let load = any_some _ (sym c.load_c.ensures ∙ found _ c.ok_or.ensures.value c.in_ok-load.was) in
-    omega (arith, load.0, c_most _ c.requires c.args.weight)
+    omega (arith, load.0, c_most _ c.args.boat.within c.args.boat.weight)
 
 pub overflow_cast-result-2 : goal.overflow_cast-result-2
 overflow_cast-result-2 c =
     let count = any_some _ (sym c.persons.ensures ∙ found _ c.ok_or-3.ensures.value c.in_ok-persons.was) in
     let live = sub_ℕ (1000 * c.in_ok-load.load) c.in_ok-engine.engine in
-    omega (arith, count.0, persons_most c.args.sheet.now live c.requires)
+    omega (arith, count.0, persons_most c.args.boat.sheet.now live c.args.boat.within)
 
 pub returns : goal.returns
 returns c =

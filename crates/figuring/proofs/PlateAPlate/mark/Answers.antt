@@ -1,4 +1,4 @@
--- `plate_a` meets its contract.
+-- Plate A's `mark` meets its contract.
 use mathlib.Core.Path.{sym, ◌∙◌}
 use native.Mathlib.Omega.{arith}
 use Rattle.std.proofs.lemmas.Result.{err_from_is_err_and}
@@ -7,7 +7,7 @@ use Rattle.capacity.proofs.Power.{power_most}
 use Rattle.figuring.proofs.Positive.{any_some}
 use Rattle.figuring.proofs.Found.{found, lacked}
 use Rattle.figuring.proofs.Marked.{unloaded_a, unpowered_a, marks_a}
-use Rattle.figuring.proofs.plate_a.Goals as goal
+use Rattle.figuring.proofs.PlateAPlate.mark.Goals as goal
 
 pub returns-in_err-load : goal.returns-in_err-load
 returns-in_err-load c =
@@ -24,10 +24,10 @@ returns-then-lacks_power c =
 pub overflow_cast-result : goal.overflow_cast-result
 overflow_cast-result c =
     let load = any_some _ (sym c.load_a.ensures ∙ found _ c.ok_or.ensures.value c.in_ok-load.was) in
-    omega (arith, load.0, marked_most _ c.requires c.args.weight)
+    omega (arith, load.0, marked_most _ c.args.boat.within c.args.boat.weight)
 
 pub overflow_cast-result-2 : goal.overflow_cast-result-2
-overflow_cast-result-2 c = omega (arith, c.power.ensures, power_most _ c.requires)
+overflow_cast-result-2 c = omega (arith, c.power.ensures, power_most _ c.args.boat.within)
 
 pub returns : goal.returns
 returns c =
