@@ -31,7 +31,11 @@ use Rattle.printout.proofs.Printed.{rows_fault, rows_plates, printed_fault, prin
 
 -- ---- plates A and C, one after the other
 
-first_in : {x o₀ o₁ : List ℕ} {end : ℕ} → Laid x o₀ 0 end o₁ → (y : List ℕ) → length (x ++ y) ≤ length o₀ → end ≤ length o₁
+first_in : {x o₀ o₁ : List ℕ} {end : ℕ}
+    → Laid x o₀ 0 end o₁
+    → (y : List ℕ)
+    → length (x ++ y) ≤ length o₀
+    → end ≤ length o₁
 first_in {x} p y h = omega (arith, p.end, laid_length p, length-append x y)
 
 both_long : {x o₀ o₁ : List ℕ} {end : ℕ} → Laid x o₀ 0 end o₁ → {y o₂ o₃ : List ℕ} {r : ℕ} → Laid y o₂ 0 r o₃
@@ -53,7 +57,8 @@ module _ (s ps ws : List ℕ) (ok : words_ok s ≡ true) {w : ℕ} (e : w ≡ co
   plates_in h = first_in first_laid _ h
 
   module _ {b : Answer} (q : b ≡ plate_c w s ps ws) {ys : List ℕ} {r : ℕ}
-      (then : Laid (plate_text (bytes "PLATE\tC\t") (bytes "REFUSED\tC\t") b) (take (length o₁ - end) (drop end o₁)) 0 r ys)
+      (then : Laid (plate_text (bytes "PLATE\tC\t") (bytes "REFUSED\tC\t") b)
+      (take (length o₁ - end) (drop end o₁)) 0 r ys)
     where
       then_laid : Laid (plate_text (bytes "PLATE\tC\t") (bytes "REFUSED\tC\t") (plate_of (kind_c ps ws) s))
           (take (length o₁ - end) (drop end o₁)) 0 r ys

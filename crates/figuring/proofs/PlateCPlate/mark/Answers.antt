@@ -39,7 +39,8 @@ overflow_cast-result c =
 pub overflow_cast-result-2 : goal.overflow_cast-result-2
 overflow_cast-result-2 c =
     let count = any_some _ (sym c.persons.ensures ∙ c.in-Some-persons.is) in
-    omega (arith, count.0, persons_most c.args.boat.sheet.now (sub_ℕ (1000 * c.in-Some.load) c.in-Some-engine.engine) c.args.boat.within)
+    let live = sub_ℕ (1000 * c.in-Some.load) c.in-Some-engine.engine in
+    omega (arith, count.0, persons_most c.args.boat.sheet.now live c.args.boat.within)
 
 pub returns : goal.returns
 returns c = search marks_c
