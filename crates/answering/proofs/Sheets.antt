@@ -7,7 +7,7 @@ use Prim.Native.Nat.{ℕ, ◌-◌, ◌<◌}
 use native.Mathlib.Omega.{arith}
 use lib.ListN.{length, take, drop, length-drop}
 use lib.Seq.{take_all}
-use Rattle.text.specs.declared.TextRead.TheVariants.{Whole}
+use Rattle.text.specs.Read.{Whole}
 use Rattle.sheet.specs.Places.{sheet_words}
 use Rattle.sheet.specs.SheetText.{read_sheet}
 use Rattle.sheet.proofs.SheetText.{sheet_count}

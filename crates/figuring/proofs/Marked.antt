@@ -44,8 +44,8 @@ reaching : (t : Bool) (w : ℕ) {n : ℕ} → cond t None (Some w) ≡ Some n �
 reaching true w e = cc
 reaching false w e = (refl, cc)
 
-module _ (m : ℕ) (s ps ws : List ℕ) {right : Bool} (told : right ≡ rows_right ps ws) (r : right ≡ true) {load : Option ℕ}
-    (l : load ≡ positive (marked_c m s)) where
+module _ (m : ℕ) (s ps ws : List ℕ) {right : Bool} (told : right ≡ rows_right ps ws) (r : right ≡ true)
+    {load : Option ℕ} (l : load ≡ positive (marked_c m s)) where
   pub unloaded_c : load ≡ None → Refused no_load ≡ plate_c m s ps ws
   unloaded_c z = c_unloaded m s ps ws told r refl (any_none _ (sym l ∙ z))
 
@@ -56,9 +56,11 @@ module _ (m : ℕ) (s ps ws : List ℕ) {right : Bool} (told : right ≡ rows_ri
 
     pub unreached_c : weight ≡ None → Refused no_row ≡ plate_c m s ps ws
     unreached_c y =
-        c_unreached m s ps ws told r k.0 (some_there k.0 k.1) {lacks = lacks_row s ps} refl (lacking _ _ (sym e ∙ y))
+        c_unreached m s ps ws told r k.0 (some_there k.0 k.1) {lacks = lacks_row s ps} refl
+        (lacking _ _ (sym e ∙ y))
 
-    module _ {engine : ℕ} (y : weight ≡ Some engine) {wants : Bool} (d : wants ≡ lacks_tests s (sub_ℕ (1000 * x) engine)) where
+    module _ {engine : ℕ} (y : weight ≡ Some engine) {wants : Bool}
+        (d : wants ≡ lacks_tests s (sub_ℕ (1000 * x) engine)) where
       f : (lacks_row s ps ≡ false) × (engine ≡ engine_weight s ps ws)
       f = reaching _ _ (sym e ∙ y)
 
@@ -67,7 +69,8 @@ module _ (m : ℕ) (s ps ws : List ℕ) {right : Bool} (told : right ≡ rows_ri
 
       module _ (g : wants ≡ false) {count : Option ℕ} (p : count ≡ positive (persons s (sub_ℕ (1000 * x) engine))) where
         pub empty_c : count ≡ None → Refused no_persons ≡ plate_c m s ps ws
-        empty_c q = c_empty m s ps ws told r k.0 (some_there k.0 k.1) refl f.0 f.1 refl d g refl (any_none _ (sym p ∙ q))
+        empty_c q =
+            c_empty m s ps ws told r k.0 (some_there k.0 k.1) refl f.0 f.1 refl d g refl (any_none _ (sym p ∙ q))
 
         pub marks_c : {n : ℕ} → count ≡ Some n → Plate x n ≡ plate_c m s ps ws
         marks_c q =

@@ -42,7 +42,8 @@ module _ (s ps ws : List ℕ) where
   pub unweighed : wants_row s ≡ false → Some 0 ≡ cond (lacks_row s ps) None (Some (engine_weight s ps ws))
   unweighed e = rw (← row_unwanted s ps e, ← weight_unwanted s ps ws e) refl
 
-  module _ (w : wants_row s ≡ true) {place : Option ℕ} (e : place ≡ position (λ (most : ℕ). leb (declared s) most) ps) where
+  module _ (w : wants_row s ≡ true) {place : Option ℕ}
+      (e : place ≡ position (λ (most : ℕ). leb (declared s) most) ps) where
     pub unreached : place ≡ None → None ≡ cond (lacks_row s ps) None (Some (engine_weight s ps ws))
     unreached z =
         let past : length ps ≤ row_for (declared s) ps = rw (row_is (declared s) ps) at (missed (sym e ∙ z)) in

@@ -54,7 +54,8 @@ module _ (s : List ℕ) (ok : words_ok s ≡ true) (live : ℤ) {by_load : Optio
 
     pub seats_untested : tested s ≡ 0 → Some (min n (positions s)) ≡ positive (persons s live)
     seats_untested t =
-        some_any (omega (arith, found.0, persons_untested s live (rw t refl))) (omega (arith, found.0, found.1, positions_least s ok))
+        some_any (omega (arith, found.0, persons_untested s live (rw t refl)))
+        (omega (arith, found.0, found.1, positions_least s ok))
 
     pub seats_tested : (tested s ≡ 0 → ⊥) → Some (min (min n (positions s)) (tested s)) ≡ positive (persons s live)
     seats_tested t =

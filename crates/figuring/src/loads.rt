@@ -17,7 +17,7 @@ const MARKED_KILO: u64 = 5 * 1000 * GRAM;
 
 const HALF_MARKED: u64 = 2500 * GRAM;
 
-#[tactic(auto, using(capacity::proofs::Most::gain_most_lem, capacity::proofs::Most::weight_most, capacity::proofs::Most::lost_most))]
+#[tactic(auto, using(capacity::proofs::Most::gain_most_lem, capacity::proofs::Most::weight_most))]
 impl Boat<'_> {
     // The kilograms that plate C marks, where there are any.
     pub(crate) fn load_c(self) -> Option<u64>

@@ -7,7 +7,10 @@ use native.Mathlib.Omega.{arith}
 use Rattle.figuring.proofs.boat.Boat.gain.Goals as goal
 
 pub volume_of-requires : goal.volume_of-requires
-volume_of-requires c = rw c.word.ensures (stations_within _ c.args.self.within c.readings.ensures c.readings-2.ensures c.readings-3.ensures c.readings-4.ensures)
+volume_of-requires c =
+    rw c.word.ensures
+    (stations_within _ c.args.self.within c.readings.ensures c.readings-2.ensures c.readings-3.ensures
+    c.readings-4.ensures)
 
 -- what it returns is the sheet's gain, which fits
 pub overflow_add-result : goal.overflow_add-result
