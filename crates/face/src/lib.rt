@@ -13,53 +13,15 @@ ghost use Rattle.register.specs.Calls.{save, drop_draft, ask, fresh_step, step, 
 ghost use Rattle.answers.specs.Values.{faced};
 
 use answering::{PlateA, PlateC, PlateU};
-use answers::{Answer, WbAnswer};
+use answers::WbAnswer;
 use sheet::TEXT_WORDS;
-
-// An answer of the crates below, as C reads it.
-fn face(answer: Answer) -> WbAnswer
-    ensures { result ≡ faced answer }
-{
-    match answer {
-        Answer::Refused(number) => WbAnswer {
-            refusal: number,
-            first: 0,
-            second: 0,
-            third: 0,
-        },
-        Answer::RefusedAt(number, line, byte) => WbAnswer {
-            refusal: number,
-            first: line,
-            second: byte,
-            third: 0,
-        },
-        Answer::Done => WbAnswer {
-            refusal: 0,
-            first: 0,
-            second: 0,
-            third: 0,
-        },
-        Answer::Count(n) => WbAnswer {
-            refusal: 0,
-            first: n,
-            second: 0,
-            third: 0,
-        },
-        Answer::Plate(load, figure) => WbAnswer {
-            refusal: 0,
-            first: load,
-            second: figure,
-            third: 0,
-        },
-    }
-}
 
 // Fresh start.
 #[unsafe(no_mangle)]
 pub extern "C" fn wb_fresh(mem: &mut [u32]) -> WbAnswer
     ensures { WbChanges (fresh_step mem.old) result mem.new }
 {
-    face(answering::fresh(mem))
+    WbAnswer::from(answering::fresh(mem))
 }
 
 // New hull from a text; answers its number.
@@ -67,7 +29,7 @@ pub extern "C" fn wb_fresh(mem: &mut [u32]) -> WbAnswer
 pub extern "C" fn wb_new_hull(mem: &mut [u32], text: &[u8]) -> WbAnswer
     ensures { WbChanges (step mem.old (new_hull text.now)) result mem.new }
 {
-    face(answering::new_hull(mem, text))
+    WbAnswer::from(answering::new_hull(mem, text))
 }
 
 // Opens a hull at a desk; answers the edit number.
@@ -75,7 +37,7 @@ pub extern "C" fn wb_new_hull(mem: &mut [u32], text: &[u8]) -> WbAnswer
 pub extern "C" fn wb_open(mem: &mut [u32], desk: u32, hull: u32) -> WbAnswer
     ensures { WbChanges (step mem.old (open_hull desk hull)) result mem.new }
 {
-    face(answering::open_hull(mem, desk, hull))
+    WbAnswer::from(answering::open_hull(mem, desk, hull))
 }
 
 // Sets a fitting line of a desk's draft; 0 and 0 empty it.
@@ -90,7 +52,7 @@ pub extern "C" fn wb_set_fitting(
     ensures { WbChanges (step mem.old (work desk (set_fitting line weight count))) result
         mem.new }
 {
-    face(answering::set_fitting(mem, desk, line, weight, count))
+    WbAnswer::from(answering::set_fitting(mem, desk, line, weight, count))
 }
 
 // Makes a desk's draft the sheet of a text.
@@ -99,7 +61,7 @@ pub extern "C" fn wb_replace(mem: &mut [u32], desk: u32, text: &[u8]) -> WbAnswe
     ensures { WbChanges (step mem.old (work desk (replace text.now))) result
         mem.new }
 {
-    face(answering::replace(mem, desk, text))
+    WbAnswer::from(answering::replace(mem, desk, text))
 }
 
 // Plate A of a desk's draft; answers load and power.
@@ -107,7 +69,7 @@ pub extern "C" fn wb_replace(mem: &mut [u32], desk: u32, text: &[u8]) -> WbAnswe
 pub extern "C" fn wb_trial_a(mem: &[u32], desk: u32) -> WbAnswer
     ensures { result ≡ faced (step mem.now (work desk (try_plate kind_a))).answer }
 {
-    face(answering::trial(mem, desk, PlateA))
+    WbAnswer::from(answering::trial(mem, desk, PlateA))
 }
 
 // Plate C of a desk's draft; answers load and persons.
@@ -118,7 +80,7 @@ pub extern "C" fn wb_trial_c(mem: &[u32], desk: u32, powers: &[u32], weights: &[
         (step mem.now
         (work desk (try_plate (kind_c powers.now weights.now)))).answer }
 {
-    face(answering::trial(mem, desk, PlateC { powers, weights }))
+    WbAnswer::from(answering::trial(mem, desk, PlateC { powers, weights }))
 }
 
 // Plate U of a desk's draft; answers pounds.
@@ -126,7 +88,7 @@ pub extern "C" fn wb_trial_c(mem: &[u32], desk: u32, powers: &[u32], weights: &[
 pub extern "C" fn wb_trial_u(mem: &[u32], desk: u32) -> WbAnswer
     ensures { result ≡ faced (step mem.now (work desk (try_plate kind_u))).answer }
 {
-    face(answering::trial(mem, desk, PlateU))
+    WbAnswer::from(answering::trial(mem, desk, PlateU))
 }
 
 // Saves a desk's draft; answers the edit number.
@@ -134,7 +96,7 @@ pub extern "C" fn wb_trial_u(mem: &[u32], desk: u32) -> WbAnswer
 pub extern "C" fn wb_save(mem: &mut [u32], desk: u32) -> WbAnswer
     ensures { WbChanges (step mem.old (save desk)) result mem.new }
 {
-    face(answering::save(mem, desk))
+    WbAnswer::from(answering::save(mem, desk))
 }
 
 // Ends a desk's draft.
@@ -142,7 +104,7 @@ pub extern "C" fn wb_save(mem: &mut [u32], desk: u32) -> WbAnswer
 pub extern "C" fn wb_drop(mem: &mut [u32], desk: u32) -> WbAnswer
     ensures { WbChanges (step mem.old (drop_draft desk)) result mem.new }
 {
-    face(answering::drop_draft(mem, desk))
+    WbAnswer::from(answering::drop_draft(mem, desk))
 }
 
 // Plate A of a hull; answers load and power.
@@ -150,7 +112,7 @@ pub extern "C" fn wb_drop(mem: &mut [u32], desk: u32) -> WbAnswer
 pub extern "C" fn wb_plate_a(mem: &[u32], hull: u32) -> WbAnswer
     ensures { result ≡ faced (step mem.now (ask hull (plate kind_a))).answer }
 {
-    face(answering::plate(mem, hull, PlateA))
+    WbAnswer::from(answering::plate(mem, hull, PlateA))
 }
 
 // Plate C of a hull; answers load and persons.
@@ -161,7 +123,7 @@ pub extern "C" fn wb_plate_c(mem: &[u32], hull: u32, powers: &[u32], weights: &[
         (step mem.now
         (ask hull (plate (kind_c powers.now weights.now)))).answer }
 {
-    face(answering::plate(mem, hull, PlateC { powers, weights }))
+    WbAnswer::from(answering::plate(mem, hull, PlateC { powers, weights }))
 }
 
 // Plate U of a hull; answers pounds.
@@ -169,7 +131,7 @@ pub extern "C" fn wb_plate_c(mem: &[u32], hull: u32, powers: &[u32], weights: &[
 pub extern "C" fn wb_plate_u(mem: &[u32], hull: u32) -> WbAnswer
     ensures { result ≡ faced (step mem.now (ask hull (plate kind_u))).answer }
 {
-    face(answering::plate(mem, hull, PlateU))
+    WbAnswer::from(answering::plate(mem, hull, PlateU))
 }
 
 // What a hull's boat weighs with its fittings; answers grams.
@@ -177,7 +139,7 @@ pub extern "C" fn wb_plate_u(mem: &[u32], hull: u32) -> WbAnswer
 pub extern "C" fn wb_weight(mem: &[u32], hull: u32) -> WbAnswer
     ensures { result ≡ faced (step mem.now (ask hull weigh)).answer }
 {
-    face(answering::weight(mem, hull))
+    WbAnswer::from(answering::weight(mem, hull))
 }
 
 // Writes a hull's sheet; answers the count of bytes.
@@ -185,7 +147,7 @@ pub extern "C" fn wb_weight(mem: &[u32], hull: u32) -> WbAnswer
 pub extern "C" fn wb_write_hull(mem: &[u32], hull: u32, out: &mut [u8]) -> WbAnswer
     ensures { WbWrites (step mem.now (ask hull (write out.old))) result out.new }
 {
-    face(answering::write_hull(mem, hull, out))
+    WbAnswer::from(answering::write_hull(mem, hull, out))
 }
 
 // Reads a sheet from a text, its HULL number too.
@@ -194,7 +156,7 @@ pub extern "C" fn wb_read_sheet(text: &[u8], sheet: &mut [u32; TEXT_WORDS]) -> W
     ensures { Settled (faced (read_answer (read_sheet text.now)))
         (read_into (read_sheet text.now) sheet.old) result sheet.new }
 {
-    face(reading::read_sheet(text, sheet))
+    WbAnswer::from(reading::read_sheet(text, sheet))
 }
 
 // Writes a sheet's text; answers the count of bytes.
@@ -203,7 +165,7 @@ pub extern "C" fn wb_write_sheet(sheet: &[u32; TEXT_WORDS], out: &mut [u8]) -> W
     ensures { Settled (faced (write_answer sheet.now (length out.old)))
         (write_into sheet.now out.old) result out.new }
 {
-    face(writing::write_sheet(sheet, out))
+    WbAnswer::from(writing::write_sheet(sheet, out))
 }
 
 // Reads engine rows from a text; answers the count of rows.
@@ -216,5 +178,5 @@ pub extern "C" fn wb_read_engines(text: &[u8], powers: &mut [u32], weights: &mut
         (columns_into (read_engines text.now) powers.old weights.old) result
         (powers.new, weights.new) }
 {
-    face(reading::read_engines(text, powers, weights))
+    WbAnswer::from(reading::read_engines(text, powers, weights))
 }

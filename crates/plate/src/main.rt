@@ -7,7 +7,7 @@ ghost use Rattle.std.specs.Counts.{IsPrefixLen};
 ghost use Rattle.printout.specs.Printed.{printed};
 ghost use Rattle.plate.specs.Input.{bytes_of};
 
-use answers::Answer;
+use answers::Figures;
 use printing::MOST_PRINTED;
 use std::io;
 use std::io::Read;
@@ -61,10 +61,13 @@ fn lay(input: &[u8], out: &mut [u8; MOST_PRINTED]) -> usize
     ensures prefix_len { IsPrefixLen result out.new }
     ensures out_after { take result out.new ≡ printed input.now }
 {
-    let Answer::Count(count) = printing::print_plates(input, out) else {
-        return 0;
-    };
-    count as usize
+    match printing::print_plates(input, out) {
+        Ok(figures) => match figures {
+            Figures::Count(count) => count as usize,
+            _ => 0,
+        },
+        Err(_) => 0,
+    }
 }
 
 // Writes what is printed of an input.

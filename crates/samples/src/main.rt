@@ -3,7 +3,7 @@
 // the file stdout has what 01 says. Of the figures that 01 leaves unsaid, the comments below tell how they follow.
 #![tactic(auto)]
 
-use answers::Answer;
+use answers::Figures;
 use printing::MOST_PRINTED;
 use std::io;
 use std::io::Write;
@@ -14,7 +14,7 @@ const PAGE: usize = 4096;
 // Prints what the plate program prints of an input.
 fn print(rt: &impl Print, input: &[u8]) -> io::Result<()> {
     let mut out = [0u8; MOST_PRINTED];
-    let Answer::Count(count) = printing::print_plates(input, &mut out) else {
+    let Ok(Figures::Count(count)) = printing::print_plates(input, &mut out) else {
         return Ok(());
     };
     let len = out.len().min(count as usize);
