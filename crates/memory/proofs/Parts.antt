@@ -115,15 +115,6 @@ part_sets m at n j (x ∷ xs) h =
 
 -- ---- a write word by word, of the words of a part
 
-pub write_more :
-    (m xs : List ℕ) (at i : ℕ) {v : ℕ}
-    → i < length xs
-    → v ≡ get_or xs i 0
-    → set (sets m at (take i xs)) (at + i) v ≡ sets m at (take (i + 1) xs)
-write_more m xs at i h e =
-    let n : at + i ≡ at + length (take i xs) = omega (arith, length-take-le i xs (omega arith)) in
-    rw (e, n, add-one i, take-suc xs i 0) (sets_snoc m at (take i xs) (get_or xs i 0))
-
 -- a word of zeros, or past their end
 pub zero_word : (n k : ℕ) → ◌≡◌ {A = ℕ} (get_or (replicate n 0) k 0) 0
 zero_word zero k = refl
