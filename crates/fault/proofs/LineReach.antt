@@ -18,8 +18,7 @@ use Rattle.text.specs.declared.Limit.{Limit}
 use Rattle.text.specs.Line.{Line, read_numbers, read_line}
 use Rattle.text.proofs.Field.{field_stop, field_more, agreed_self}
 use Rattle.text.proofs.Limits.{narrow, readable, readable_narrow}
-use Rattle.text.proofs.Line.{line_tagged, line_untagged, extent_shift}
-use Rattle.text.specs.Read.{reached}
+use Rattle.text.proofs.Line.{line_tagged, line_untagged, extent, extent_shift}
 use Rattle.fault.specs.Reached.{FieldStops, in_form, in_limit, last_of, tabbed, NumbersStop}
 use Rattle.fault.specs.Reached.{LineStops, in_tag, in_numbers}
 use Rattle.fault.proofs.Ended.{after_field, after_later}
@@ -51,15 +50,15 @@ field_reach here more last t k j (in_limit q z o) = absurd (omega arith)
 
 numbers_reach : (ls : List Limit) (last : ℕ) (t : List ℕ) (k j : ℕ) → narrow ls ≡ true
     → NumbersStop broken_line ls last t k
-    → reached (read_numbers ls last t).ended ≤ j
+    → extent (read_numbers ls last t).ended ≤ j
     → k < after_field t j
 numbers_reach ls last t k j w p h =
     let x : List ℕ = tabbed p.done p.before in
     let r : LineRead = (read_numbers (p.here ∷ p.later) (last_of last p.before) p.rest).ended in
     let v : narrow (p.done ++ (p.here ∷ p.later)) ≡ true = rw p.limits at w in
-    let e : reached (read_numbers ls last t).ended ≡ length x + reached r =
+    let e : extent (read_numbers ls last t).ended ≡ length x + extent r =
     rw (p.text, p.limits)
-    (ap reached (numbers_read_on p.done p.here p.later last p.before p.rest v p.many p.held)
+    (ap extent (numbers_read_on p.done p.here p.later last p.before p.rest v p.many p.held)
     ∙ extent_shift _ r) in
     let f = field_reach p.here p.later (last_of last p.before) p.rest p.into (j - length x) p.stops in
     rw (p.place, p.text) (after_led x p.rest p.into j (omega (arith, e)) f)
@@ -77,23 +76,23 @@ agreed_taken (suc k) (a ∷ s) (b ∷ t) h e =
     rw (eq-eqb b a q, agreed) (omega (arith, agreed_taken k s t (omega arith) (ap (drop 1) e)))
 
 pub line_reach : (l : Line) (t : List ℕ) (k j : ℕ) → readable l.limits ≡ true → LineStops broken_line l t k
-    → reached (read_line l t).ended ≤ j
+    → extent (read_line l t).ended ≤ j
     → k < after_field t j
 line_reach l t k j w (in_tag q a e) h =
     let n : k ≤ agreed l.tag t = agreed_taken k l.tag t (omega arith) e in
     by_equal (agreed l.tag t) (length l.tag)
     (λ d.
     let r : LineRead = (read_numbers l.limits 0 (drop (length l.tag) t)).ended in
-    let g : reached (read_line l t).ended ≡ length l.tag + reached r =
+    let g : extent (read_line l t).ended ≡ length l.tag + extent r =
     rw (line_tagged l t d) (extent_shift (length l.tag) r) in
     omega (arith, g))
     (λ d.
-    let g : reached (read_line l t).ended ≡ agreed l.tag t = rw (line_untagged l t d) in
+    let g : extent (read_line l t).ended ≡ agreed l.tag t = rw (line_untagged l t d) in
     omega (arith, g))
 line_reach l t k j w (in_numbers rest into q e p) h =
     let r : LineRead = (read_numbers l.limits 0 rest).ended in
     let a = line_tagged l (l.tag ++ rest) (agreed_self l.tag rest) in
-    let g : reached (read_line l t).ended ≡ length l.tag + reached r =
+    let g : extent (read_line l t).ended ≡ length l.tag + extent r =
     rw (q, a, drop-append_seam l.tag rest) (extent_shift (length l.tag) r) in
     let v = readable_narrow l.limits w in
     let n = numbers_reach l.limits 0 rest into (j - length l.tag) v p (omega (arith, g)) in

@@ -11,7 +11,7 @@ use Rattle.ground.proofs.Booleans.{by_less}
 use Rattle.text.specs.Read.{LineRead}
 use Rattle.text.specs.Read.{Taken, Fault}
 use Rattle.text.specs.Line.{Line, read_line}
-use Rattle.text.specs.Read.{reached}
+use Rattle.text.proofs.Line.{extent}
 use Rattle.form.specs.Parts.{Part, Row, Rows, raised, next_after}
 use Rattle.form.specs.Outcome.{Found, took, lost, ahead, chained}
 use Rattle.form.specs.Reading.{kind_at, read_row, read_rows}
@@ -47,11 +47,11 @@ chain_reached (took k a) next t = omega (arith, ahead_reached k a (next a (drop 
 chain_reached (lost number k) next t = omega arith
 
 row_reached : (up : Bool) (next : ℕ) (l : Line) (t : List ℕ)
-    → reached (read_row up next l t) ≡ reached (read_line (raised up next l) t).ended
+    → reached (read_row up next l t) ≡ extent (read_line (raised up next l) t).ended
 row_reached up next l t = go (read_line (raised up next l) t).ended refl
   where
     go : (u : LineRead) → (read_line (raised up next l) t).ended ≡ u
-        → reached (read_row up next l t) ≡ reached (read_line (raised up next l) t).ended
+        → reached (read_row up next l t) ≡ extent (read_line (raised up next l) t).ended
     go (Taken i) e = rw e
     go (Fault number i) e = rw e
 

@@ -3,12 +3,11 @@ use mathlib.Core.Path.{◌≡◌, refl, sym, ap, ◌∙◌}
 use mathlib.Core.List.{List, [], ◌∷◌, ◌++◌, append_assoc}
 use Prim.Native.Nat.{ℕ, zero, suc, ◌+◌, ◌≤◌, ◌<◌}
 use native.Mathlib.Nat.{add-zero}
-use native.Mathlib.Numerals.{add-one}
 use native.Mathlib.Omega.{arith}
 use lib.ListN.{length, get_or, set, take, drop, replicate, length-drop, get_or-append}
-use lib.Seq.{sets, sets-eq, length-sets, length-take-le, take-suc, take_at, drop_at, take-set-lt, drop-set-add}
+use lib.Seq.{sets, sets-eq, length-sets, length-take-le, take_at, drop_at, take-set-lt, drop-set-add}
 use lib.Seq.{drop-cons, get_or-take, get_or-drop, get_or-set_same, get_or-set_other, set_comm, ext_get_or}
-use Rattle.ground.proofs.Stores.{sets_append, sets_snoc}
+use Rattle.ground.proofs.Stores.{sets_append}
 use Rattle.memory.specs.Layout.{part}
 
 -- k is none of the n words from at on

@@ -14,8 +14,7 @@ use Rattle.text.specs.Line.{Line, Reads, read_line}
 use Rattle.ground.proofs.Booleans.{both_hold, false_true}
 use Rattle.text.proofs.Limits.{full, hold_length}
 use Rattle.text.proofs.Bounds.{ranging_between}
-use Rattle.text.proofs.Line.{line_extent}
-use Rattle.text.specs.Read.{reached}
+use Rattle.text.proofs.Line.{extent, line_extent}
 use Rattle.text.proofs.LineTrip.{line_back}
 use Rattle.form.specs.Parts.{Rows, one_line, numbers_of}
 use Rattle.form.specs.Outcome.{Found, took, lost, outcome, mapped}
@@ -78,7 +77,7 @@ module _ (l : Line) (t : List ℕ) {o₀ o : List ℕ} where
   pub row_fault : {number at : ℕ} → Reads (read_line l t) o₀ (Fault number at) o → RowOf l t (NoRow number at)
   row_fault p =
       let e = sym p.answer in
-      record { found = rw e; within = omega (arith, ap reached e, line_extent l t) }
+      record { found = rw e; within = omega (arith, ap extent e, line_extent l t) }
 
   pub row_read : {k : ℕ} → o₀ ≡ 0 ∷ 0 ∷ 1 ∷ [] → Reads (read_line l t) o₀ (Taken k) o
       → RowOf l t (Numbers (get_or o 0 0) (get_or o 1 0) (get_or o 2 0) k)
@@ -86,7 +85,7 @@ module _ (l : Line) (t : List ℕ) {o₀ o : List ℕ} where
       let e = sym p.answer in
       record {
         found = rw (e, p.stored, z) (three (read_line l t).numbers k);
-        within = omega (arith, ap reached e, line_extent l t);
+        within = omega (arith, ap extent e, line_extent l t);
       }
 
 -- ---- by what the code has of it

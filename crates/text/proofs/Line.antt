@@ -10,7 +10,7 @@ use lib.ListN.{length, take, drop, length-drop}
 use Rattle.answers.specs.Refusals.{broken_line}
 use Rattle.ground.proofs.Booleans.{both_hold, by_test, by_equal}
 use Rattle.ground.proofs.Stores.{rest_part}
-use Rattle.text.specs.Read.{LineRead, reached}
+use Rattle.text.specs.Read.{LineRead}
 use Rattle.text.specs.Read.{Taken, Fault}
 use Rattle.text.specs.Quoted.{feed}
 use Rattle.text.specs.declared.Limit.{Limit}
@@ -53,11 +53,15 @@ module _ (l : Line) (t : List ℕ) where
 
 -- ---- how far a reading reaches into its text
 
-pub extent_shift : (k : ℕ) (r : LineRead) → reached (shift_by k r) ≡ k + reached r
+abbrev pub extent : LineRead → ℕ
+extent (Taken n) = n
+extent (Fault number at) = at
+
+pub extent_shift : (k : ℕ) (r : LineRead) → extent (shift_by k r) ≡ k + extent r
 extent_shift k (Taken n) = refl
 extent_shift k (Fault number at) = refl
 
-numbers_extent : (ls : List Limit) (last : ℕ) (t : List ℕ) → reached (read_numbers ls last t).ended ≤ length t
+numbers_extent : (ls : List Limit) (last : ℕ) (t : List ℕ) → extent (read_numbers ls last t).ended ≤ length t
 unfolding read_numbers
 numbers_extent [] last t = omega arith
 numbers_extent (l ∷ ls) last t =
@@ -76,7 +80,7 @@ numbers_extent (l ∷ ls) last t =
     rw (q, v) (omega (arith, ap reach v, numbers_extent ls n (drop k t), length-drop k t)))
     (λ number at v. rw (q, v) (omega (arith, ap reach v))))
 
-pub line_extent : (l : Line) (t : List ℕ) → reached (read_line l t).ended ≤ length t
+pub line_extent : (l : Line) (t : List ℕ) → extent (read_line l t).ended ≤ length t
 line_extent l t =
     let n : ℕ = length l.tag in
     by_equal (agreed l.tag t) n
@@ -116,7 +120,7 @@ module _ {tag : List ℕ} {table : List Limit} {t : List ℕ} (g : Tagged tag ta
         let e = line_tagged (line_of tag table) t g.whole in
         record { answer = rw (e, lent.answer); stored = lent.stored ∙ rw e }
 
-    pub tagged_in : length tag + reached r ≤ length t
+    pub tagged_in : length tag + extent r ≤ length t
     tagged_in =
-        let e = ap reached lent.answer in
+        let e = ap extent lent.answer in
         omega (arith, numbers_extent table 0 (drop (length tag) t), length-drop (length tag) t, tag_fits)
