@@ -3,12 +3,11 @@ use mathlib.Core.Path.{◌≡◌, refl, sym, ap, ◌∙◌}
 use mathlib.Core.List.{List, [], ◌∷◌, ◌++◌, append_assoc}
 use Prim.Native.Nat.{ℕ, zero, suc, ◌+◌, ◌≤◌, ◌<◌}
 use native.Mathlib.Nat.{add-zero}
-use native.Mathlib.Numerals.{add-one}
 use native.Mathlib.Omega.{arith}
 use lib.ListN.{length, get_or, set, take, drop, replicate, length-drop, get_or-append}
-use lib.Seq.{sets, sets-eq, length-sets, length-take-le, take-suc, take_at, drop_at, take-set-lt, drop-set-add}
+use lib.Seq.{sets, sets-eq, length-sets, length-take-le, take_at, drop_at, take-set-lt, drop-set-add}
 use lib.Seq.{drop-cons, get_or-take, get_or-drop, get_or-set_same, get_or-set_other, set_comm, ext_get_or}
-use Rattle.ground.proofs.Stores.{sets_append, sets_snoc}
+use Rattle.ground.proofs.Stores.{sets_append}
 use Rattle.memory.specs.Layout.{part}
 
 -- k is none of the n words from at on
@@ -114,15 +113,6 @@ part_sets m at n j (x ∷ xs) h =
     rw (e, part_sets (set m (at + j) x) at n (suc j) xs (omega arith), part_set m at n j x (omega arith))
 
 -- ---- a write word by word, of the words of a part
-
-pub write_more :
-    (m xs : List ℕ) (at i : ℕ) {v : ℕ}
-    → i < length xs
-    → v ≡ get_or xs i 0
-    → set (sets m at (take i xs)) (at + i) v ≡ sets m at (take (i + 1) xs)
-write_more m xs at i h e =
-    let n : at + i ≡ at + length (take i xs) = omega (arith, length-take-le i xs (omega arith)) in
-    rw (e, n, add-one i, take-suc xs i 0) (sets_snoc m at (take i xs) (get_or xs i 0))
 
 -- a word of zeros, or past their end
 pub zero_word : (n k : ℕ) → ◌≡◌ {A = ℕ} (get_or (replicate n 0) k 0) 0

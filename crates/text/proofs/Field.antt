@@ -1,16 +1,12 @@
 -- Laws of fields and of how a text begins.
-use mathlib.Core.Path.{◌≡◌, refl, sym, ap, ◌∙◌}
-use mathlib.Core.Logic.{◌≢◌}
+use mathlib.Core.Path.{◌≡◌, refl, ap, ◌∙◌}
 use mathlib.Core.Bool.{true, false, ◌||◌}
-use mathlib.Core.List.{List, [], ◌∷◌, ◌++◌, append-nil, append_assoc}
-use Prim.Native.Nat.{ℕ, suc, ◌+◌, ◌≤◌, ◌<◌, min}
-use native.Mathlib.Nat.{add-zero}
-use native.Mathlib.Numerals.{add-one}
+use mathlib.Core.List.{List, [], ◌∷◌, ◌++◌}
+use Prim.Native.Nat.{ℕ, suc, ◌≤◌, ◌<◌, min}
 use native.Mathlib.Omega.{arith}
 use borrow.Author.Tests.{eq-eqb, ne_eqb, eqb-true}
 use lib.Dec.{eqb}
-use lib.ListN.{length, take, drop, get_or, length-append, length-drop, drop_of_length-le}
-use lib.Seq.{drop-cons, take-suc, take_all}
+use lib.ListN.{length, take, drop, get_or, length-append}
 use Rattle.ground.proofs.Booleans.{false_true, by_test, by_equal}
 use Rattle.text.specs.Quoted.{tab, feed}
 use Rattle.text.specs.Field.{field_of, begins, agreed}
@@ -34,7 +30,7 @@ pub begins_cons : (b : ℕ) (t : List ℕ) → begins b t ≡ true → t ≡ b �
 begins_cons b [] e = false_true e
 begins_cons b (c ∷ t) e = ap (λ (x : ℕ). x ∷ t) (eqb-true c b e)
 
--- ---- the field, walked byte by byte
+-- ---- the field, a byte more in front
 
 pub field_stop : (b : ℕ) (t : List ℕ) → (eqb b tab || eqb b feed) ≡ true → field_of (b ∷ t) ≡ []
 unfolding field_of
@@ -43,26 +39,6 @@ field_stop b t e = rw (e, field_of)
 pub field_more : (b : ℕ) (t : List ℕ) → (eqb b tab || eqb b feed) ≡ false → field_of (b ∷ t) ≡ b ∷ field_of t
 unfolding field_of
 field_more b t e = rw (e, field_of)
-
--- the first i bytes are all of the field, which goes on with the field of the rest
-pub record Walked (t : List ℕ) (i : ℕ) : Type 0 where
-  pub so_far : field_of t ≡ take i t ++ field_of (drop i t)
-
-pub walked_none : (t : List ℕ) → Walked t 0
-walked_none t = record { so_far = refl }
-
-module _ {t : List ℕ} {i : ℕ} (g : Walked t i) where
-  pub walked_stop : i < length t → (eqb (get_or t i 0) tab || eqb (get_or t i 0) feed) ≡ true → take i t ≡ field_of t
-  walked_stop h e = sym (g.so_far ∙ rw (drop-cons t i 0, field_stop (get_or t i 0) (drop (suc i) t) e, append-nil))
-
-  pub walked_more : i < length t → (eqb (get_or t i 0) tab || eqb (get_or t i 0) feed) ≡ false → Walked t (i + 1)
-  walked_more h e =
-      let m = field_more (get_or t i 0) (drop (suc i) t) e in
-      record { so_far = g.so_far ∙ rw (add-one, drop-cons t i 0, take-suc t i 0, append_assoc, m) }
-
-  pub walked_end : length t ≤ i → t ≡ field_of t
-  unfolding field_of
-  walked_end h = sym (g.so_far ∙ rw (take_all i t, drop_of_length-le t {i = i} h, append-nil))
 
 -- ---- the field and what stands after it
 
@@ -117,29 +93,3 @@ agreed_most s t = omega (arith, agreed_least s t)
 
 pub agreed_fits : (s t : List ℕ) → agreed s t ≤ length t
 agreed_fits s t = omega (arith, agreed_least s t)
-
--- the first i bytes agree
-pub record Agreeing (s t : List ℕ) (i : ℕ) : Type 0 where
-  pub so_far : agreed s t ≡ i + agreed (drop i s) (drop i t)
-
-pub agreeing_none : (s t : List ℕ) → Agreeing s t 0
-agreeing_none s t = record { so_far = omega arith }
-
-module _ {s t : List ℕ} {i : ℕ} (g : Agreeing s t i) where
-  pub agreed_past : length t ≤ i → agreed s t ≡ i
-  agreed_past h = omega (arith, g.so_far, agreed_least (drop i s) (drop i t), length-drop i t)
-
-  pub agreed_done : length s ≤ i → agreed s t ≡ i
-  agreed_done h = omega (arith, g.so_far, agreed_least (drop i s) (drop i t), length-drop i s)
-
-  pub agreed_differs : i < length s → i < length t → get_or t i 0 ≢ get_or s i 0 → agreed s t ≡ i
-  unfolding agreed
-  agreed_differs h l n =
-      g.so_far ∙ rw (drop-cons s i 0, drop-cons t i 0, ne_eqb (get_or t i 0) (get_or s i 0) n, agreed) (add-zero i)
-
-  pub agreed_more : i < length s → i < length t → get_or t i 0 ≡ get_or s i 0 → Agreeing s t (i + 1)
-  unfolding agreed
-  agreed_more h l e =
-      let m : agreed (drop i s) (drop i t) ≡ suc (agreed (drop (i + 1) s) (drop (i + 1) t)) =
-      rw (add-one i, drop-cons s i 0, drop-cons t i 0, eq-eqb (get_or t i 0) (get_or s i 0) e, agreed) in
-      record { so_far = omega (arith, g.so_far) }

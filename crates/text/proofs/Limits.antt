@@ -10,7 +10,6 @@ use lib.Dec.{eqb, leb, ltb, leb-zero}
 use lib.ListN.{length, drop, get_or, drop_of_length-le}
 use lib.Seq.{drop-cons}
 use Rattle.ground.proofs.Booleans.{both_hold, false_true, not_false, by_test}
-use Rattle.ground.proofs.Stores.{drop_more}
 use Rattle.text.specs.Number.{eleven_digits}
 use Rattle.text.specs.declared.Limit.{Limit}
 use Rattle.text.specs.declared.Rule.{Rule}
@@ -129,21 +128,3 @@ hold_length (l ∷ ls) last [] f h =
 hold_length (l ∷ ls) last (n ∷ ns) f h =
     let fs = both_hold (not (counts l.rule)) (full ls) f in
     ap suc (hold_length ls n ns fs.1 (both_hold (holds l last n) (all_hold ls n ns) h).1)
-
--- whether those from place k on may stand after last
-abbrev pub held_from : List Limit → List ℕ → ℕ → ℕ → Bool
-held_from t ns last k = all_hold (drop k t) last (drop k ns)
-
-pub hold_step : (t : List Limit) (ns : List ℕ) (last k : ℕ)
-    → k < length t
-    → k < length ns
-    → held_from t ns last k ≡ (holds (limit_at t k) last (get_or ns k 0) && held_from t ns (get_or ns k 0) (k + 1))
-unfolding all_hold
-hold_step t ns last k h l = rw (limits_more t k h, drop_more ns k l)
-
-pub hold_done : (t : List Limit) (ns : List ℕ) (last k : ℕ)
-    → length t ≤ k
-    → length ns ≤ k
-    → held_from t ns last k ≡ true
-unfolding all_hold
-hold_done t ns last k h l = rw (limits_end t k h, drop_of_length-le ns {i = k} l)
