@@ -32,7 +32,7 @@ fn hull_at(mem: &[u32], hull: u32) -> Result<Hull<'_>, Refusal>
     if hull >= mem[COUNT] {
         return Err(Refusal::NoHull);
     }
-    Ok(Hull::of(mem, hull))
+    Ok(Hull::of(mem, hull as usize))
 }
 
 // The desk whose draft a call is on; or what refuses the call: the memory first, then the desk, then that it holds no
@@ -45,10 +45,11 @@ fn draft_at(mem: &[u32], desk: u32) -> Result<Desk<'_>, Refusal>
     if !judging::is_formed(mem) {
         return Err(Refusal::BadMemory);
     }
-    if desk >= DESKS as u32 {
+    let number = desk as usize;
+    if number >= DESKS {
         return Err(Refusal::NoDesk);
     }
-    let desk = Desk::of(mem, desk);
+    let desk = Desk::of(mem, number);
     if desk.held() == 0 {
         return Err(Refusal::NoDraft);
     }
@@ -63,7 +64,7 @@ fn check_room(mem: &[u32]) -> Result<(), Refusal>
     if !judging::is_formed(mem) {
         return Err(Refusal::BadMemory);
     }
-    if mem[COUNT] >= MOST_HULLS as u32 {
+    if mem[COUNT] as usize >= MOST_HULLS {
         return Err(Refusal::Full);
     }
     Ok(())
@@ -77,7 +78,7 @@ fn check_open(mem: &[u32], desk: u32, hull: u32) -> Result<(), Refusal>
     if !judging::is_formed(mem) {
         return Err(Refusal::BadMemory);
     }
-    if desk >= DESKS as u32 {
+    if desk as usize >= DESKS {
         return Err(Refusal::NoDesk);
     }
     if hull >= mem[COUNT] {
@@ -158,7 +159,7 @@ pub fn open_hull(mem: &mut [u32], desk: u32, hull: u32) -> Answer
     ensures { Changes (step mem.old (open_hull desk hull)) (in_numbers result) mem.new }
 {
     check_open(mem, desk, hull)?;
-    Ok(Figures::Count(keeping::open_draft(mem, desk, hull)))
+    Ok(Figures::Count(keeping::open_draft(mem, desk as usize, hull)))
 }
 
 // What refuses a fitting line that is to be set: a line, a weight or a count outside the limits, 0 and 0 being within
@@ -170,7 +171,7 @@ fn check_line(draft: &Desk, line: u32, weight: u32, count: u32) -> Result<(), Re
     if line < 1 || line > FITTING_LINES || !measuring::fit_ok(weight, count) {
         return Err(Refusal::OutsideLimits);
     }
-    if weight == 0 && draft.fitting(line) == 0 {
+    if weight == 0 && draft.fitting(line as usize) == 0 {
         return Err(Refusal::EmptyLine);
     }
     Ok(())
@@ -183,7 +184,7 @@ pub fn set_fitting(mem: &mut [u32], desk: u32, line: u32, weight: u32, count: u3
 {
     let draft = draft_at(mem, desk)?;
     check_line(&draft, line, weight, count)?;
-    keeping::set_fitting(mem, desk, line, weight, count);
+    keeping::set_fitting(mem, desk as usize, line as usize, weight, count);
     Ok(Figures::Done)
 }
 
@@ -196,7 +197,7 @@ pub fn replace(mem: &mut [u32], desk: u32, text: &[u8]) -> Answer
     reading::read_words(text, &mut words)?;
     let sheet = &words[IN_TEXT..];
     let weight = measuring::weigh(sheet).unwrap();
-    keeping::replace_sheet(mem, desk, weight, sheet);
+    keeping::replace_sheet(mem, desk as usize, weight, sheet);
     Ok(Figures::Done)
 }
 
@@ -238,7 +239,7 @@ pub fn save(mem: &mut [u32], desk: u32) -> Answer
 {
     let draft = draft_at(mem, desk)?;
     check_save(&draft)?;
-    Ok(Figures::Count(keeping::save_draft(mem, desk)))
+    Ok(Figures::Count(keeping::save_draft(mem, desk as usize)))
 }
 
 // Ends a desk's draft.
@@ -247,6 +248,6 @@ pub fn drop_draft(mem: &mut [u32], desk: u32) -> Answer
     ensures { Changes (step mem.old (drop_draft desk)) (in_numbers result) mem.new }
 {
     draft_at(mem, desk)?;
-    keeping::drop_draft(mem, desk);
+    keeping::drop_draft(mem, desk as usize);
     Ok(Figures::Done)
 }

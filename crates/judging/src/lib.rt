@@ -28,7 +28,7 @@ fn hull_ok(hull: &Hull) -> bool
 
 // The same of the first hulls, so many of them.
 #[tactic(auto, using(memory::proofs::Each::each_none, memory::proofs::Each::each_more))]
-fn hulls_ok(mem: &Memory, hulls: u32) -> bool
+fn hulls_ok(mem: &Memory, hulls: usize) -> bool
     requires { hulls ≤ most_hulls }
     ensures { result ≡ each hulls (hull_ok mem.now) }
 {
@@ -66,7 +66,7 @@ fn drafts_ok(mem: &Memory) -> bool
     requires { hull_count mem.now ≤ most_hulls }
     ensures { result ≡ each desks (draft_ok mem.now) }
 {
-    for number in 0..DESKS as u32 {
+    for number in 0..DESKS {
         if !draft_ok(&Desk { mem, number }) {
             return false;
         }
@@ -83,7 +83,7 @@ pub fn is_formed(mem: &[u32]) -> bool
         return false;
     };
     let hulls = keeping::hull_count(mem);
-    if hulls > MOST_HULLS as u32 {
+    if hulls > MOST_HULLS {
         return false;
     }
     // The drafts first, so that the loop over the hulls keeps nothing for them over its calls (DECISIONS).

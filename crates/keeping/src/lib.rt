@@ -34,10 +34,10 @@ fn whole(mem: &[u32]) -> &Memory
 // ---- the words of each slot
 
 // How many hulls are entered.
-pub fn hull_count(mem: &Memory) -> u32
+pub fn hull_count(mem: &Memory) -> usize
     ensures { result ≡ hull_count mem.now }
 {
-    mem[COUNT]
+    mem[COUNT] as usize
 }
 
 // The sheet that starts at a place, still the caller's own words.
@@ -69,13 +69,13 @@ pub trait Slot {
 #[derive(Clone, Copy)]
 pub struct Hull<'a> {
     pub mem: &'a Memory,
-    pub number: u32,
+    pub number: usize,
     pub ghost there: { number < most_hulls },
 }
 
 impl<'a> Hull<'a> {
     // That of a memory of the right size.
-    pub fn of(mem: &'a [u32], number: u32) -> Self
+    pub fn of(mem: &'a [u32], number: usize) -> Self
         requires { AtHull mem.now number }
         ensures { (result.mem.now ≡ mem.now) × (result.number ≡ number) }
     {
@@ -89,7 +89,7 @@ impl<'a> Hull<'a> {
     fn offset(&self) -> usize
         ensures { result ≡ hull_words * self.now.number }
     {
-        HULL_WORDS * self.number as usize
+        HULL_WORDS * self.number
     }
 
     // Its edit number.
@@ -118,13 +118,13 @@ impl Slot for Hull<'_> {
 #[derive(Clone, Copy)]
 pub struct Desk<'a> {
     pub mem: &'a Memory,
-    pub number: u32,
+    pub number: usize,
     pub ghost there: { number < desks },
 }
 
 impl<'a> Desk<'a> {
     // That of a memory of the right size.
-    pub fn of(mem: &'a [u32], number: u32) -> Self
+    pub fn of(mem: &'a [u32], number: usize) -> Self
         requires { AtDesk mem.now number }
         ensures { (result.mem.now ≡ mem.now) × (result.number ≡ number) }
     {
@@ -138,7 +138,7 @@ impl<'a> Desk<'a> {
     fn offset(&self) -> usize
         ensures { result ≡ draft_words * self.now.number }
     {
-        DRAFT_WORDS * self.number as usize
+        DRAFT_WORDS * self.number
     }
 
     // Its mark: 1 if it holds a draft, and 0 if not.
@@ -149,10 +149,10 @@ impl<'a> Desk<'a> {
     }
 
     // The number of its draft's hull.
-    pub fn hull(&self) -> u32
+    pub fn hull(&self) -> usize
         ensures { result ≡ draft_hull self.now.mem.now self.now.number }
     {
-        self.mem[DRAFT_HULL + self.offset()]
+        self.mem[DRAFT_HULL + self.offset()] as usize
     }
 
     // The edit number that the hull had at the open.
@@ -163,7 +163,7 @@ impl<'a> Desk<'a> {
     }
 
     // The weight of one piece on a fitting line of its draft, 0 for an empty line.
-    pub fn fitting(&self, line: u32) -> u32
+    pub fn fitting(&self, line: usize) -> u32
         requires { (1 ≤ line) × (line ≤ fittings) }
         ensures { result ≡ fitting self.now.mem.now self.now.number line }
     {
@@ -186,11 +186,11 @@ impl Slot for Desk<'_> {
 }
 
 // Where the weight of a fitting line stands in a sheet; its count comes after it.
-fn fitting_word(line: u32) -> usize
+fn fitting_word(line: usize) -> usize
     requires { (1 ≤ line) × (line ≤ fittings) }
     ensures { result ≡ fitting_word line }
 {
-    FITTED + 2 * (line as usize - 1)
+    FITTED + 2 * (line - 1)
 }
 
 // ---- the changes
@@ -230,13 +230,13 @@ pub fn enter_hull(mem: &mut [u32], weight: u32, sheet: &[u32]) -> u32
 
 // Opens a hull at a desk, whose draft is then the hull's sheet and weight, and answers the hull's edit number.
 #[tactic(auto, using(crate::proofs::Writes::opened_as))]
-pub fn open_draft(mem: &mut [u32], desk: u32, hull: u32) -> u32
+pub fn open_draft(mem: &mut [u32], desk: usize, hull: u32) -> u32
     requires { ToOpen mem.old desk hull }
     ensures value { result ≡ edit mem.old hull }
     ensures mem_after { mem.new ≡ opened mem.old desk hull }
 {
     let from = HULL_WORDS * hull as usize;
-    let to = DRAFT_WORDS * desk as usize;
+    let to = DRAFT_WORDS * desk;
     let edits = mem[EDIT + from];
     copy_weighed(mem, HULL_WEIGHT + from, DRAFT_WEIGHT + to);
     mem[HELD + to] = 1;
@@ -248,11 +248,11 @@ pub fn open_draft(mem: &mut [u32], desk: u32, hull: u32) -> u32
 // Sets the weight of one piece on a fitting line of a desk's draft, and how many there are; both 0 for an empty line.
 // The boat's weight moves by the difference.
 #[tactic(auto, using(memory::proofs::Fittings::line_weighs), unfolding(memory::specs::Updates::fitted))]
-pub fn set_fitting(mem: &mut [u32], desk: u32, line: u32, weight: u32, count: u32)
+pub fn set_fitting(mem: &mut [u32], desk: usize, line: usize, weight: u32, count: u32)
     requires { ToSet mem.old desk line weight count }
     ensures { mem.new ≡ fitted mem.old desk line weight count }
 {
-    let slot = DRAFT_WORDS * desk as usize;
+    let slot = DRAFT_WORDS * desk;
     let at = DRAFT_SHEET + slot + fitting_word(line);
     let boat = mem[DRAFT_WEIGHT + slot] + weight * count - mem[at] * mem[at + 1];
     mem[at] = weight;
@@ -262,35 +262,30 @@ pub fn set_fitting(mem: &mut [u32], desk: u32, line: u32, weight: u32, count: u3
 
 // Makes a desk's draft another sheet, of a boat that weighs so much.
 #[tactic(auto, using(crate::proofs::Writes::replaced_as))]
-pub fn replace_sheet(mem: &mut [u32], desk: u32, weight: u32, sheet: &[u32])
+pub fn replace_sheet(mem: &mut [u32], desk: usize, weight: u32, sheet: &[u32])
     requires { ToReplace mem.old desk weight sheet.now }
     ensures { mem.new ≡ replaced mem.old desk sheet.now }
 {
-    lay_weighed(
-        mem,
-        DRAFT_WEIGHT + DRAFT_WORDS * desk as usize,
-        weight,
-        sheet,
-    );
+    lay_weighed(mem, DRAFT_WEIGHT + DRAFT_WORDS * desk, weight, sheet);
 }
 
 // Ends a desk's draft.
 #[tactic(auto, unfolding(memory::specs::Updates::dropped))]
-pub fn drop_draft(mem: &mut [u32], desk: u32)
+pub fn drop_draft(mem: &mut [u32], desk: usize)
     requires { AtDesk mem.old desk }
     ensures { mem.new ≡ dropped mem.old desk }
 {
-    mem[HELD + DRAFT_WORDS * desk as usize] = 0;
+    mem[HELD + DRAFT_WORDS * desk] = 0;
 }
 
 // Saves a desk's draft as its hull's sheet and weight and ends it; answers the hull's edit number, which is one more.
 #[tactic(auto, using(crate::proofs::Writes::saved_as))]
-pub fn save_draft(mem: &mut [u32], desk: u32) -> u32
+pub fn save_draft(mem: &mut [u32], desk: usize) -> u32
     requires { ToSave mem.old desk }
     ensures value { result ≡ edit mem.old (draft_hull mem.old desk) + 1 }
     ensures mem_after { mem.new ≡ saved mem.old desk }
 {
-    let from = DRAFT_WORDS * desk as usize;
+    let from = DRAFT_WORDS * desk;
     let to = HULL_WORDS * mem[DRAFT_HULL + from] as usize;
     let edits = mem[EDIT + to] + 1;
     copy_weighed(mem, DRAFT_WEIGHT + from, HULL_WEIGHT + to);

@@ -6,8 +6,26 @@ ghost use Rattle.text.specs.Place.{line_at, byte_at};
 use answers::TextFault;
 use text::Fault;
 
-// A fault of a text, told by its line and byte. It is asked for only where something is refused: what is accepted pays
-// nothing for it.
+// Line and byte of a place of a text. They are asked for only where something is refused: what is accepted pays
+// nothing for them.
+pub fn line_and_byte(text: &[u8], at: usize) -> (u32, u32)
+    requires { (at ≤ length text.now) × (at < 2 ^ 31) }
+    ensures { (result.0 ≡ line_at text.now at) × (result.1 ≡ byte_at text.now at) }
+{
+    let mut line = 1;
+    let mut byte = 1;
+    for b in &text[..at] {
+        if *b == b'\n' {
+            line += 1;
+            byte = 1;
+        } else {
+            byte += 1;
+        }
+    }
+    (line, byte)
+}
+
+// A fault of a text, told by its line and byte.
 pub fn wrong_at(fault: Fault, text: &[u8]) -> TextFault
     requires { (fault.at ≤ length text.now) × (fault.at < 2 ^ 31) }
     ensures { result ≡ record {
@@ -16,16 +34,7 @@ pub fn wrong_at(fault: Fault, text: &[u8]) -> TextFault
       byte = byte_at text.now fault.at;
     } }
 {
-    let mut line = 1;
-    let mut byte = 1;
-    for b in &text[..fault.at] {
-        if *b == b'\n' {
-            line += 1;
-            byte = 1;
-        } else {
-            byte += 1;
-        }
-    }
+    let (line, byte) = line_and_byte(text, fault.at);
     TextFault {
         refusal: fault.refusal,
         line,
