@@ -95,25 +95,27 @@ pub fn fit_ok(weight: u32, count: u32) -> bool
 {
     match count {
         0 => weight == 0,
-        1..=FITTING_COUNT => weight != 0 && weight as u64 * count as u64 <= FITTING_HIGH as u64,
+        1..=FITTING_COUNT => weight != 0
+            && u64::from(weight) * u64::from(count) <= u64::from(FITTING_HIGH),
         _ => false,
     }
 }
 
 // What a bare boat weighs with its fittings, which are judged on the way; none where a line is outside the limits.
+#[tactic(auto, using(capacity::proofs::Weights::fit_most_lem))]
 fn with_fittings(bare: u32, fits: &[u32]) -> Option<u32>
     requires { (bare ≤ high_at bare_at) × (length fits.now ≡ 2 * fittings) }
     ensures { result ≡ cond (fits_ok fittings fits.now) (Some (bare + added_up fits.now)) None }
 {
-    let mut total = bare as u64;
+    let mut total = bare;
     let (lines, _) = fits.as_chunks::<2>();
     for &[weight, count] in lines {
         if !fit_ok(weight, count) {
             return None;
         }
-        total += weight as u64 * count as u64;
+        total += weight * count;
     }
-    Some(total as u32)
+    Some(total)
 }
 
 // M, what the boat weighs by the words of a sheet, without its HULL number; none where they are outside the limits.
