@@ -1,5 +1,5 @@
 -- A part of a sheet's words, without its HULL number: those from one place up to another, before the fittings.
-use Rattle.std.specs.Prelude.{ℕ, ◌-◌, ◌≤◌, ◌<◌, ◌≡◌, Bool, true, List, [], length, get_or, take, drop, replicate}
+use Rattle.std.specs.Prelude.{ℕ, ◌-◌, ◌≤◌, ◌<◌, ◌≡◌, Bool, true, List, length, get_or, take, drop, replicate}
 use Rattle.text.specs.declared.Limit.{Limit}
 use Rattle.text.specs.Limit.{ranging, all_hold, from_zero}
 use Rattle.sheet.specs.Sheet.{limit_rows}

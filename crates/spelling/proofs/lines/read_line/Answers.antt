@@ -1,6 +1,6 @@
 -- `read_line` meets its contract.
-use mathlib.Core.Path.{◌≡◌, sym, ap, ◌∙◌}
-use Rattle.text.proofs.Line.{Tagged, extent, reads_untagged, tag_fits, reads_tagged, tagged_in}
+use mathlib.Core.Path.{sym, ◌∙◌}
+use Rattle.text.proofs.Line.{Tagged, reads_untagged, tag_fits, reads_tagged, tagged_in}
 use native.Mathlib.Omega.{arith}
 use Rattle.spelling.proofs.lines.read_line.Goals as goal
 use Rattle.spelling.proofs.lines.read_line.Goals.{Else-same-tag}
