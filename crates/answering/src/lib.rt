@@ -20,6 +20,9 @@ use sheet::{FITTING_LINES, IN_TEXT, TEXT_WORDS};
 
 // ---- what calls are on, or what refuses them
 
+// Kept (1): every call below takes the memory and the number that C gives; these two make of them what the rest takes.
+// They are two since what refuses a hull's number and a desk's differs, in 01's table of refusals.
+
 // The hull that a call is on; or what refuses the call: the memory first, then the hull.
 #[tactic(auto, using(crate::proofs::Sheets::sized), unfolding(register::specs::Refusals::hull_refusal))]
 fn hull_at(mem: &[u32], hull: u32) -> Result<Hull<'_>, Refusal>
@@ -105,6 +108,7 @@ pub fn new_hull(mem: &mut [u32], text: &[u8]) -> Answer
     ensures { Changes (step mem.old (new_hull text.now)) (in_numbers result) mem.new }
 {
     check_room(mem)?;
+    // Kept (1): no heap; it is filled whole.
     let mut words = [0u32; TEXT_WORDS];
     reading::read_words(text, &mut words)?;
     let sheet = &words[IN_TEXT..];
@@ -193,6 +197,7 @@ pub fn replace(mem: &mut [u32], desk: u32, text: &[u8]) -> Answer
     ensures { Changes (step mem.old (work desk (replace text.now))) (in_numbers result) mem.new }
 {
     draft_at(mem, desk)?;
+    // Kept (1): no heap; it is filled whole.
     let mut words = [0u32; TEXT_WORDS];
     reading::read_words(text, &mut words)?;
     let sheet = &words[IN_TEXT..];

@@ -8,6 +8,8 @@ use sheet::{DECLARED, ENGINE_POWER_HIGH, ENGINE_WEIGHT_HIGH, MOST_ROWS, OUTBOARD
 // The fewest engine rows that there may be.
 const LEAST_ROWS: usize = 1;
 
+// Kept (1): powers and weights stay two slices, since C lends them so (wb_plate_c), and nothing is copied.
+
 // Whether a row's values are within limits, its power not below `next`.
 fn row_fits(next: u32, power: u32, weight: u32) -> bool
     ensures { result ≡ row_fits next power weight }
@@ -55,6 +57,7 @@ impl Boat<'_> {
     }
 
     // The engine's weight in grams, 0 where there is none to weigh; none where no row reaches its power.
+    // Kept (1): 0 is the rule's weight there (engine_weight), and is reckoned with.
     pub(crate) fn engine(self, powers: &[u32], weights: &[u32]) -> Option<u32>
         requires { rows_right powers.now weights.now ≡ true }
         ensures { result

@@ -194,6 +194,9 @@ fn fitting_word(line: usize) -> usize
 }
 
 // ---- the changes
+// Kept (4): they take the memory, not a Hull or Desk lent to write to: a contract of a change says every word of the
+// memory (Updates), and a view would have to hand back those outside its slot. Weight and sheet are laid side by side;
+// the pair is figuring's Boat, a layer above.
 
 // Copies a sheet, with the weight before it, from one place to another that it does not overlap.
 #[tactic(auto, using(crate::proofs::Writes::copied_as))]

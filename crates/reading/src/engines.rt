@@ -15,6 +15,8 @@ use answers::{Answer, Figures, Refusal, Refused, TextFault};
 use sheet::{ENGINE_POWER_HIGH, ENGINE_WEIGHT_HIGH, MOST_ROWS, MOST_TEXT};
 use text::{Fault, Limit, Rule};
 
+// Kept (1): powers and weights stay two slices: C lends them so (wb_read_engines), and plate C takes them so.
+
 // Reads engine rows, the powers and the weights of them apart.
 fn read_rows(text: &[u8], powers: &mut [u32], weights: &mut [u32]) -> Result<usize, Fault>
     requires { (length powers.old ≡ most_rows) × (length weights.old ≡ most_rows) }
@@ -81,6 +83,7 @@ pub fn read_engines(text: &[u8], powers: &mut [u32], weights: &mut [u32]) -> Ans
         (columns_into (read_engines text.now) powers.old weights.old) (in_numbers result)
         (powers.new, weights.new) }
 {
+    // Kept (1): no heap; as long as the rows may be.
     let mut read_powers = [0u32; MOST_ROWS];
     let mut read_weights = [0u32; MOST_ROWS];
     let rows = read_columns(text, &mut read_powers, &mut read_weights)?;

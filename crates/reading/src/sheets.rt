@@ -44,6 +44,8 @@ fn read_line(
     )
 }
 
+// Kept (4): that the words are all 0 is asked here and in two functions below, of one array that two callers make;
+// a type for it would hold for no value after the first line.
 // Reads the lines HULL to SEAT, and answers the place after them. The words are all 0 before it.
 fn read_lines(text: &[u8], words: &mut [u32]) -> Result<usize, Fault>
     requires { words.old ≡ replicate text_words 0 }
@@ -149,6 +151,7 @@ pub fn read_sheet(text: &[u8], sheet: &mut [u32; TEXT_WORDS]) -> Answer
     ensures { Settled (read_answer (read_sheet text.now))
         (read_into (read_sheet text.now) sheet.old) (in_numbers result) sheet.new }
 {
+    // Kept (1): no heap; it is filled whole.
     let mut words = [0u32; TEXT_WORDS];
     read_words(text, &mut words)?;
     *sheet = words;

@@ -5,7 +5,8 @@ ghost use Rattle.text.specs.Field.{begins};
 ghost use Rattle.text.specs.Read.{entry_told, line_told};
 ghost use Rattle.text.specs.Quoted.{tab, feed, dash};
 ghost use Rattle.text.specs.Limit.{or_none};
-ghost use Rattle.text.specs.Line.{line_of, read_entry, read_numbers, read_line, entry_text, numbers_text, line_text, Reads};
+ghost use Rattle.text.specs.Line.{line_of, read_entry, read_numbers, read_line, Reads};
+ghost use Rattle.text.specs.Line.{entry_text, numbers_text, line_text};
 ghost use Rattle.text.specs.Line.{Laid, stops_short};
 
 use crate::bytes::{agreement, find_field, starts, store, write_bytes};
@@ -83,6 +84,7 @@ fn stops_short(table: &[Limit], text: &[u8]) -> bool
     }
 }
 
+// Kept (4): `short` is a value of the rule; as two functions the caller would switch in its place.
 // What must end a number that is read, with `left` more after it by the table: the line feed too where those are left
 // out.
 fn ender_read(short: bool, left: usize) -> u8
@@ -115,6 +117,7 @@ fn read_numbers(table: &[Limit], text: &[u8], out: &mut [u32]) -> Result<usize, 
     Ok(at)
 }
 
+// Kept (4): tag and table, here and below, are a form's two constants: a struct of both would be made for each call.
 // Reads one line by its form from the start of text: the tag's bytes, then a number for each limit of the table, stored
 // in out.
 pub fn read_line(tag: &[u8], table: &[Limit], text: &[u8], out: &mut [u32]) -> Result<usize, Fault>
@@ -139,6 +142,8 @@ fn write_entry(l: Limit, n: u32, out: &mut [u8]) -> usize
     }
 }
 
+// Kept (4): the numbers are the sheet's own words from the line's first on, so that only a sheet's length would be
+// in a type, and each caller would show it there as here.
 // Writes a number for each limit of the table from the start of out, and answers how long they are.
 fn write_numbers(table: &[Limit], numbers: &[u32], out: &mut [u8]) -> usize
     requires { length table.now ≤ length numbers.now }

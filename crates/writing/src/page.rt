@@ -30,6 +30,7 @@ impl Page {
         }
     }
 
+    // Kept (4): tag, table and numbers as in spelling's write_line.
     // Adds the line of a tag and of a number for each limit of a table; numbers beyond are not written.
     pub fn add(&mut self, tag: &[u8], table: &[Limit], numbers: &[u32])
         requires many { length table.now ≤ length numbers.now }
