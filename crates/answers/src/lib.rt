@@ -40,7 +40,6 @@ impl From<Refusal> for u32 {
 
 // What refuses a text: the refusal, with the line and the byte of the fault, both from 1, or both 0 where the text is
 // too long.
-// Kept (1): 0 and 0 are what C is given for a text that is too long.
 #[derive(Clone, Copy, PartialEq, Eq)]
 pub struct TextFault {
     pub refusal: Refusal,

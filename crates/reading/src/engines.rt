@@ -38,6 +38,7 @@ fn read_rows(text: &[u8], powers: &mut [u32], weights: &mut [u32]) -> Result<usi
                 rule: Rule::Plain,
             },
         ];
+        // Kept (4): as a closure for map_err it would need a contract, since `after` asks that the places add up.
         let ([power, weight, _], len) = match read_row(b"ENG\t", &limits, &text[at..]) {
             Ok(row) => row,
             Err(fault) => return Err(fault.after(at)),

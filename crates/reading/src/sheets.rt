@@ -85,6 +85,7 @@ fn read_fits(text: &[u8], fits: &mut [u32]) -> Result<usize, Fault>
             FIT_WEIGHT,
             FIT_COUNT,
         ];
+        // Kept (4): as a closure for map_err it would need a contract, since `after` asks that the places add up.
         let ([line, weight, count], len) = match read_row(b"FIT\t", &limits, &text[at..]) {
             Ok(row) => row,
             Err(fault) => return Err(fault.after(at)),

@@ -103,6 +103,7 @@ fn read_numbers(table: &[Limit], text: &[u8], out: &mut [u32]) -> Result<usize, 
     for (k, l) in table.iter().enumerate() {
         let short = stops_short(&table[k + 1..], &text[at..]);
         let ender = ender_read(short, table.len() - k - 1);
+        // Kept (4): as a closure for map_err it would need a contract, since `after` asks that the places add up.
         let taken = match read_entry(*l, last, ender, &text[at..]) {
             Ok(taken) => taken,
             Err(fault) => return Err(fault.after(at)),
