@@ -207,6 +207,7 @@ pub fn replace(mem: &mut [u32], desk: u32, text: &[u8]) -> Answer
 }
 
 // A plate of a desk's draft, as a trial.
+// Kept (4): beside `plate`, since each is a call of its own with its own promise; what they share is `mark`.
 #[tactic(auto, using(crate::proofs::Sheets::draft_laws))]
 pub fn trial<P: Plate>(mem: &[u32], desk: u32, which: P) -> Answer
     ensures { in_numbers result ≡ (step mem.now (work desk (try_plate (P.kind which)))).answer }

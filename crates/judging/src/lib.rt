@@ -19,7 +19,7 @@ fn weighed_ok<S: Slot>(slot: &S) -> bool
 }
 
 // Kept (4): a hull and a desk ask different words of the memory in different numbers; what they share is weighed_ok.
-// One loop for both would take bound, view and check, and say more than the two.
+// One loop for both would take bound, view and check, and be longer than the two.
 
 // Whether a hull is well formed: its edit number, then its sheet with the weight beside it.
 #[tactic(auto, unfolding(memory::specs::Formed::hull_ok))]

@@ -39,6 +39,7 @@ impl Judged<'_> {
     }
 
     // The same of places whose limits are alike.
+    // Kept (2): beside part_ok, since the greatest of a run tells for all of it, without a branch a word (DECISIONS).
     #[tactic(auto, using(crate::proofs::Runs::run_laws))]
     fn run_ok(&self, at: usize, end: usize) -> bool
         requires { AlikePart at end }

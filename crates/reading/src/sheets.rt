@@ -132,6 +132,7 @@ fn read_parts(text: &[u8], words: &mut [u32]) -> Result<usize, Fault>
     spelling::told_after(at, read_rest(&text[at..], &mut words[LINE_WORDS..]))
 }
 
+// Kept (4): read_columns has the same frame; as one, it would take what reads as a closure, with a contract of its own.
 // Reads a sheet from a text of at most 4,096 bytes and answers how many words it has. They are all 0 before it.
 pub fn read_words(text: &[u8], words: &mut [u32]) -> Result<usize, TextFault>
     requires { words.old ≡ replicate text_words 0 }
