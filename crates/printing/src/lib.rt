@@ -137,5 +137,6 @@ pub fn print_plates(input: &[u8], out: &mut [u8]) -> Answer
         return Err(Refused::Plain(Refusal::NoRoom));
     }
     spelling::write_bytes(&bytes[..len], out);
+    // Kept (4): it is proved to fit 32 bits: try_from would have to be unwrapped.
     Ok(Figures::Count(len as u32))
 }

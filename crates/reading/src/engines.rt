@@ -93,5 +93,6 @@ pub fn read_engines(text: &[u8], powers: &mut [u32], weights: &mut [u32]) -> Ans
     }
     ground::copy_numbers(&read_powers[..rows], powers);
     ground::copy_numbers(&read_weights[..rows], weights);
+    // Kept (4): it is proved to fit 32 bits: try_from would have to be unwrapped.
     Ok(Figures::Count(rows as u32))
 }

@@ -62,6 +62,7 @@ fn read_entry(l: Limit, last: u32, ender: u8, text: &[u8]) -> Result<Taken, Faul
         });
     }
     Ok(Taken {
+        // Kept (4): it is within its limit, which has 32 bits: try_from would have to be unwrapped.
         number: n as u32,
         len: f.len() + 1,
     })
