@@ -25,7 +25,9 @@ use sheet::{
 use std::ops::Range;
 use text::{Fault, Limit, Rule};
 
-// Reads the line of a tag and of some words of a sheet from a place of a text on, and answers the place after it.
+// Reads the line of a tag and of some words of a sheet from a place of a text on, and answers the place after it. Laid
+// out in place, its answer goes in registers.
+#[inline(always)]
 fn read_line(
     tag: &[u8],
     range: Range<usize>,

@@ -1,12 +1,13 @@
 // Numbers held to their limits: one by one, or a run that shares one limit.
-ghost use Rattle.std.specs.Prelude.{◌≡◌, true, length, replicate};
+ghost use Rattle.std.specs.Prelude.{◌≡◌, ◌<◌, ◌^◌, true, length, replicate};
 ghost use Rattle.text.specs.Limit.{is_none, within, holds, all_hold, from_zero};
 
 use text::{Limit, Rule};
 
 // Whether n is within a limit, where the number before it is `last`.
 pub fn is_within(l: Limit, last: u32, n: u64) -> bool
-    ensures { result ≡ within l last n }
+    ensures told { result ≡ within l last n }
+    ensures narrow { result ≡ true → n < 2 ^ 32 }
 {
     if n < u64::from(l.low) || n > u64::from(l.high) {
         return false;

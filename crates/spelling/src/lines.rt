@@ -24,10 +24,11 @@ fn ender_before(left: usize) -> u8
 }
 
 // Whether text starts with a `-` that may stand there.
-fn is_dash(l: Limit, text: &[u8]) -> bool
-    ensures { result ≡ (or_none l.rule && begins dash text.now) }
+fn is_dash(l: &Limit, text: &[u8]) -> bool
+    ensures { result ≡ (or_none l.now.rule && begins dash text.now) }
 {
-    l.rule == Rule::OrNone && starts(text, b'-')
+    // the byte first: it is seldom there, and the limit then is not asked
+    starts(text, b'-') && l.rule == Rule::OrNone
 }
 
 // A fault of the form, at a place.
@@ -41,8 +42,8 @@ fn broken(at: usize) -> Fault
 }
 
 // Reads a number, or a `-`, and the byte that must end it: the form first, then the limits.
-fn read_entry(l: Limit, last: u32, ender: u8, text: &[u8]) -> Result<Taken, Fault>
-    ensures { entry_told result ≡ read_entry l last ender text.now }
+fn read_entry(l: &Limit, last: u32, ender: u8, text: &[u8]) -> Result<Taken, Fault>
+    ensures { entry_told result ≡ read_entry l.now last ender text.now }
 {
     if is_dash(l, text) {
         if starts(&text[1..], ender) {
@@ -55,7 +56,7 @@ fn read_entry(l: Limit, last: u32, ender: u8, text: &[u8]) -> Result<Taken, Faul
     if !starts(&text[f.len()..], ender) {
         return Err(broken(f.len()));
     }
-    if !is_within(l, last, n) {
+    if !is_within(*l, last, n) {
         return Err(Fault {
             refusal: Refusal::OutsideLimits,
             at: 0,
@@ -105,7 +106,7 @@ fn read_numbers(table: &[Limit], text: &[u8], out: &mut [u32]) -> Result<usize, 
         let short = stops_short(&table[k + 1..], &text[at..]);
         let ender = ender_read(short, table.len() - k - 1);
         // Kept (4): as a closure for map_err it would need a contract, since `after` asks that the places add up.
-        let taken = match read_entry(*l, last, ender, &text[at..]) {
+        let taken = match read_entry(l, last, ender, &text[at..]) {
             Ok(taken) => taken,
             Err(fault) => return Err(fault.after(at)),
         };

@@ -17,7 +17,7 @@ use Rattle.spelling.proofs.lines.read_entry.Goals.{After-read_number, After-star
 
 -- ---- a `-` for none
 
-dashed : (c : Then-is_dash) → Dashed c.args.l c.args.last c.args.ender c.args.text.now
+dashed : (c : Then-is_dash) → Dashed c.args.l.now c.args.last c.args.ender c.args.text.now
 dashed c = record { dashed = sym c.is_dash.ensures ∙ c.if-is_dash.true }
 
 pub returns-then-starts : goal.returns-then-starts
@@ -33,7 +33,7 @@ returns-then-is_dash c =
 -- ---- a field
 
 found : (c : After-read_number) {r : NumberRead} → c.read_number.result ≡ r
-    → Entered c.args.l c.args.last c.args.ender c.args.text.now c.find_field-f.result.now r
+    → Entered c.args.l.now c.args.last c.args.ender c.args.text.now c.find_field-f.result.now r
 found c e =
     record {
       undashed = sym c.is_dash.ensures ∙ c.if-is_dash.false;
@@ -70,12 +70,15 @@ pub returns-then-not-is_within : goal.returns-then-not-is_within
 returns-then-not-is_within c =
     let at = goal.at.returns-then-not-is_within c in
     let read = found at.After-read_number (was_ok _ c.map_err.ensures.cases c.in_ok-n.was) in
-    let out = sym c.is_within.ensures ∙ c.if-not-is_within.true in
+    let out = sym c.is_within.ensures.told ∙ c.if-not-is_within.true in
     sym (outside read (ended at.After-starts-2 c.if-not-starts.false) out)
 
 pub returns : goal.returns
 returns c =
     let at = goal.at.returns c in
     let read = found at.After-read_number (was_ok _ c.map_err.ensures.cases c.in_ok-n.was) in
-    let within = sym c.is_within.ensures ∙ c.if-not-is_within.false in
+    let within = sym c.is_within.ensures.told ∙ c.if-not-is_within.false in
     sym (taken read (ended at.After-starts-2 c.if-not-starts.false) within)
+
+pub overflow_cast-result : goal.overflow_cast-result
+overflow_cast-result c = omega (arith, c.is_within.ensures.narrow c.if-not-is_within.false)
