@@ -37,6 +37,7 @@ fn hull_at(mem: &[u32], hull: u32) -> Result<Hull<'_>, Refusal>
 
 // The desk whose draft a call is on; or what refuses the call: the memory first, then the desk, then that it holds no
 // draft.
+// Kept: (4) it shares with hull_at but the check of the memory: one function of both would take what differs as a trait
 #[tactic(auto, using(crate::proofs::Sheets::sized), unfolding(register::specs::Refusals::desk_refusal))]
 fn draft_at(mem: &[u32], desk: u32) -> Result<Desk<'_>, Refusal>
     ensures refused { refused_by result ≡ desk_refusal mem.now desk }
@@ -45,7 +46,7 @@ fn draft_at(mem: &[u32], desk: u32) -> Result<Desk<'_>, Refusal>
     if !judging::is_formed(mem) {
         return Err(Refusal::BadMemory);
     }
-    if desk >= DESKS as u32 {
+    if desk as usize >= DESKS {
         return Err(Refusal::NoDesk);
     }
     let desk = Desk::of(mem, desk);
@@ -63,7 +64,7 @@ fn check_room(mem: &[u32]) -> Result<(), Refusal>
     if !judging::is_formed(mem) {
         return Err(Refusal::BadMemory);
     }
-    if mem[COUNT] >= MOST_HULLS as u32 {
+    if mem[COUNT] as usize >= MOST_HULLS {
         return Err(Refusal::Full);
     }
     Ok(())
@@ -77,7 +78,7 @@ fn check_open(mem: &[u32], desk: u32, hull: u32) -> Result<(), Refusal>
     if !judging::is_formed(mem) {
         return Err(Refusal::BadMemory);
     }
-    if desk >= DESKS as u32 {
+    if desk as usize >= DESKS {
         return Err(Refusal::NoDesk);
     }
     if hull >= mem[COUNT] {
@@ -87,6 +88,8 @@ fn check_open(mem: &[u32], desk: u32, hull: u32) -> Result<(), Refusal>
 }
 
 // ---- hulls
+
+// Kept: (1) calls take the memory and a number, as C hands them over; inside they are a Hull or a Desk
 
 // Fresh start: makes of a memory of the right size one with no hulls and no drafts, every word 0.
 pub fn fresh(mem: &mut [u32]) -> Answer
@@ -104,6 +107,7 @@ pub fn new_hull(mem: &mut [u32], text: &[u8]) -> Answer
     ensures { Changes (step mem.old (new_hull text.now)) (in_numbers result) mem.new }
 {
     check_room(mem)?;
+    // Kept: (1) no heap: room for one sheet
     let mut words = [0u32; TEXT_WORDS];
     reading::read_words(text, &mut words)?;
     let sheet = &words[IN_TEXT..];
@@ -192,6 +196,7 @@ pub fn replace(mem: &mut [u32], desk: u32, text: &[u8]) -> Answer
     ensures { Changes (step mem.old (work desk (replace text.now))) (in_numbers result) mem.new }
 {
     draft_at(mem, desk)?;
+    // Kept: (1) no heap: room for one sheet
     let mut words = [0u32; TEXT_WORDS];
     reading::read_words(text, &mut words)?;
     let sheet = &words[IN_TEXT..];

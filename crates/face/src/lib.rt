@@ -1,5 +1,6 @@
 // The C face: every call that the office's server makes, under the names of include/willowblink.h. A lent slice is a
 // pointer and a length in C.
+// Kept: (1) the C interface: parameters, slices and answers are those of include/willowblink.h.
 #![tactic(auto)]
 
 ghost use Rattle.std.specs.Prelude.{◌≡◌, length};

@@ -1,6 +1,7 @@
 // The archive that C links: every call of the crate face under its own name, which is that of include/willowblink.h. A
 // library of Rattle's crates exports nothing, so each is said here once more, with the same promise. A lent slice is a
 // pointer and a length in C.
+// Kept: (1) the C interface: parameters, slices and answers are those of include/willowblink.h.
 #![tactic(auto)]
 
 ghost use Rattle.std.specs.Prelude.{◌≡◌, length};

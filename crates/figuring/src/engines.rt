@@ -16,6 +16,7 @@ fn row_fits(next: u32, power: u32, weight: u32) -> bool
 }
 
 // Whether the rows' values are within limits and their powers rise.
+// Kept: (1) the C interface lends powers and weights apart, and copies of them would want memory
 fn rows_rise(powers: &[u32], weights: &[u32]) -> bool
     requires { length powers.now ≡ length weights.now }
     ensures { result ≡ rising 1 powers.now weights.now }
@@ -31,6 +32,7 @@ fn rows_rise(powers: &[u32], weights: &[u32]) -> bool
 }
 
 // Whether engine rows are as they must be: as many weights as powers, 1 to 40 of them, within limits and rising.
+// Kept: (1) the C interface lends powers and weights apart
 #[tactic(auto, unfolding(capacity::specs::PlateC::rows_right))]
 pub fn rows_right(powers: &[u32], weights: &[u32]) -> bool
     ensures { result ≡ rows_right powers.now weights.now }

@@ -47,6 +47,7 @@ impl Plate for PlateA {
         if boat.lacks_power() {
             return Err(Refused::Plain(Refusal::NoPower));
         }
+        // Kept: (4) both are proved to fit 32 bits: try_from would say no more, and would have to be unwrapped
         Ok(Figures::Plate(load as u32, boat.power() as u32))
     }
 }
@@ -77,6 +78,7 @@ impl Plate for PlateC<'_> {
             return Err(Refused::Plain(Refusal::Untested));
         }
         let persons = boat.persons(gross, engine).ok_or(Refusal::NoPersons)?;
+        // Kept: (4) both are proved to fit 32 bits: try_from would say no more, and would have to be unwrapped
         Ok(Figures::Plate(load as u32, persons as u32))
     }
 }
@@ -92,6 +94,7 @@ impl Plate for PlateU {
         ensures { in_numbers result ≡ plate_u boat.entry.weight boat.entry.sheet.now }
     {
         let load = boat.load_u().ok_or(Refusal::NoLoad)?;
+        // Kept: (4) it is proved to fit 32 bits: try_from would say no more, and would have to be unwrapped
         Ok(Figures::Count(load as u32))
     }
 }

@@ -27,7 +27,7 @@ fn station_product(l: [u32; READINGS]) -> u64
 }
 
 // N, of the readings of the four stations: one station at a time, its share added to a running total.
-// Kept: 02 (iv) asks for this, one step after the other, and rules out a loop over a table of shares (1).
+// Kept: (1) 02 (iv) asks for this, one step after the other, and rules out a loop over a table of shares
 #[tactic(auto, using(capacity::proofs::Volume::product_most_lem))]
 fn volume_of(stations: [[u32; READINGS]; 4], reference: u32) -> u64
     requires { Stations stations reference }

@@ -62,10 +62,12 @@ fn draft_ok(desk: &Desk) -> bool
 
 // The same of every desk.
 #[tactic(auto, using(memory::proofs::Each::each_none, memory::proofs::Each::each_more))]
+// Kept: (4) hulls and desks are judged by other things: one loop of both would take a trait for two of three lines
 fn drafts_ok(mem: &Memory) -> bool
     requires { hull_count mem.now ≤ most_hulls }
     ensures { result ≡ each desks (draft_ok mem.now) }
 {
+    // Kept: (4) DESKS is a length and a desk's number a u32: a second constant would say the same twice
     for number in 0..DESKS as u32 {
         if !draft_ok(&Desk { mem, number }) {
             return false;
@@ -83,7 +85,7 @@ pub fn is_formed(mem: &[u32]) -> bool
         return false;
     };
     let hulls = keeping::hull_count(mem);
-    if hulls > MOST_HULLS as u32 {
+    if hulls as usize > MOST_HULLS {
         return false;
     }
     // The drafts first, so that the loop over the hulls keeps nothing for them over its calls (DECISIONS).

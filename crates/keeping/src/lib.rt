@@ -195,6 +195,8 @@ fn fitting_word(line: u32) -> usize
 
 // ---- the changes
 
+// Kept: (4) changes take the memory and a number: a view that may write would be made for one change each
+
 // Copies a sheet, with the weight before it, from one place to another that it does not overlap.
 #[tactic(auto, using(crate::proofs::Writes::copied_as))]
 fn copy_weighed(mem: &mut [u32], from: usize, to: usize)
@@ -205,6 +207,7 @@ fn copy_weighed(mem: &mut [u32], from: usize, to: usize)
 }
 
 // Lays a weight and a sheet from a place on.
+// Kept: (4) weight and sheet come from a text here, not from a Slot: a struct of both would be made for one call
 fn lay_weighed(mem: &mut [u32], at: usize, weight: u32, sheet: &[u32])
     requires { ToLay mem.old at sheet.now }
     ensures { mem.new ≡ sets mem.old at (weight ∷ sheet.now) }

@@ -22,6 +22,7 @@ fn read_input<R: Read>(input: &mut R, room: &mut [u8]) -> io::Result<usize>
     ensures { bytes_of result ≤ length room.new }
 {
     let mut end = 0;
+    // Kept: (4) each read tells how far the turn goes, so that a for would count turns and say nothing
     while end < room.len() {
         let count = input.read(&mut room[end..])?;
         if count == 0 {
@@ -35,6 +36,7 @@ fn read_input<R: Read>(input: &mut R, room: &mut [u8]) -> io::Result<usize>
 // Reads on to the input's end, so that its writer is not cut off. A proved loop has to end, and nothing says that an
 // input does: the turns are counted, up to a number that no run comes to.
 fn pass_rest<R: Read>(input: &mut R) -> io::Result<()> {
+    // Kept: (1) no heap: what is read into it is passed over
     let mut piece = [0u8; 4096];
     for _ in 0..u64::MAX {
         if input.read(&mut piece)? == 0 {
@@ -72,6 +74,7 @@ fn lay(input: &[u8], out: &mut [u8; MOST_PRINTED]) -> usize
 
 // Writes what is printed of an input.
 fn print(rt: &impl Print, input: &[u8]) -> io::Result<()> {
+    // Kept: (1) no heap: room for the longest that is printed
     let mut out = [0u8; MOST_PRINTED];
     let len = lay(input, &mut out);
     Print::write_all(rt, &out[..len])
@@ -85,6 +88,7 @@ fn failed(rt: &impl Eprint, what: &str, error: io::Error) -> ExitCode {
 
 // Reads the input to its end, and prints what is to be printed of it. After a failed read nothing is printed.
 fn main(rt: HostRuntime) -> ExitCode {
+    // Kept: (1) no heap: room for the longest input
     let mut room = [0u8; ROOM];
     let end = match read_whole(&mut rt.stdin(), &mut room) {
         Ok(end) => end,

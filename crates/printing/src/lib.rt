@@ -91,6 +91,7 @@ fn lay_rows(sheet: &[u32], engines: &[u8], out: &mut [u8]) -> usize
     ensures { Laid (rows_printed sheet.now engines.now) out.old 0 result
         out.new }
 {
+    // Kept: (1) no heap: room for as many rows as there may be, apart as reading fills them
     let mut powers = [0u32; MOST_ROWS];
     let mut weights = [0u32; MOST_ROWS];
     match reading::read_columns(engines, &mut powers, &mut weights) {
@@ -114,6 +115,7 @@ fn lay_printed(input: &[u8], out: &mut [u8]) -> usize
         return lay_fault(TextFault::TOO_LONG, out);
     }
     let end = sheet_bytes(input);
+    // Kept: (1) no heap: room for one sheet
     let mut words = [0u32; TEXT_WORDS];
     match reading::read_words(&input[..end], &mut words) {
         Err(fault) => lay_fault(fault, out),
@@ -128,11 +130,13 @@ pub fn print_plates(input: &[u8], out: &mut [u8]) -> Answer
     ensures { Settled (print_answer input.now (length out.old))
         (print_into input.now out.old) (in_numbers result) out.new }
 {
+    // Kept: (1) no heap: out is left as it stood where it is too short
     let mut bytes = [0u8; MOST_PRINTED];
     let len = lay_printed(input, &mut bytes);
     if out.len() < len {
         return Err(Refused::Plain(Refusal::NoRoom));
     }
     spelling::write_bytes(&bytes[..len], out);
+    // Kept: (4) it is proved to fit 32 bits: try_from would say no more, and would have to be unwrapped
     Ok(Figures::Count(len as u32))
 }

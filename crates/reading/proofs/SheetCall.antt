@@ -34,10 +34,6 @@ into_onward : (k : ℕ) (so : List ℕ) (f : Found (List ℕ)) {ys : List ℕ} �
 into_onward k so (took j s) e = ap (λ (l : List ℕ). so ++ l) e
 into_onward k so (lost number at) e = refl
 
-pub words_broken : (t : List ℕ) {number at n : ℕ} {o : List ℕ} → Past [] t n (Fault number at) o
-    → Filled (rest_on lines t) t (Fault number at) o
-words_broken t p = record { answer = rw p.goes; stored = rw p.goes; within = p.within }
-
 -- ys come back for what stands after so
 part_after : (o so zs : List ℕ) {n : ℕ} → o ≡ so ++ zs → length so ≡ n → (ys : List ℕ) → put_back o n ys ≡ so ++ ys
 part_after o so zs {n} e m ys =

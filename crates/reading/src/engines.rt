@@ -16,6 +16,7 @@ use sheet::{ENGINE_POWER_HIGH, ENGINE_WEIGHT_HIGH, MOST_ROWS, MOST_TEXT};
 use text::{Fault, Limit, Rule};
 
 // Reads engine rows, the powers and the weights of them apart.
+// Kept: (1) the C interface lends powers and weights apart: pairs would want memory to be parted from
 fn read_rows(text: &[u8], powers: &mut [u32], weights: &mut [u32]) -> Result<usize, Fault>
     requires { (length powers.old ≡ most_rows) × (length weights.old ≡ most_rows) }
     ensures { Columns (mapped only_rows (read_parts (engine_part ∷ []) text.now)) text.now (rows_told result)
@@ -56,6 +57,7 @@ fn read_rows(text: &[u8], powers: &mut [u32], weights: &mut [u32]) -> Result<usi
 
 // Reads engine rows from a text of at most 4,096 bytes into room for as many as there may be, and answers how many
 // there are.
+// Kept: (1) as read_rows
 pub fn read_columns(
     text: &[u8],
     powers: &mut [u32],
@@ -75,12 +77,14 @@ pub fn read_columns(
 
 // Reads engine rows from a text of at most 4,096 bytes into two lent slices and answers how many there are. A refusal,
 // 2 or 3 with its place, or 16 where either slice is shorter than the rows, leaves both as they stood.
+// Kept: (1) the C interface lends powers and weights apart
 pub fn read_engines(text: &[u8], powers: &mut [u32], weights: &mut [u32]) -> Answer
     ensures { Settled
         (engines_answer (read_engines text.now) (length powers.old) (length weights.old))
         (columns_into (read_engines text.now) powers.old weights.old) (in_numbers result)
         (powers.new, weights.new) }
 {
+    // Kept: (1) no heap: the lent slices are left as they stood where the text is refused
     let mut read_powers = [0u32; MOST_ROWS];
     let mut read_weights = [0u32; MOST_ROWS];
     let rows = read_columns(text, &mut read_powers, &mut read_weights)?;
@@ -89,5 +93,6 @@ pub fn read_engines(text: &[u8], powers: &mut [u32], weights: &mut [u32]) -> Ans
     }
     ground::copy_numbers(&read_powers[..rows], powers);
     ground::copy_numbers(&read_weights[..rows], weights);
+    // Kept: (4) it is proved to fit 32 bits: try_from would say no more, and would have to be unwrapped
     Ok(Figures::Count(rows as u32))
 }

@@ -45,6 +45,7 @@ fn read_line(
 }
 
 // Reads the lines HULL to SEAT, and answers the place after them. The words are all 0 before it.
+// Kept: (1) fixed memory: the words are the caller's, all 0, here and in read_parts and read_words
 fn read_lines(text: &[u8], words: &mut [u32]) -> Result<usize, Fault>
     requires { words.old ≡ replicate text_words 0 }
     ensures { Past [] text.now (1 + fittings_at) (line_told result) words.new }
@@ -149,6 +150,7 @@ pub fn read_sheet(text: &[u8], sheet: &mut [u32; TEXT_WORDS]) -> Answer
     ensures { Settled (read_answer (read_sheet text.now))
         (read_into (read_sheet text.now) sheet.old) (in_numbers result) sheet.new }
 {
+    // Kept: (1) no heap: `sheet` is left as it stood where the text is refused
     let mut words = [0u32; TEXT_WORDS];
     read_words(text, &mut words)?;
     *sheet = words;

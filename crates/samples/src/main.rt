@@ -13,6 +13,7 @@ const PAGE: usize = 4096;
 
 // Prints what the plate program prints of an input.
 fn print(rt: &impl Print, input: &[u8]) -> io::Result<()> {
+    // Kept: (1) no heap: room for the longest that is printed
     let mut out = [0u8; MOST_PRINTED];
     let Ok(Figures::Count(count)) = printing::print_plates(input, &mut out) else {
         return Ok(());
@@ -29,6 +30,7 @@ fn show(rt: &impl Print, label: &[u8], form: &[u8], loads: &[u8]) -> io::Result<
         STN\tT\t1000\t500\t500\t500\t500\t500\t500\n\
         VOL\t0\t0\t0\n";
     let engines = b"END\nENG\t10000\t45000\nENG\t20000\t60000\n";
+    // Kept: (1) no heap: room for the longest of the inputs
     let mut page = [0u8; PAGE];
     let mut room = &mut page[..];
     room.write_all(b"HULL\t0\n")?;

@@ -1,6 +1,5 @@
 // Numbers held to their limits: one by one, or a run that shares one limit.
-ghost use Rattle.std.specs.Prelude.{◌≡◌, true, max, length, replicate};
-ghost use mathlib.Core.List.{foldr};
+ghost use Rattle.std.specs.Prelude.{◌≡◌, true, length, replicate};
 ghost use Rattle.text.specs.Limit.{is_none, within, holds, all_hold, from_zero};
 
 use text::{Limit, Rule};
@@ -50,18 +49,11 @@ pub fn all_hold(table: &[Limit], numbers: &[u32]) -> bool
     true
 }
 
-// The greatest of the numbers, 0 where there are none.
-fn greatest(numbers: &[u32]) -> u32
-    ensures { result ≡ foldr max 0 numbers.now }
-{
-    numbers.iter().fold(0, |top, n| top.max(*n))
-}
-
 // Whether each of the numbers may stand by one limit, whose range goes down to 0, or to 1 with 0 for none: the greatest
 // of them tells, so that the loop has no branch.
 pub fn alike_hold(l: Limit, numbers: &[u32]) -> bool
     requires { from_zero l ≡ true }
     ensures { result ≡ all_hold (replicate (length numbers.now) l) 0 numbers.now }
 {
-    greatest(numbers) <= l.high
+    numbers.iter().fold(0, |top, n| top.max(*n)) <= l.high
 }

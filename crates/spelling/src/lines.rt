@@ -5,8 +5,8 @@ ghost use Rattle.text.specs.Field.{begins};
 ghost use Rattle.text.specs.Read.{entry_told, line_told};
 ghost use Rattle.text.specs.Quoted.{tab, feed, dash};
 ghost use Rattle.text.specs.Limit.{or_none};
-ghost use Rattle.text.specs.Line.{line_of, read_entry, read_numbers, read_line, entry_text, numbers_text, line_text, Reads};
-ghost use Rattle.text.specs.Line.{Laid, stops_short};
+ghost use Rattle.text.specs.Line.{line_of, read_entry, read_numbers, read_line, entry_text, numbers_text, line_text};
+ghost use Rattle.text.specs.Line.{Reads, Laid, stops_short};
 
 use crate::bytes::{agreement, find_field, starts, store, write_bytes};
 use crate::limits::{is_none, is_within};
@@ -61,6 +61,7 @@ fn read_entry(l: Limit, last: u32, ender: u8, text: &[u8]) -> Result<Taken, Faul
         });
     }
     Ok(Taken {
+        // Kept: (4) it is within its limit, which fits 32 bits: try_from would have to be unwrapped
         number: n as u32,
         len: f.len() + 1,
     })
@@ -85,6 +86,7 @@ fn stops_short(table: &[Limit], text: &[u8]) -> bool
 
 // What must end a number that is read, with `left` more after it by the table: the line feed too where those are left
 // out.
+// Kept: (4) one of three by what was seen: the two tests in its one caller, a loop, would be no plainer
 fn ender_read(short: bool, left: usize) -> u8
     ensures { result ≡ cond short feed (cond (eqb left 0) feed tab) }
 {
@@ -117,6 +119,7 @@ fn read_numbers(table: &[Limit], text: &[u8], out: &mut [u32]) -> Result<usize, 
 
 // Reads one line by its form from the start of text: the tag's bytes, then a number for each limit of the table, stored
 // in out.
+// Kept: (4) the tag is written out at each call and the table a part of LIMITS: a struct would be made for one call
 pub fn read_line(tag: &[u8], table: &[Limit], text: &[u8], out: &mut [u32]) -> Result<usize, Fault>
     ensures { Reads (read_line (line_of tag.now table.now) text.now) out.old (line_told result) out.new }
 {
@@ -140,6 +143,7 @@ fn write_entry(l: Limit, n: u32, out: &mut [u8]) -> usize
 }
 
 // Writes a number for each limit of the table from the start of out, and answers how long they are.
+// Kept: (4) limits beside numbers: a struct of both would be made at each call, to be taken apart in this loop
 fn write_numbers(table: &[Limit], numbers: &[u32], out: &mut [u8]) -> usize
     requires { length table.now ≤ length numbers.now }
     ensures laid { Laid (numbers_text table.now numbers.now) out.old 0 result out.new }
@@ -157,6 +161,7 @@ fn write_numbers(table: &[Limit], numbers: &[u32], out: &mut [u8]) -> usize
 
 // Writes one line by its form from the start of out, as far as out goes, and answers how long the line is. There is a
 // number for each limit of the table; those beyond are not written.
+// Kept: (4) as read_line and write_numbers
 pub fn write_line(tag: &[u8], table: &[Limit], numbers: &[u32], out: &mut [u8]) -> usize
     requires { length table.now ≤ length numbers.now }
     ensures { Laid (line_text (line_of tag.now table.now) numbers.now)

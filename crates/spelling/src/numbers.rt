@@ -42,10 +42,12 @@ pub fn write_number(out: &mut [u8], n: u64) -> usize
     ensures { Laid (digits_of n) out.old 0 result out.new }
 {
     if n < 10 {
+        // Kept: (4) a digit fits a byte: try_from would have to be unwrapped
         store(out, 0, b'0' + n as u8);
         1
     } else {
         let at = write_number(out, n / 10);
+        // Kept: (4) as above
         store(out, at, b'0' + (n % 10) as u8);
         at + 1
     }

@@ -68,6 +68,7 @@ fn add_fits(page: &mut Page, fits: &[u32])
 {
     let (lines, _) = fits.as_chunks::<2>();
     for (i, [weight, count]) in lines.iter().enumerate() {
+        // Kept: (4) places count in usize, lines in u32: a range zipped on would be counted beside the lines
         add_fit(page, i as u32 + 1, *weight, *count);
     }
 }
@@ -100,5 +101,6 @@ pub fn write_sheet(sheet: &[u32; TEXT_WORDS], out: &mut [u8]) -> Answer
         return Err(Refused::Plain(Refusal::NoRoom));
     }
     spelling::write_bytes(text, out);
+    // Kept: (4) it is proved to fit 32 bits: try_from would say no more, and would have to be unwrapped
     Ok(Figures::Count(text.len() as u32))
 }

@@ -25,12 +25,14 @@ impl Page {
         ensures { result ≡ [] }
     {
         Page {
+            // Kept: (1) no heap: room for the longest sheet
             bytes: [0; SHEET_TEXT],
             len: 0,
         }
     }
 
     // Adds the line of a tag and of a number for each limit of a table; numbers beyond are not written.
+    // Kept: (4) as spelling::write_line, which it calls
     pub fn add(&mut self, tag: &[u8], table: &[Limit], numbers: &[u32])
         requires many { length table.now ≤ length numbers.now }
         requires room { length self.old + length (line_text (line_of tag.now table.now) numbers.now) ≤ SHEET_TEXT }

@@ -19,11 +19,11 @@ returns-then-drafts_ok c =
     let lent = c.in-Some.ensures.cases in
     c.hulls_ok.ensures
     ∙ rw (← c.drafts_ok.ensures, c.if-drafts_ok.true) at
-    (sized lent.long lent.same c.hull_count-hulls.ensures c.if-hulls.false)
+    (sized lent.long lent.same c.hull_count-hulls.ensures c.if-hulls-gt-MOST_HULLS.false)
 
 pub returns-else-drafts_ok : goal.returns-else-drafts_ok
 returns-else-drafts_ok c =
     let lent = c.in-Some.ensures.cases in
     c.if-drafts_ok.false
     ∙ rw (← c.drafts_ok.ensures, c.if-drafts_ok.false) at
-    (sized lent.long lent.same c.hull_count-hulls.ensures c.if-hulls.false)
+    (sized lent.long lent.same c.hull_count-hulls.ensures c.if-hulls-gt-MOST_HULLS.false)

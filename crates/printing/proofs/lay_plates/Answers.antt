@@ -7,7 +7,7 @@ use Rattle.sheet.proofs.Words.{words_length}
 use Rattle.capacity.specs.Weights.{boat_m}
 use Rattle.capacity.specs.Kinds.{PlateKind, kind_a, kind_c, plate_by, plate_of}
 use Rattle.printout.specs.Printed.{plates_text}
-use Rattle.measuring.proofs.Weighed.{weight_there, weight_right}
+use Rattle.measuring.proofs.Weighed.{weight_right}
 use Rattle.printing.proofs.Laying.{first_in, both_long, both_laid}
 use native.Mathlib.Omega.{arith}
 use Rattle.printing.proofs.lay_plates.Goals as goal
@@ -30,9 +30,6 @@ plate_c_is c =
 
 pub weigh-requires : goal.weigh-requires
 weigh-requires c = omega (arith, words_length)
-
-pub unwrap-requires : goal.unwrap-requires
-unwrap-requires c = weight_there _ c.weigh.ensures c.requires.0
 
 pub slice_bounds-lay_plate-count : goal.slice_bounds-lay_plate-count
 unfolding plates_text

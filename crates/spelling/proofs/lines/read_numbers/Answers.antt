@@ -23,7 +23,8 @@ next c s e =
 
 pub after-requires : goal.after-requires
 after-requires c =
-    let h = entry_in c.loop-k.invariant (next (goal.at.after-requires c).After-read_entry refl (ap entry_told c.in-Err.is)) in
+    let n = next (goal.at.after-requires c).After-read_entry refl (ap entry_told c.in-Err.is) in
+    let h = entry_in c.loop-k.invariant n in
     omega arith
 
 pub returns-in-Err : goal.returns-in-Err

@@ -7,7 +7,9 @@ use Rattle.spelling.proofs.places.wrong_at.Goals as goal
 use Rattle.spelling.proofs.places.wrong_at.Goals.{then-b-eq10, else-b-eq10}
 
 pub loop-b-init : goal.loop-b-init
-loop-b-init c = omega (arith, line_top (take c.args.fault.at c.args.text.now), byte_top (take c.args.fault.at c.args.text.now))
+loop-b-init c =
+    let t = take c.args.fault.at c.args.text.now in
+    omega (arith, line_top t, byte_top t)
 
 pub overflow_add-line : goal.overflow_add-line
 overflow_add-line c =
