@@ -25,6 +25,7 @@ impl Page {
         ensures { result ≡ [] }
     {
         Page {
+            // Kept (1): no heap; room for the longest sheet.
             bytes: [0; SHEET_TEXT],
             len: 0,
         }
