@@ -55,6 +55,7 @@ LINES = [
     (1, "a number or a place that stands for none (comments)", r"^ *//.*\b(?:0 where|or 0\b|0 of others|past the rows)"),
     (3, "loops by while or loop", r"^ *(?:'\w+: )?(?:while|loop)\b"),
     (4, "casts by as", r"\bas (?:u8|u16|u32|u64|usize)\b"),
+    (4, "casts by as that From makes", r"\bas u64\b"),
     (4, "helpers that the library has",
      r"^(?:pub )?fn (?:least_of|greatest_of|greatest|shorter|wide|is_digit|digit|starts|store|store_number|whole_part|face)\b"),
     (6, "fixed buffers that are filled in part", r"\[0u(?:8|32); "),

@@ -14,7 +14,8 @@ const TABLE_END: u64 = 5_000_000;
 const FIRST_ROW: u64 = 2_250_000;
 
 // Watts of the table's rows, the first from place 1; before that row there is none, and 0 stands for its watts. The
-// table is laid on the stack, so its words are narrow.
+// table stands in the archive, and its words are narrow.
+// Kept (4): lacks_power tells whether there is a row; as options the rows would tell it once more.
 const WATTS: [u16; 7] = [0, 1500, 3000, 4000, 5250, 7500, 12000];
 
 // The row of the power table for a power factor that is not above its end.

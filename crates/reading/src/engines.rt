@@ -25,6 +25,7 @@ fn read_rows(text: &[u8], powers: &mut [u32], weights: &mut [u32]) -> Result<usi
 {
     let mut at = 0;
     let mut next = 1;
+    // Kept (4): the row is counted for the answer; to zip two slices to write to would not spare it.
     for row in 0..MOST_ROWS {
         let limits = [
             Limit {
@@ -70,6 +71,7 @@ pub fn read_columns(
     if text.len() > MOST_TEXT {
         return Err(TextFault::TOO_LONG);
     }
+    // Kept (4): as a closure for map_err it would need a contract, since wrong_at asks where the fault may be.
     match read_rows(text, powers, weights) {
         Ok(rows) => Ok(rows),
         Err(fault) => Err(spelling::wrong_at(fault, text)),

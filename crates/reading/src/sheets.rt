@@ -46,8 +46,8 @@ fn read_line(
     )
 }
 
-// Kept (4): that the words are all 0 is asked here and in two functions below, of one array that two callers make;
-// a type for it would hold for no value after the first line.
+// Kept (4): that the words are all 0 is asked here and in two functions below; a type for it would hold no more once
+// the first line is read.
 // Reads the lines HULL to SEAT, and answers the place after them. The words are all 0 before it.
 fn read_lines(text: &[u8], words: &mut [u32]) -> Result<usize, Fault>
     requires { words.old ≡ replicate text_words 0 }
@@ -143,6 +143,7 @@ pub fn read_words(text: &[u8], words: &mut [u32]) -> Result<usize, TextFault>
     if text.len() > MOST_TEXT {
         return Err(TextFault::TOO_LONG);
     }
+    // Kept (4): as a closure for map_err it would need a contract, since wrong_at asks where the fault may be.
     match read_parts(text, words) {
         Ok(_) => Ok(TEXT_WORDS),
         Err(fault) => Err(spelling::wrong_at(fault, text)),

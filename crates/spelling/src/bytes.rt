@@ -45,7 +45,8 @@ pub fn write_bytes(bytes: &[u8], out: &mut [u8])
 {
     // where both go on, so that no byte asks for its place
     let end = bytes.len().min(out.len());
-    // Kept (2): copy_from_slice calls memmove for a tag of a few bytes: writing a sheet took some 3 in 100 more
+    // Kept (2): copy_from_slice calls memmove for a tag of a few bytes: writing a sheet took some 3 in 100 more, and is
+    // just below 1.2 of plain C's instructions with this
     for i in 0..end {
         out[i] = bytes[i];
     }

@@ -154,6 +154,7 @@ fn write_numbers(table: &[Limit], numbers: &[u32], out: &mut [u8]) -> usize
     ensures most { result ≤ 11 * length table.now }
 {
     let mut at: usize = 0;
+    // Kept (4): k is counted for what ends the number; to zip the numbers on would not spare it.
     for (k, l) in table.iter().enumerate() {
         let from = at.min(out.len());
         at += write_entry(*l, numbers[k], &mut out[from..]);

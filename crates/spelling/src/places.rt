@@ -47,6 +47,7 @@ pub fn told_after(before: usize, ended: Result<usize, Fault>) -> Result<usize, F
     requires { before + reached (line_told ended) < 2 ^ 64 }
     ensures { line_told result ≡ shift_by before (line_told ended) }
 {
+    // Kept (4): both cases change, and as closures for map and map_err each would need a contract.
     match ended {
         Ok(len) => Ok(before + len),
         Err(fault) => Err(fault.after(before)),

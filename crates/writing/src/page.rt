@@ -6,6 +6,7 @@ use sheet::SHEET_TEXT;
 use std::marker::Model;
 use text::Limit;
 
+// Kept (1): no heap, so that bytes and length stand side by side; contracts see one list.
 #[derive(Drop)]
 pub struct Page {
     bytes: [u8; SHEET_TEXT],
@@ -17,7 +18,7 @@ impl Model for Page {
 
     ghost view = { λ p. take p.len p.bytes };
 
-    ghost invariant = { λ p. p.len ≤ 658 };
+    ghost invariant = { λ p. p.len ≤ SHEET_TEXT };
 }
 
 impl Page {
@@ -25,7 +26,6 @@ impl Page {
         ensures { result ≡ [] }
     {
         Page {
-            // Kept (1): no heap; room for the longest sheet.
             bytes: [0; SHEET_TEXT],
             len: 0,
         }
