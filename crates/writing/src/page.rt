@@ -18,7 +18,7 @@ impl Model for Page {
 
     ghost view = { λ p. take p.len p.bytes };
 
-    ghost invariant = { λ p. p.len ≤ SHEET_TEXT };
+    ghost invariant = { λ p. p.len ≤ 658 };
 }
 
 impl Page {
