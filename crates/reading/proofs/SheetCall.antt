@@ -43,7 +43,7 @@ part_after o so zs {n} e m ys =
     rw (d, append-nil ys, f)
 
 -- the lines are read, and the words after theirs are still 0
-module _ (t : List ℕ) {at : ℕ} {o : List ℕ} (p : Past [] t line_words (Taken at) o) where
+module _ (t : List ℕ) {at : ℕ} {o : List ℕ} (p : Past t line_words (Taken at) o) where
   standing : o ≡ p.so ++ replicate (2 * fittings) 0
   standing = p.stored ∙ (sets_zeros text_words p.so (omega (arith, p.many)) ∙ rw p.many)
 

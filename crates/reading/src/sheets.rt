@@ -1,19 +1,17 @@
 // A sheet from its text: the lines HULL to SEAT, the FIT lines, END.
 ghost use Rattle.std.specs.Prelude.{◌≡◌, [], ◌∷◌, ◌+◌, ◌-◌, ◌*◌, ◌≤◌, length, take, drop, replicate};
-ghost use Rattle.text.specs.Line.{line_of};
 ghost use Rattle.answers.specs.Settled.{Settled};
 ghost use Rattle.answers.specs.Values.{in_numbers};
-ghost use Rattle.text.specs.Read.{line_told, text_told, reached};
+ghost use Rattle.text.specs.Read.{Taken, line_told, text_told, reached};
 ghost use Rattle.form.specs.Parts.{one_line};
 ghost use Rattle.form.specs.Outcome.{mapped};
 ghost use Rattle.form.specs.Reading.{read_rows, read_parts};
 ghost use Rattle.sheet.specs.Lines.{lines, end_line, fittings};
-ghost use Rattle.sheet.specs.Sheet.{limit_rows};
 ghost use Rattle.sheet.specs.Places.{text_words, fittings_at};
 ghost use Rattle.sheet.specs.SheetText.{fit_part, fits_from, read_sheet};
 ghost use Rattle.sheet.specs.TextCalls.{read_answer, read_into};
 ghost use Rattle.reading.specs.Filled.{ended_as, Filled, Heard};
-ghost use Rattle.reading.specs.Steps.{Due, ReadsOn, rest_on, Past};
+ghost use Rattle.reading.specs.Steps.{line_from, Next, ReadsOn, rest_on, Past};
 
 use crate::rows::read_row;
 use answers::{Answer, Figures, Refusal, TextFault};
@@ -25,8 +23,8 @@ use sheet::{
 use std::ops::Range;
 use text::{Fault, Limit, Rule};
 
-// Reads the line of a tag and of some words of a sheet from a place of a text on, and answers the place after it. Laid
-// out in place, its answer goes in registers.
+// Reads the line of a tag and of some words of a sheet, which is the next one, from a place of a text on, and answers
+// the place after it. Laid out in place, its answer goes in registers.
 #[inline(always)]
 fn read_line(
     tag: &[u8],
@@ -35,9 +33,11 @@ fn read_line(
     at: usize,
     words: &mut [u32],
 ) -> Result<usize, Fault>
-    requires { Due words.old range.start range.end at text.now }
-    ensures { ReadsOn at (line_of tag.now (take (range.end - range.start) (drop range.start limit_rows))) text.now
-        range.start words.old (line_told result) words.new }
+    requires next { Next tag.now range.start range.end }
+    requires so_far { Past text.now range.start (Taken at) words.old }
+    ensures line { ReadsOn at (line_from tag.now range.start range.end) text.now range.start words.old
+        (line_told result) words.new }
+    ensures so_far { Past text.now range.end (line_told result) words.new }
 {
     let into = &mut words[range.start..];
     spelling::told_after(
@@ -49,9 +49,10 @@ fn read_line(
 // Kept (4): that the words are all 0 is asked here and in two functions below; a type for it would hold no more once
 // the first line is read.
 // Reads the lines HULL to SEAT, and answers the place after them. The words are all 0 before it.
+#[tactic(auto, using(crate::proofs::LineByLine::line_laws), unfolding(sheet::specs::Sheet::limits_on))]
 fn read_lines(text: &[u8], words: &mut [u32]) -> Result<usize, Fault>
     requires { words.old ≡ replicate text_words 0 }
-    ensures { Past [] text.now (1 + fittings_at) (line_told result) words.new }
+    ensures { Past text.now (1 + fittings_at) (line_told result) words.new }
 {
     let hull = read_line(b"HULL\t", HULL_LINE..FORM_LINE, text, 0, words)?;
     let form = read_line(b"FORM\t", FORM_LINE..Q_LINE, text, hull, words)?;
