@@ -39,7 +39,7 @@ impl From<Refusal> for u32 {
 }
 
 // What refuses a text: the refusal, with the line and the byte of the fault, both from 1, or both 0 where the text is
-// too long.
+// too long. Kept (1): 0 and 0 are what C is given.
 #[derive(Clone, Copy, PartialEq, Eq)]
 pub struct TextFault {
     pub refusal: Refusal,
