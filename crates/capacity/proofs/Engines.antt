@@ -39,6 +39,10 @@ pub rise_done : (ps ws : List ℕ) (i next : ℕ)
 unfolding rising
 rise_done ps ws i next h k = rw (drop_of_length-le ps {i = i} h, drop_of_length-le ws {i = i} k) refl
 
+pub rows_uneven : (ps ws : List ℕ) → (length ps ≡ length ws → ⊥) → false ≡ rows_right ps ws
+unfolding rows_right
+rows_uneven ps ws h = rw (ne_eqb (length ps) (length ws) h) refl
+
 pub rows_none : (ps ws : List ℕ) → length ps < least_rows → false ≡ rows_right ps ws
 unfolding rows_right
 rows_none ps ws h = go (eqb (length ps) (length ws))
@@ -65,6 +69,17 @@ rows_judged ps ws e h k =
     rw (eq-eqb (length ps) (length ws) e, le-leb least_rows (length ps) h, le-leb (length ps) most_rows k) refl
 
 -- ---- the first row that reaches
+
+pub row_here : (power : ℕ) (ps : List ℕ) (i : ℕ) → i < length ps → power ≤ get_or ps i 0 → row_for power (drop i ps) ≡ 0
+unfolding row_for
+row_here power ps i h k = rw (drop_more ps i h, le-leb power (get_or ps i 0) k, row_for) refl
+
+pub row_further : (power : ℕ) (ps : List ℕ) (i : ℕ)
+    → i < length ps
+    → get_or ps i 0 < power
+    → row_for power (drop i ps) ≡ suc (row_for power (drop (i + 1) ps))
+unfolding row_for
+row_further power ps i h k = rw (drop_more ps i h, lt-leb power (get_or ps i 0) k, row_for) refl
 
 pub row_past : (power : ℕ) (ps : List ℕ) (i : ℕ) → length ps ≤ i → row_for power (drop i ps) ≡ 0
 unfolding row_for
@@ -109,3 +124,11 @@ pub weight_wanted : (s ps ws : List ℕ) {d : ℕ} {row : ℕ}
     → get_or ws row 0 ≡ engine_weight s ps ws
 unfolding engine_weight
 weight_wanted s ps ws e f g = rw (e, g, f) refl
+
+pub weight_past : (s ps ws : List ℕ) {d : ℕ} {row : ℕ}
+    → wants_row s ≡ true
+    → d ≡ declared s
+    → row ≡ row_for d ps
+    → length ws ≤ row
+    → 0 ≡ engine_weight s ps ws
+weight_past s ps ws {row = row} e f g h = sym (get_or-eq_default ws 0 {n = row} h) ∙ weight_wanted s ps ws e f g

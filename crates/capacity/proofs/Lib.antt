@@ -12,7 +12,7 @@ pub mod Watts  -- as the plate tells it
 pub mod Former  -- the rule that 02 (ii) amends
 pub mod Ends  -- each number is between its limit's ends
 pub mod Within  -- what a sheet within the limits keeps to
-pub mod Scale  -- M or 0, as the code reads it; a weight that is right
+pub mod Scale  -- M or none, as the code reads it; a weight that is right
 pub mod Rounding  -- what the roundings give
 pub mod Pounds  -- plate U's figures, and the largest within them
 pub mod PoundsWorked  -- as the code works them

@@ -20,6 +20,9 @@ use Rattle.capacity.proofs.Within.{long_most, wide_most}
 
 -- ---- the power factor
 
+pub factor_is : (s : List ℕ) {l w : ℕ} → l ≡ hull_length s → w ≡ transom_width s → l * w ≡ factor_p s
+factor_is s a b = rw (a, b) refl
+
 -- that of the largest hull
 abbrev pub factor_most : ℕ
 factor_most = high_at length_at * high_at transom_width_at
@@ -73,6 +76,10 @@ no_outboard s a = rw a refl
 pub row_stops : (p e : ℕ) (ends : List ℕ) → p ≤ e → 0 ≡ row_for p (e ∷ ends)
 unfolding row_for
 row_stops p e ends h = rw (le-leb p e h, row_for) refl
+
+pub row_skips : {k : ℕ} (p e : ℕ) (ends : List ℕ) → e < p → k ≡ row_for p ends → suc k ≡ row_for p (e ∷ ends)
+unfolding row_for
+row_skips p e ends h q = rw (lt-leb p e h, row_for) (ap suc q)
 
 -- a row that reaches is not passed over
 row_within : (p : ℕ) (ends : List ℕ) (k : ℕ) → k < length ends → p ≤ get_or ends k 0 → row_for p ends ≤ k

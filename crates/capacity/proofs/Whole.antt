@@ -62,7 +62,7 @@ is_sub c d h e = alone (moved c d h e) (of_sub c d)
 
 -- ---- not below one
 
--- as the code tells it, by a number that is 0 where z is below one
+-- as a number tells it, 0 where z is below one; where the code has none, that is 0 (figuring/specs/Positive.antt)
 pub below_none : (z : ℤ) {n : ℕ} → n ≡ or_zero z → n ≡ 0 → is_below z 1 ≡ true
 below_none (pos m) e h = lt-ltb m 1 (omega arith)
 below_none (negsuc m) e h = refl

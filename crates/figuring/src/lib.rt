@@ -40,6 +40,9 @@ pub struct PlateA;
 impl Plate for PlateA {
     ghost kind = { λ _. kind_a };
 
+    // Laid out in each call, here and below: called, it is lent its boat by memory, and the calls take 16 to 32 bytes of
+    // stack more (DECISIONS).
+    #[inline(always)]
     fn mark(self, boat: Boat) -> Answer
         ensures { in_numbers result ≡ plate_a boat.entry.weight boat.entry.sheet.now }
     {
@@ -62,6 +65,7 @@ pub struct PlateC<'a> {
 impl Plate for PlateC<'_> {
     ghost kind = { λ rows. kind_c rows.powers.now rows.weights.now };
 
+    #[inline(always)]
     fn mark(self, boat: Boat) -> Answer
         ensures { in_numbers result
             ≡ plate_c boat.entry.weight boat.entry.sheet.now self.entry.powers.now self.entry.weights.now }
@@ -90,6 +94,7 @@ pub struct PlateU;
 impl Plate for PlateU {
     ghost kind = { λ _. kind_u };
 
+    #[inline(always)]
     fn mark(self, boat: Boat) -> Answer
         ensures { in_numbers result ≡ plate_u boat.entry.weight boat.entry.sheet.now }
     {

@@ -23,7 +23,7 @@ use sheet::{FITTED, SHEET_WORDS};
 pub type Memory = [u32; REGISTER_WORDS];
 
 // A memory of the right size, lent on as what it is: the one chunk that it has, so that its length is not asked again.
-fn whole(mem: &[u32]) -> &Memory
+pub fn whole(mem: &[u32]) -> &Memory
     requires { Sized mem.now }
     ensures { result.now ≡ mem.now }
 {
@@ -50,7 +50,7 @@ fn sheet_at(mem: &Memory, at: usize) -> &[u32]
 }
 
 // A slot that has a sheet and what its boat weighs: a hull's, or that of a desk's draft.
-pub trait Slot {
+pub trait Slot<'a> {
     ghost boat: { Self → ℕ };
 
     ghost words: { Self → List ℕ };
@@ -59,8 +59,8 @@ pub trait Slot {
     fn weight(&self) -> u32
         ensures { result ≡ boat self.now };
 
-    // The sheet, still the caller's own words.
-    fn sheet(&self) -> &[u32]
+    // The sheet, still the caller's own words: lent for as long as the memory is.
+    fn sheet(&self) -> &'a [u32]
         ensures value { result.now ≡ words self.now }
         ensures whole { length result.now ≡ sheet_words };
 }
@@ -100,7 +100,7 @@ impl<'a> Hull<'a> {
     }
 }
 
-impl Slot for Hull<'_> {
+impl<'a> Slot<'a> for Hull<'a> {
     ghost boat = { λ h. hull_weight h.mem.now h.number };
 
     ghost words = { λ h. hull_sheet h.mem.now h.number };
@@ -109,7 +109,7 @@ impl Slot for Hull<'_> {
         self.mem[HULL_WEIGHT + self.offset()]
     }
 
-    fn sheet(&self) -> &[u32] {
+    fn sheet(&self) -> &'a [u32] {
         sheet_at(self.mem, HULL_SHEET + self.offset())
     }
 }
@@ -171,7 +171,7 @@ impl<'a> Desk<'a> {
     }
 }
 
-impl Slot for Desk<'_> {
+impl<'a> Slot<'a> for Desk<'a> {
     ghost boat = { λ d. draft_weight d.mem.now d.number };
 
     ghost words = { λ d. draft_sheet d.mem.now d.number };
@@ -180,7 +180,7 @@ impl Slot for Desk<'_> {
         self.mem[DRAFT_WEIGHT + self.offset()]
     }
 
-    fn sheet(&self) -> &[u32] {
+    fn sheet(&self) -> &'a [u32] {
         sheet_at(self.mem, DRAFT_SHEET + self.offset())
     }
 }

@@ -53,7 +53,7 @@ pub ruleset line_laws = (fit_uncounted, fit_unweighed, fit_many, fit_tells)
 
 -- ---- all of them
 
-fits_more : (s : List ℕ) (line : ℕ) → length s ≡ 2 * fittings → line < fittings
+pub fits_more : (s : List ℕ) (line : ℕ) → length s ≡ 2 * fittings → line < fittings
     → fits_ok (fittings - line) (drop (2 * line) s)
     ≡ (fit_ok (get_or s (2 * line) 0) (get_or s (2 * line + 1) 0)
     && fits_ok (fittings - (line + 1)) (drop (2 * (line + 1)) s))

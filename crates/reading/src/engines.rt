@@ -71,10 +71,10 @@ pub fn read_columns(
     if text.len() > MOST_TEXT {
         return Err(TextFault::TOO_LONG);
     }
-    // Kept (4): as a closure for map_err it would need a contract, since wrong_at asks where the fault may be.
+    // Kept (4): as a closure for map_err it would need a contract, since text_fault asks where the fault may be.
     match read_rows(text, powers, weights) {
         Ok(rows) => Ok(rows),
-        Err(fault) => Err(spelling::wrong_at(fault, text)),
+        Err(fault) => Err(spelling::text_fault(fault, text)),
     }
 }
 

@@ -14,4 +14,4 @@ pub use cuts::{after_lines, first_line};
 pub use limits::{alike_hold, all_hold};
 pub use lines::{read_line, write_line};
 pub use numbers::{read_number, write_number};
-pub use places::{line_and_byte, told_after, wrong_at};
+pub use places::{line_and_byte, text_fault, told_after, wrong_at};

@@ -25,8 +25,17 @@ pub fn line_and_byte(text: &[u8], at: usize) -> (u32, u32)
     (line, byte)
 }
 
+// A refusal of a text, whatever it is, at a place of it: the refusal, with line and byte of the place.
+pub fn wrong_at<R>(refusal: R, text: &[u8], at: usize) -> (R, u32, u32)
+    requires { (at ≤ length text.now) × (at < 2 ^ 31) }
+    ensures { (result.0 ≡ refusal) × (result.1 ≡ line_at text.now at) × (result.2 ≡ byte_at text.now at) }
+{
+    let (line, byte) = line_and_byte(text, at);
+    (refusal, line, byte)
+}
+
 // A fault of a text, told by its line and byte.
-pub fn wrong_at(fault: Fault, text: &[u8]) -> TextFault
+pub fn text_fault(fault: Fault, text: &[u8]) -> TextFault
     requires { (fault.at ≤ length text.now) × (fault.at < 2 ^ 31) }
     ensures { result ≡ record {
       refusal = fault.refusal;
@@ -34,9 +43,9 @@ pub fn wrong_at(fault: Fault, text: &[u8]) -> TextFault
       byte = byte_at text.now fault.at;
     } }
 {
-    let (line, byte) = line_and_byte(text, fault.at);
+    let (refusal, line, byte) = wrong_at(fault.refusal, text, fault.at);
     TextFault {
-        refusal: fault.refusal,
+        refusal,
         line,
         byte,
     }

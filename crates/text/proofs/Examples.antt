@@ -15,6 +15,7 @@ use Rattle.text.specs.declared.Limit.{Limit}
 use Rattle.text.specs.declared.Rule.TheVariants.{Plain, OrNone, Capped, Product}
 use Rattle.text.specs.Limit.{ranging, ranging_capped, ranging_or_none, ranging_count, spare}
 use Rattle.text.specs.Line.{read_entry}
+use Rattle.text.proofs.Limits.{limit_at}
 
 -- ---- a number: 1 to 10 digits, no leading zero but 0 itself
 
@@ -83,12 +84,14 @@ entries_right :
 unfolding entries read_entry field_of number_of rest_of
 entries_right = refl
 
--- ---- a limit as the code's tables have it: low, high and rule
+-- ---- a limit as the code's tables have it: low, high and rule; what a table lacks is 0..0
 
 tables_right :
     record { low = 0; high = 1; rule = Plain } ∷ record { low = 1; high = 24; rule = OrNone }
-    ∷ record { low = 2000; high = 6000; rule = Capped } ∷ record { low = 1; high = 99; rule = Product 500000 } ∷ []
-    ≡ ranging 0 1 ∷ ranging_or_none 1 24 ∷ ranging_capped 2000 6000 ∷ ranging_count 1 99 500000 ∷ []
+    ∷ record { low = 2000; high = 6000; rule = Capped } ∷ record { low = 1; high = 99; rule = Product 500000 }
+    ∷ limit_at [] 0 ∷ []
+    ≡ ranging 0 1 ∷ ranging_or_none 1 24 ∷ ranging_capped 2000 6000 ∷ ranging_count 1 99 500000
+    ∷ ranging 0 0 ∷ []
 tables_right = refl
 
 -- ---- which numbers may be left out: those of a count, and what follows it; where there are none, nothing is

@@ -3,13 +3,13 @@ use mathlib.Core.Path.{◌≡◌, refl, sym, ap, ◌∙◌}
 use mathlib.Core.Logic.{◌≢◌}
 use mathlib.Core.Bool.{◌||◌}
 use mathlib.Core.List.{List, [], ◌∷◌, ◌++◌, append_assoc}
-use Prim.Native.Nat.{ℕ, zero, suc, ◌+◌, ◌≤◌}
+use Prim.Native.Nat.{ℕ, zero, suc, ◌+◌, ◌≤◌, ◌<◌}
 use native.Mathlib.Numerals.{add-one}
 use native.Mathlib.Omega.{arith}
 use borrow.Author.Tests.{ne_eqb}
 use lib.Dec.{eqb}
-use lib.ListN.{length, take, drop, length-append}
-use lib.Seq.{drop-drop, drop-append_seam, take-append_seam}
+use lib.ListN.{length, take, drop, get_or, length-append}
+use lib.Seq.{drop-drop, drop-append_seam, take-append_seam, take-suc, split_at}
 use Rattle.ground.proofs.Booleans.{by_test, by_equal}
 use Rattle.text.specs.Quoted.{tab, feed}
 use Rattle.text.specs.Field.{field_of, begins, agreed}
@@ -66,6 +66,21 @@ unfolding after_lines
 after_lined n x u o = rw (first_lined x u o, drop-append_seam x u)
 
 -- ---- all of a text without a line feed, or up to the first
+
+pub first_whole : (t : List ℕ) → feeds t ≡ 0 → first_line t ≡ t
+first_whole [] z = first_none
+first_whole (b ∷ t) z =
+    let f = free_head b t z in
+    rw (first_other b t f.0, first_whole t f.1)
+
+pub first_ends : (t : List ℕ) (i : ℕ) → i < length t → feeds (take i t) ≡ 0 → get_or t i 0 ≡ feed
+    → take (i + 1) t ≡ first_line t
+first_ends t i h z e =
+    let x : List ℕ = take i t in
+    let u : List ℕ = drop (suc i) t in
+    let s : t ≡ x ++ (feed ∷ u) = rw e at (split_at t i 0 h) in
+    let a : take (suc i) t ≡ x ++ (feed ∷ []) = rw e at (take-suc t i 0 h) in
+    rw (add-one i) (a ∙ sym (ap first_line s ∙ first_before x u z))
 
 -- ---- it is the text's beginning
 

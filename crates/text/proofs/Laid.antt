@@ -64,3 +64,9 @@ laid_digits n o₀ o₁ o mid h p e = rw (digits_more n h, e) (laid_more p (laid
 -- what is laid keeps the length
 pub laid_length : {bs o₀ o : List ℕ} {at r : ℕ} → Laid bs o₀ at r o → length o ≡ length o₀
 laid_length p = ap length p.laid ∙ simp length-sets
+
+-- the text of the numbers from a place on, written into the part from `at` on
+pub laid_rest : (text : List ℕ → List ℕ) (s o : List ℕ) (from at : ℕ) {r : ℕ} {ys : List ℕ}
+    → Laid (text (take (length s - from) (drop from s))) (take (length o - at) (drop at o)) 0 r ys
+    → Laid (text (drop from s)) o at (at + r) (put_back o at ys)
+laid_rest text s o from at {r} {ys} p = laid_part (text (drop from s)) o ys at r (rw (rest_part s from) at p)

@@ -7,7 +7,7 @@ returns-then-text-gt-MOST_TEXT c = heard_long c.args.text.now _ c.if-text-gt-MOS
 
 pub returns-in-Err : goal.returns-in-Err
 returns-in-Err c =
-    rw c.wrong_at.ensures (heard_wrong c.args.text.now c.if-text-gt-MOST_TEXT.false c.in-Err.ensures)
+    rw c.text_fault.ensures (heard_wrong c.args.text.now c.if-text-gt-MOST_TEXT.false c.in-Err.ensures)
 
 pub returns-in-Ok : goal.returns-in-Ok
 returns-in-Ok c = heard_whole c.args.text.now c.if-text-gt-MOST_TEXT.false c.in-Ok.ensures
