@@ -14,7 +14,7 @@ ghost use Rattle.answering.specs.Checked.{refused_by};
 use answers::{Answer, Figures, Refusal, Refused};
 use figuring::{Boat, Plate};
 pub use figuring::{PlateA, PlateC, PlateU};
-use keeping::{Desk, Hull, Slot};
+use keeping::{Desk, Hull, LentSlot};
 use memory::{COUNT, DESKS, MOST_EDITS, MOST_HULLS, REGISTER_WORDS};
 use sheet::{FITTING_LINES, IN_TEXT, TEXT_WORDS};
 

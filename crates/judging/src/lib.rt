@@ -7,12 +7,12 @@ ghost use Rattle.capacity.specs.Weights.{weighed_ok};
 ghost use Rattle.memory.specs.Layout.{most_hulls, desks, hull_count};
 ghost use Rattle.memory.specs.Formed.{each, hull_ok, draft_ok, formed};
 
-use keeping::{Desk, Hull, Memory, Slot};
+use keeping::{Desk, Hull, LentSlot, Memory};
 use memory::{DESKS, MOST_EDITS, MOST_HULLS, REGISTER_WORDS};
 
 // Whether a slot's sheet is within limits and its boat weighs what stands beside it. It is read once, and weighed as it
 // is judged.
-fn weighed_ok<'a, S: Slot<'a>>(slot: &S) -> bool
+fn weighed_ok<'a, S: LentSlot<'a>>(slot: &S) -> bool
     ensures { result ≡ weighed_ok (S.boat slot.now) (S.words slot.now) }
 {
     measuring::weigh(slot.sheet()) == Some(slot.weight())

@@ -49,8 +49,25 @@ fn sheet_at(mem: &Memory, at: usize) -> &[u32]
     &mem[at..at + SHEET_WORDS]
 }
 
-// A slot that has a sheet and what its boat weighs: a hull's, or that of a desk's draft.
-pub trait Slot<'a> {
+// A slot that has a sheet and what its boat weighs: a hull's, or that of a desk's draft. The sheet is lent for as long
+// as the slot, so that a slot may own its words.
+pub trait Slot {
+    ghost boat: { Self → ℕ };
+
+    ghost words: { Self → List ℕ };
+
+    // What the boat weighs.
+    fn weight(&self) -> u32
+        ensures { result ≡ boat self.now };
+
+    // The sheet, still the slot's own words.
+    fn sheet(&self) -> &[u32]
+        ensures value { result.now ≡ words self.now }
+        ensures whole { length result.now ≡ sheet_words };
+}
+
+// The same of a slot that is a view of lent memory, which lends its sheet for as long as the memory is lent.
+pub trait LentSlot<'a> {
     ghost boat: { Self → ℕ };
 
     ghost words: { Self → List ℕ };
@@ -100,7 +117,7 @@ impl<'a> Hull<'a> {
     }
 }
 
-impl<'a> Slot<'a> for Hull<'a> {
+impl<'a> LentSlot<'a> for Hull<'a> {
     ghost boat = { λ h. hull_weight h.mem.now h.number };
 
     ghost words = { λ h. hull_sheet h.mem.now h.number };
@@ -111,6 +128,20 @@ impl<'a> Slot<'a> for Hull<'a> {
 
     fn sheet(&self) -> &'a [u32] {
         sheet_at(self.mem, HULL_SHEET + self.offset())
+    }
+}
+
+impl Slot for Hull<'_> {
+    ghost boat = { λ h. hull_weight h.mem.now h.number };
+
+    ghost words = { λ h. hull_sheet h.mem.now h.number };
+
+    fn weight(&self) -> u32 {
+        <Hull as LentSlot>::weight(self)
+    }
+
+    fn sheet(&self) -> &[u32] {
+        <Hull as LentSlot>::sheet(self)
     }
 }
 
@@ -171,7 +202,7 @@ impl<'a> Desk<'a> {
     }
 }
 
-impl<'a> Slot<'a> for Desk<'a> {
+impl<'a> LentSlot<'a> for Desk<'a> {
     ghost boat = { λ d. draft_weight d.mem.now d.number };
 
     ghost words = { λ d. draft_sheet d.mem.now d.number };
@@ -182,6 +213,20 @@ impl<'a> Slot<'a> for Desk<'a> {
 
     fn sheet(&self) -> &'a [u32] {
         sheet_at(self.mem, DRAFT_SHEET + self.offset())
+    }
+}
+
+impl Slot for Desk<'_> {
+    ghost boat = { λ d. draft_weight d.mem.now d.number };
+
+    ghost words = { λ d. draft_sheet d.mem.now d.number };
+
+    fn weight(&self) -> u32 {
+        <Desk as LentSlot>::weight(self)
+    }
+
+    fn sheet(&self) -> &[u32] {
+        <Desk as LentSlot>::sheet(self)
     }
 }
 
@@ -296,3 +341,6 @@ pub fn save_draft(mem: &mut [u32], desk: usize) -> u32
     mem[HELD + from] = 0;
     edits
 }
+
+#[cfg(test)]
+mod tests;
