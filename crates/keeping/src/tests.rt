@@ -35,8 +35,8 @@ fn handed_on<'a, S: LentSlot<'a> + Copy>(view: S) -> (u32, &'a [u32]) {
 #[test]
 fn every_slot_is_read_where_it_stands(rt: HostRuntime) {
     let mut mem = [0; REGISTER_WORDS];
-    for (place, word) in mem.iter_mut().enumerate() {
-        *word = place as u32;
+    for (word, place) in mem.iter_mut().zip(0..) {
+        *word = place;
     }
     let hull = Hull::of(&mem, 3);
     let desk = Desk::of(&mem, 7);
