@@ -14,7 +14,8 @@ ghost use Rattle.answering.specs.Checked.{refused_by};
 use answers::{Answer, Figures, Refusal, Refused};
 use figuring::{Boat, Plate};
 pub use figuring::{PlateA, PlateC, PlateU};
-use keeping::{Desk, Hull, LentSlot};
+use keeping::lent::LentSlot;
+use keeping::{Desk, Hull};
 use memory::{COUNT, DESKS, MOST_EDITS, MOST_HULLS, REGISTER_WORDS};
 use sheet::{FITTING_LINES, IN_TEXT, TEXT_WORDS};
 

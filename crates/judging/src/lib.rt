@@ -7,7 +7,8 @@ ghost use Rattle.capacity.specs.Weights.{weighed_ok};
 ghost use Rattle.memory.specs.Layout.{most_hulls, desks, hull_count};
 ghost use Rattle.memory.specs.Formed.{each, hull_ok, draft_ok, formed};
 
-use keeping::{Desk, Hull, LentSlot, Memory};
+use keeping::lent::LentSlot;
+use keeping::{Desk, Hull, Memory};
 use memory::{DESKS, MOST_EDITS, MOST_HULLS, REGISTER_WORDS};
 
 // Whether a slot's sheet is within limits and its boat weighs what stands beside it. It is read once, and weighed as it

@@ -13,6 +13,9 @@ ghost use Rattle.memory.specs.Layout.{held, draft_hull, opening, draft_weight, d
 ghost use Rattle.memory.specs.Asked.{AtHull, AtDesk, ToEnter, ToOpen, ToSet, ToReplace, ToSave, ToLay, ToCopy};
 ghost use Rattle.memory.specs.Updates.{entered, opened, fitted, replaced, dropped, saved};
 
+pub mod lent;
+
+use lent::LentSlot;
 use memory::{
     COUNT, DRAFT_HULL, DRAFT_SHEET, DRAFT_WEIGHT, DRAFT_WORDS, EDIT, HELD, HULL_SHEET, HULL_WEIGHT,
     HULL_WORDS, OPENING, REGISTER_WORDS, WEIGHED_WORDS,
@@ -49,8 +52,7 @@ fn sheet_at(mem: &Memory, at: usize) -> &[u32]
     &mem[at..at + SHEET_WORDS]
 }
 
-// A slot that has a sheet and what its boat weighs: a hull's, or that of a desk's draft. The sheet is lent for as long
-// as the slot, so that a slot may own its words.
+// A slot that has a sheet and what its boat weighs: a hull's, or that of a desk's draft.
 pub trait Slot {
     ghost boat: { Self → ℕ };
 
@@ -60,24 +62,8 @@ pub trait Slot {
     fn weight(&self) -> u32
         ensures { result ≡ boat self.now };
 
-    // The sheet, still the slot's own words.
+    // The sheet, still the caller's own words.
     fn sheet(&self) -> &[u32]
-        ensures value { result.now ≡ words self.now }
-        ensures whole { length result.now ≡ sheet_words };
-}
-
-// The same of a slot that is a view of lent memory, which lends its sheet for as long as the memory is lent.
-pub trait LentSlot<'a> {
-    ghost boat: { Self → ℕ };
-
-    ghost words: { Self → List ℕ };
-
-    // What the boat weighs.
-    fn weight(&self) -> u32
-        ensures { result ≡ boat self.now };
-
-    // The sheet, still the caller's own words: lent for as long as the memory is.
-    fn sheet(&self) -> &'a [u32]
         ensures value { result.now ≡ words self.now }
         ensures whole { length result.now ≡ sheet_words };
 }
